@@ -1,0 +1,1 @@
+// No code: what several crates need of lists, numbers and sets of servers.

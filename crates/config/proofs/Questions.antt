@@ -6,17 +6,10 @@ use Prim.Native.Nat.{ℕ, zero, suc, _+_, _≤_, _<_}
 use native.Mathlib.Omega.{arith}
 use borrow.Author.Tests.{leb-true, le-leb}
 use lib.Dec.{leb}
+use Rattle.laws.proofs.Bools.{and-left, and-right}
 use Rattle.config.specs.declared.Config.{Config}
 use Rattle.config.specs.Config.{questions, rigQuestions, Valid}
 use Rattle.config.specs.Questions.{Question, ask, within, firstNo, numbered}
-
-pub and-left : (a b : Bool) → (a && b) ≡ true → a ≡ true
-and-left true b h = refl
-and-left false b h = h
-
-pub and-right : (a b : Bool) → (a && b) ≡ true → b ≡ true
-and-right true b h = h
-and-right false b h = cc
 
 pub within-low : (low high x : ℕ) → within low high x ≡ true → low ≤ x
 within-low low high x h = leb-true low x (and-left (leb low x) (leb x high) h)
@@ -71,17 +64,17 @@ rigQuestions-numbered cfg m = refl
 
 -- the last question, after others that are all answered yes
 pub last-yes : (first : List Question) (number : ℕ) (holds : Bool) → numbered first ≡ true → firstNo first ≡ 0 → holds ≡ true
-  → firstNo (first ++ ask number holds ∷ []) ≡ 0
+    → firstNo (first ++ ask number holds ∷ []) ≡ 0
 unfolding firstNo
 last-yes first number holds known none h = firstNo-pass first (ask number holds ∷ []) known none ∙ firstNo-yes number holds [] h
 
 pub last-no : (first : List Question) (number : ℕ) (holds : Bool) → numbered first ≡ true → firstNo first ≡ 0 → holds ≡ false
-  → firstNo (first ++ ask number holds ∷ []) ≡ number
+    → firstNo (first ++ ask number holds ∷ []) ≡ number
 last-no first number holds known none h = firstNo-pass first (ask number holds ∷ []) known none ∙ firstNo-no number holds [] h
 
 -- all yes, and the last too
 pub last-all : (first : List Question) (number : ℕ) (holds : Bool) → numbered first ≡ true → 1 ≤ number
-  → firstNo (first ++ ask number holds ∷ []) ≡ 0 → (firstNo first ≡ 0) × (holds ≡ true)
+    → firstNo (first ++ ask number holds ∷ []) ≡ 0 → (firstNo first ≡ 0) × (holds ≡ true)
 unfolding firstNo numbered
 last-all [] number true known low h = (refl, refl)
 last-all [] number false known low h = absurd (omega arith)

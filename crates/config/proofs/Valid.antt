@@ -67,15 +67,20 @@ valid cfg h =
       e-low = within-low 1 64 (cfg .e) (y .3);
       e-high = within-high 1 64 (cfg .e) (y .3);
       c-low = within-low 1 16 (cfg .c) (y .4);
-      c-high = within-high 1 16 (cfg .c) (y .4)
+      c-high = within-high 1 16 (cfg .c) (y .4);
     }
 
 -- a valid configuration is asked nothing in vain: every question of it is answered yes
 pub valid-asked : (cfg : Config) → Valid cfg → firstNo (questions cfg) ≡ 0
 unfolding firstNo questions
 valid-asked cfg v =
-    rw (within-true 1 16 (cfg .n) (v .n-low) (v .n-high), within-true 1 (cfg .n) (cfg .k) (v .k-low) (v .k-high), le-leb (cfg .d) 7 (v .d-high),
-    within-true 1 64 (cfg .e) (v .e-low) (v .e-high), within-true 1 16 (cfg .c) (v .c-low) (v .c-high))
+    rw (
+      within-true 1 16 (cfg .n) (v .n-low) (v .n-high),
+      within-true 1 (cfg .n) (cfg .k) (v .k-low) (v .k-high),
+      le-leb (cfg .d) 7 (v .d-high),
+      within-true 1 64 (cfg .e) (v .e-low) (v .e-high),
+      within-true 1 16 (cfg .c) (v .c-low) (v .c-high),
+    )
 
 -- the quorum of a valid configuration is at least 1 and at most N
 pub quorum-low : (cfg : Config) → Valid cfg → 1 ≤ quorumOf cfg
@@ -86,5 +91,5 @@ quorum-high cfg v = omega arith
 
 -- "two quorums share at least k servers"
 pub quorums-share : (cfg : Config) (f g : ℕ → Bool) → quorumOf cfg ≤ size (cfg .n) f → quorumOf cfg ≤ size (cfg .n) g
-  → cfg .k ≤ size (cfg .n) (shared f g)
+    → cfg .k ≤ size (cfg .n) (shared f g)
 quorums-share cfg f g hf hg = omega (arith, size-both (cfg .n) f g)

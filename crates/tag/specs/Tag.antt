@@ -8,6 +8,10 @@ use Rattle.tag.specs.declared.Tag.{Tag}
 abbrev pub above : Tag → Tag → Bool
 above a b = cond (eqb (a .number) (b .number)) (ltb (b .client) (a .client)) (ltb (b .number) (a .number))
 
+-- the two are one tag
+abbrev pub same : Tag → Tag → Bool
+same a b = eqb (a .number) (b .number) && eqb (a .client) (b .client)
+
 -- "The starting tag is (0, 0)"
 abbrev pub start : Tag
 start = record { number = 0; client = 0 }

@@ -1,7 +1,7 @@
 // Tags: which are allowed, and their order. Every function is proved, nothing is assumed, and no public function has a
 // `requires`.
 ghost use mathlib.Core.Path.{_≡_};
-ghost use Rattle.tag.specs.Tag.{above, allowed};
+ghost use Rattle.tag.specs.Tag.{above, allowed, same};
 
 // A tag: a number, and a client number.
 pub struct Tag {
@@ -18,6 +18,16 @@ impl Tag {
             return other.client < self.client;
         }
         other.number < self.number
+    }
+
+    // Whether the two are one tag.
+    pub fn same(self, other: Tag) -> bool
+        ensures { λ r. ⌜ r ≡ same self other ⌝ }
+    {
+        if self.number == other.number {
+            return self.client == other.client;
+        }
+        false
     }
 
     // Whether the tag may stand in a store of `clients` clients.

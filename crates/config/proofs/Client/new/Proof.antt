@@ -21,8 +21,8 @@ unfolding clientQuestions
 returns c =
     let a = c .before .before .before .args in
     let p =
-        refused-first (questions (a .cfg)) (questions-numbered (a .cfg)) (within 1 (a .cfg .c) (a .c)) (a .c) _ _
-        (c .before .before .ask .ensures) (c .before .if1 .taken) (c .of .ensures) in
+    refused-first (questions (a .cfg)) (questions-numbered (a .cfg)) (within 1 (a .cfg .c) (a .c)) (a .c) _ _
+    (c .before .before .ask .ensures) (c .before .if1 .taken) (c .of .ensures) in
     record { number = p .0; made = p .1 }
 
 within-requires : tie.Need-within-requires
@@ -33,9 +33,9 @@ unfolding clientQuestions
 returns-2 c =
     let a = c .before .before .before .before .args in
     let p =
-        refused-last (questions (a .cfg)) (questions-numbered (a .cfg)) (within 1 (a .cfg .c) (a .c)) (a .c)
-        (sym (c .before .before .before .ask .ensures) ∙ c .before .before .if1 .left)
-        (sym (c .before .within .ensures) ∙ not-true _ (c .if2 .taken)) in
+    refused-last (questions (a .cfg)) (questions-numbered (a .cfg)) (within 1 (a .cfg .c) (a .c)) (a .c)
+    (sym (c .before .before .before .ask .ensures) ∙ c .before .before .if1 .left)
+    (sym (c .before .within .ensures) ∙ not-true _ (c .if2 .taken)) in
     record { number = p .0; made = p .1 }
 
 returns-3 : tie.Need-returns-3
@@ -43,9 +43,9 @@ unfolding clientQuestions
 returns-3 c =
     let a = c .before .before .before .before .args in
     let p =
-        made-one (questions (a .cfg)) (questions-numbered (a .cfg)) (within 1 (a .cfg .c) (a .c)) (a .c)
-        (sym (c .before .before .before .ask .ensures) ∙ c .before .before .if1 .left)
-        (sym (c .before .within .ensures) ∙ not-false _ (c .if2 .left)) in
+    made-one (questions (a .cfg)) (questions-numbered (a .cfg)) (within 1 (a .cfg .c) (a .c)) (a .c)
+    (sym (c .before .before .before .ask .ensures) ∙ c .before .before .if1 .left)
+    (sym (c .before .within .ensures) ∙ not-false _ (c .if2 .left)) in
     record { number = p .0; made = p .1 }
 
 pub new-spec : {M : Type 1} → statement M

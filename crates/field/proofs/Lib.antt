@@ -1,0 +1,4 @@
+pub mod Byte
+pub mod Laws
+pub mod Linear
+pub mod Tables

@@ -1,0 +1,1 @@
+// The field of 256 elements.

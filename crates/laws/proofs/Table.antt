@@ -1,0 +1,51 @@
+-- The rule of a table, at each of its entries, by one test over the table that antt computes. Assumes nothing.
+use mathlib.Core.Path.{_≡_, refl, sym, ap, _∙_, subst}
+use mathlib.Core.Bool.{Bool, true, false, _&&_}
+use mathlib.Core.List.{List, [], _∷_}
+use Prim.Native.Nat.{ℕ, zero, suc, _+_, _<_}
+use native.Mathlib.Nat.{zero-add, suc-add, add-suc, add-zero, le-of-suc-le-suc, not-suc-le-zero, zero-lt-suc}
+use lib.Dec.{T, eqb, eqb→eq}
+use lib.ListN.{length, getD}
+
+pub and-left : (a b : Bool) → T (a && b) → T a
+and-left true b t = tt
+and-left false b t = t
+
+pub and-right : (a b : Bool) → T (a && b) → T b
+and-right true b t = t
+and-right false b t = absurd t
+
+-- ---- a table of which each entry comes from the one before
+
+-- the table is x, step x, step (step x) and so on
+abbrev pub follows : (ℕ → ℕ) → ℕ → List ℕ → Bool
+follows step x [] = true
+follows step x (y ∷ ys) = eqb y x && follows step (step x) ys
+
+pub first : (step : ℕ → ℕ) (x : ℕ) (ys : List ℕ) → T (follows step x ys) → 0 < length ys → getD ys 0 0 ≡ x
+first step x [] t h = absurd (not-suc-le-zero h)
+first step x (y ∷ ys) t h = eqb→eq y x (and-left (eqb y x) (follows step (step x) ys) t)
+
+pub next : (step : ℕ → ℕ) (x : ℕ) (ys : List ℕ) → T (follows step x ys) → (i : ℕ) → suc i < length ys
+    → getD ys (suc i) 0 ≡ step (getD ys i 0)
+next step x [] t i h = absurd (not-suc-le-zero h)
+next step x (y ∷ ys) t zero h =
+    first step (step x) ys (and-right (eqb y x) (follows step (step x) ys) t) (le-of-suc-le-suc h)
+    ∙ ap step (sym (eqb→eq y x (and-left (eqb y x) (follows step (step x) ys) t)))
+next step x (y ∷ ys) t (suc i) h = next step (step x) ys (and-right (eqb y x) (follows step (step x) ys) t) i (le-of-suc-le-suc h)
+
+-- ---- a table whose entries each pass a test of their place
+
+-- f passes at each entry and its place, counted from i
+abbrev pub passes : (ℕ → ℕ → Bool) → ℕ → List ℕ → Bool
+passes f i [] = true
+passes f i (x ∷ xs) = f i x && passes f (suc i) xs
+
+passes-from : (f : ℕ → ℕ → Bool) (i : ℕ) (xs : List ℕ) → T (passes f i xs) → (k : ℕ) → k < length xs → T (f (i + k) (getD xs k 0))
+passes-from f i [] t k h = absurd (not-suc-le-zero h)
+passes-from f i (x ∷ xs) t zero h = rw add-zero (and-left (f i x) (passes f (suc i) xs) t)
+passes-from f i (x ∷ xs) t (suc k) h =
+    rw (add-suc, ← suc-add i k) (passes-from f (suc i) xs (and-right (f i x) (passes f (suc i) xs) t) k (le-of-suc-le-suc h))
+
+pub at : (f : ℕ → ℕ → Bool) (xs : List ℕ) → T (passes f 0 xs) → (k : ℕ) → k < length xs → T (f k (getD xs k 0))
+at f xs t k h = rw zero-add at (passes-from f 0 xs t k h)

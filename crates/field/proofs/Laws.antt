@@ -134,12 +134,12 @@ below-only (suc n) a r h e u = go (below-only n a r) (eqb (times a n) 1) refl
 
 pub inverse-zero : inverseOf 0 ≡ 0
 unfolding inverseOf
-inverse-zero = below-none 256
+inverse-zero = below-none _
 
 -- the byte that a times is 1 is the inverse
 pub inverse-only : (a b : ℕ) → a < 256 → b < 256 → times a b ≡ 1 → inverseOf a ≡ b
 unfolding inverseOf
-inverse-only a b h k e = below-only 256 a b k e (λ c l f. one-inverse a b c h k l e f)
+inverse-only a b h k e = below-only _ a b k e (λ c l f. one-inverse a b c h k l e f)
 
 inverse-other : (a : ℕ) → a < 256 → (a ≡ 0 → ⊥) → (inverseOf a < 256) × (times a (inverseOf a) ≡ 1)
 inverse-other a h n =

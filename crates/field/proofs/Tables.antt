@@ -9,7 +9,8 @@ use lib.Dec.{T, eqb, ltb, eqb→eq, ltb→lt}
 use lib.ListN.{length, getD}
 use borrow.Author.Tests.{ne-eqb}
 use Rattle.laws.proofs.Table.{follows, first, next, passes, at, and-left, and-right}
-use Rattle.field.specs.Field.{double, doubled, power, Logarithm}
+use Rattle.field.specs.Field.{double, doubled, power}
+use Rattle.field.specs.Table.{Logarithm}
 use Rattle.field.proofs.Generator.{doublings, doublings-at}
 use Rattle.field.proofs.Laws.{power-two}
 

@@ -1,7 +1,6 @@
 -- The field of 256 elements: document 01, "Field and code", up to the product. A field element is a byte. Its bit i is the
 -- coefficient of x^i of the polynomial that it stands for, so that 2 is x. Assumes nothing.
-use mathlib.Core.Path.{_≡_}
-use Prim.Native.Nat.{ℕ, zero, suc, _*_, _/_, _%_, _^_, _<_}
+use Prim.Native.Nat.{ℕ, zero, suc, _*_, _/_, _%_, _^_}
 use mathlib.Core.Bool.{cond}
 use lib.Bits.{bitXor}
 use lib.Dec.{eqb}
@@ -14,9 +13,13 @@ bit i a = a / 2 ^ i % 2
 abbrev pub plus : ℕ → ℕ → ℕ
 plus a b = bitXor a b
 
--- a times x, modulo hexadecimal 11D: where a has x^7, a times x has x^8, and 11D is added
+-- hexadecimal 11D: x^8 + x^4 + x^3 + x^2 + 1
+abbrev pub modulus : ℕ
+modulus = 0x11D
+
+-- a times x, modulo 11D: where a has x^7, a times x has x^8, and 11D is added
 unfoldable pub double : ℕ → ℕ
-double a = plus (a % 256 * 2) (bit 7 a * 0x11D)
+double a = plus (a % 256 * 2) (bit 7 a * modulus)
 
 -- a times x^i
 unfoldable pub doubled : ℕ → ℕ → ℕ
@@ -36,11 +39,6 @@ times a b = sum 8 a b
 unfoldable pub power : ℕ → ℕ → ℕ
 power a zero = 1
 power a (suc i) = times a (power a i)
-
--- i is the exponent, below 255, of a as a power of 2; 0 is no power of 2
-pub record Logarithm (a i : ℕ) : Type 0 where
-  pub small : i < 255
-  pub exponent : (a ≡ 0 → ⊥) → power 2 i ≡ a
 
 -- the last number below n that a times is 1; 0 if there is none
 unfoldable pub inverseBelow : ℕ → ℕ → ℕ

@@ -1,11 +1,12 @@
 // The two tables of the product, and what they hold.
 ghost use mathlib.Core.Path.{_≡_};
 ghost use Prim.Native.Nat.{_<_};
-ghost use Rattle.field.specs.Field.{Logarithm, power};
+ghost use Rattle.field.specs.Field.{power};
+ghost use Rattle.field.specs.Table.{Logarithm};
 
 // The powers of 2, for exponents 0 to 509: each entry is twice the one before in the field.
 const POWERS: [u8; 510] = [
-    1,
+    1, // exponent 0
     2,
     4,
     8,
@@ -260,7 +261,7 @@ const POWERS: [u8; 510] = [
     173,
     71,
     142,
-    1,
+    1, // exponent 255
     2,
     4,
     8,
@@ -514,12 +515,12 @@ const POWERS: [u8; 510] = [
     216,
     173,
     71,
-    142,
+    142, // exponent 509
 ];
 
 // For each byte other than 0, the exponent below 255 at which it is a power of 2.
 const LOGS: [u8; 256] = [
-    0,
+    0, // byte 0, never asked for
     0,
     1,
     25,
@@ -774,7 +775,7 @@ const LOGS: [u8; 256] = [
     168,
     80,
     88,
-    175,
+    175, // byte 255
 ];
 
 // 2 to the power i.

@@ -8,11 +8,17 @@ use borrow.Author.Needs.{needs}
 use Rattle.field.proofs.product.Statement.{statement}
 use Rattle.field.proofs.product.Tie as tie
 
+zero-left : (a b : ℕ) → a ≡ 0 → 0 ≡ times a b
+zero-left a b e = sym (ap (λ (x : ℕ). times x b) e ∙ times-zero-left b)
+
+zero-right : (a b : ℕ) → b ≡ 0 → 0 ≡ times a b
+zero-right a b e = sym (ap (times a) e ∙ times-zero-right a)
+
 returns : tie.Need-returns
-returns c = sym (ap (λ (x : ℕ). times x (c .before .args .b)) (c .if1 .taken) ∙ times-zero-left (c .before .args .b))
+returns c = search (zero-left, zero-right)
 
 returns-2 : tie.Need-returns-2
-returns-2 c = sym (ap (times (c .before .before .args .a)) (c .if2 .taken) ∙ times-zero-right (c .before .before .args .a))
+returns-2 c = search (zero-left, zero-right)
 
 logarithm-requires : tie.Need-logarithm-requires
 logarithm-requires c κs = search needs

@@ -1,18 +1,16 @@
 -- Exclusive or and the product are a field on the bytes, and 2 generates it. Laws of linearity hold of all numbers; a law
 -- that asks that a number is a byte says so. Each byte other than 0 is 1 doubled some number of times, so the laws of the
 -- product are those of adding these numbers. Assumes nothing.
-use mathlib.Core.Path.{_≡_, refl, sym, ap, ap₂, _∙_, subst}
+use mathlib.Core.Path.{_≡_, refl, sym, ap, _∙_, subst}
 use mathlib.Core.Bool.{Bool, true, false, cond}
-use mathlib.Core.Logic.{_⊎_, inl, inr}
-use Prim.Native.Nat.{ℕ, zero, suc, _+_, _-_, _<_, _≤_, suc-le-suc}
+use Prim.Native.Nat.{ℕ, zero, suc, _+_, _-_, _<_}
 use native.Mathlib.Nat.{le-refl, le-of-suc-le-suc, not-suc-le-zero, zero-add, suc-add}
 use native.Mathlib.Decide.{ℕ-discrete}
 use native.Mathlib.Omega.{arith}
 use lib.Arith.{lt-of-le-ne}
 use lib.Bits.{xor-zero-r, xor-self, xor-comm, xor-lt}
 use lib.Dec.{eqb, lit<}
-use lib.ListN.{getD}
-use borrow.Author.Tests.{eqb-true, eqb-false, ne-eqb}
+use borrow.Author.Tests.{eqb-true, eqb-false}
 use Rattle.laws.proofs.Xor.{xor-assoc}
 use Rattle.field.specs.Field.{plus, double, doubled, sum, times, power, inverseBelow, inverseOf}
 use Rattle.field.proofs.Generator.{generated, period}
@@ -136,7 +134,7 @@ pub inverse-zero : inverseOf 0 ≡ 0
 unfolding inverseOf
 inverse-zero = below-none _
 
--- the byte that a times is 1 is the inverse
+-- a byte whose product with a is 1 is the inverse
 pub inverse-only : (a b : ℕ) → a < 256 → b < 256 → times a b ≡ 1 → inverseOf a ≡ b
 unfolding inverseOf
 inverse-only a b h k e = below-only _ a b k e (λ c l f. one-inverse a b c h k l e f)

@@ -1,12 +1,12 @@
 -- Doubling is linear over exclusive or, and so is the product in either argument; this holds of all numbers. The product
 -- with a number doubled is the product doubled; 1 times a byte is that byte. Assumes nothing.
-use mathlib.Core.Path.{_≡_, refl, sym, ap, ap₂, _∙_, subst}
-use Prim.Native.Nat.{ℕ, zero, suc, _+_, _*_, _/_, _%_, _^_, _<_, _≤_}
-use native.Mathlib.Nat.{zero-lt-suc, mod-lt, zero-mul, one-mul, mul-zero, add-zero, add-comm, add-suc, zero-add, suc-add, mod-eq-of-lt, mod-one}
+use mathlib.Core.Path.{_≡_, refl, sym, ap, ap₂, _∙_}
+use Prim.Native.Nat.{ℕ, zero, suc, _+_, _*_, _/_, _%_, _^_, _<_}
+use native.Mathlib.Nat.{zero-lt-suc, mod-lt, zero-mul, one-mul, mul-zero, add-comm, zero-add, suc-add, mod-eq-of-lt, mod-one}
 use native.Mathlib.Numerals.{one-add}
 use native.Mathlib.Omega.{arith}
 use lib.Pow.{mod-pow-add, pow-pos}
-use lib.Bits.{xor-zero-l, xor-zero-r, xor-self, xor-comm, xor-mod, xor-lt, xor-block, xor-shifted}
+use lib.Bits.{xor-self, xor-comm, xor-mod, xor-lt, xor-block, xor-shifted}
 use Rattle.laws.proofs.Xor.{by-digit, xor-swap, xor-shl, xor-bit, digit-mul-xor, xor-digit-mul}
 use Rattle.field.specs.Field.{bit, plus, modulus, double, doubled, sum, times}
 

@@ -40,11 +40,11 @@ unfoldable pub power : ℕ → ℕ → ℕ
 power a zero = 1
 power a (suc i) = times a (power a i)
 
--- the last number below n that a times is 1; 0 if there is none
+-- the last number below n whose product with a is 1; 0 if there is none
 unfoldable pub inverseBelow : ℕ → ℕ → ℕ
 inverseBelow zero a = 0
 inverseBelow (suc n) a = cond (eqb (times a n) 1) n (inverseBelow n a)
 
--- the inverse of a: the byte that a times is 1; of 0, which has none, it is 0
+-- the inverse of a: the byte whose product with a is 1; 0, which has none, gives 0
 unfoldable pub inverseOf : ℕ → ℕ
 inverseOf a = inverseBelow 256 a

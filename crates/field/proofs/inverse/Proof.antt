@@ -1,6 +1,6 @@
 -- `field::inverse` meets its contract: a power of 2 times the one that makes its exponent 255 is 1. Assumes nothing.
 use mathlib.Core.Path.{_≡_, sym, ap, _∙_}
-use Prim.Native.Nat.{ℕ, _+_, _-_}
+use Prim.Native.Nat.{ℕ, _-_}
 use native.Mathlib.Omega.{arith}
 use lib.Dec.{lit<}
 use Rattle.field.specs.Field.{times, power, inverseOf}

@@ -1,6 +1,6 @@
 -- `field::product` meets its contract: 0 times a byte is 0, and of two powers of 2 the exponents add. Assumes nothing.
 use mathlib.Core.Path.{_≡_, sym, ap, ap₂, _∙_}
-use Prim.Native.Nat.{ℕ, _+_}
+use Prim.Native.Nat.{ℕ}
 use lib.Dec.{lit<}
 use Rattle.field.specs.Field.{times}
 use Rattle.field.proofs.Laws.{times-zero-left, times-zero-right, power-add}

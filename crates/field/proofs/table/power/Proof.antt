@@ -11,7 +11,7 @@ array-read-result c = search needs
 
 returns : tie.Need-returns
 unfolding double
-returns c = let p : Unit {0} = tt in let h = c .pre in rw power-at
+returns c = let test : Unit {0} = tt in let h = c .pre in rw power-at
 
 pub power-spec : {M : Type 1} → statement M
 power-spec = tie.close (tie.spec array-read-result returns)

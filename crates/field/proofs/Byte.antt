@@ -2,12 +2,12 @@
 -- nothing. A byte's number is `.0`, and the operations' numbers are those of specs/Field. Assumes nothing.
 use mathlib.Core.Path.{_≡_, refl, ap}
 use mathlib.Core.HLevel.{Σ-prop-path}
-use Prim.Native.Nat.{ℕ, _<_}
+use Prim.Native.Nat.{ℕ, suc, _<_}
 use native.Mathlib.Bridge.{le-prop}
 use native.Mathlib.Omega.{arith}
 use lib.Dec.{lit<}
 use Rattle.laws.specs.Algebra.{FieldLaws}
-use Rattle.field.specs.Field.{plus, times, inverseOf}
+use Rattle.field.specs.Field.{plus, times, power, inverseOf}
 use Rattle.field.proofs.Laws as law
 
 abbrev pub Byte : Type 0
@@ -32,6 +32,10 @@ mul a b = (times (a .0) (b .0), law.times-lt (a .0) (b .0) (a .1) (b .1))
 unfoldable pub inv : Byte → Byte
 inv a = (inverseOf (a .0), law.inverse-lt (a .0) (a .1))
 
+unfoldable pub pow : Byte → ℕ → Byte
+pow a ℕ.zero = one
+pow a (suc i) = mul a (pow a i)
+
 -- ---- the numbers
 
 pub zero-number : zero .0 ≡ 0
@@ -53,6 +57,11 @@ mul-number a b = refl
 pub inv-number : (a : Byte) → inv a .0 ≡ inverseOf (a .0)
 unfolding inv
 inv-number a = refl
+
+pub pow-number : (a : Byte) (i : ℕ) → pow a i .0 ≡ power (a .0) i
+unfolding pow power mul one
+pow-number a ℕ.zero = refl
+pow-number a (suc i) = ap (times (a .0)) (pow-number a i)
 
 -- ---- the laws
 

@@ -1,14 +1,14 @@
 -- Doubling is linear over exclusive or, and so is the product in either argument; this holds of all numbers. The product
 -- with a number doubled is the product doubled; 1 times a byte is that byte. Assumes nothing.
-use mathlib.Core.Path.{_≡_, refl, sym, ap, ap₂, _∙_, subst}
-use Prim.Native.Nat.{ℕ, zero, suc, _+_, _*_, _/_, _%_, _^_, _<_, _≤_}
-use native.Mathlib.Nat.{zero-lt-suc, mod-lt, zero-mul, one-mul, mul-zero, add-zero, add-comm, add-suc, zero-add, suc-add, mod-eq-of-lt, mod-one}
+use mathlib.Core.Path.{_≡_, refl, sym, ap, ap₂, _∙_}
+use Prim.Native.Nat.{ℕ, zero, suc, _+_, _*_, _/_, _%_, _^_, _<_}
+use native.Mathlib.Nat.{zero-lt-suc, mod-lt, zero-mul, one-mul, mul-zero, add-comm, zero-add, suc-add, mod-eq-of-lt, mod-one}
 use native.Mathlib.Numerals.{one-add}
 use native.Mathlib.Omega.{arith}
 use lib.Pow.{mod-pow-add, pow-pos}
-use lib.Bits.{xor-zero-l, xor-zero-r, xor-self, xor-comm, xor-mod, xor-lt, xor-block, xor-shifted}
+use lib.Bits.{xor-self, xor-comm, xor-mod, xor-lt, xor-block, xor-shifted}
 use Rattle.laws.proofs.Xor.{by-digit, xor-swap, xor-shl, xor-bit, digit-mul-xor, xor-digit-mul}
-use Rattle.field.specs.Field.{bit, plus, double, doubled, sum, times}
+use Rattle.field.specs.Field.{bit, plus, modulus, double, doubled, sum, times}
 
 bit-lt : (i a : ℕ) → bit i a < 2
 bit-lt i a = mod-lt (a / 2 ^ i) (zero-lt-suc 1)
@@ -18,9 +18,9 @@ bit-lt i a = mod-lt (a / 2 ^ i) (zero-lt-suc 1)
 pub double-plus : (a b : ℕ) → double (plus a b) ≡ plus (double a) (double b)
 unfolding double
 double-plus a b =
-    ap₂ (λ (x y : ℕ). plus (x * 2) (y * 0x11D)) (xor-mod a b 8) (xor-bit a b 7)
-    ∙ ap₂ plus (xor-shl (a % 256) (b % 256) 1) (xor-digit-mul (bit 7 a) (bit-lt 7 a) (bit 7 b) (bit-lt 7 b) 0x11D)
-    ∙ xor-swap (a % 256 * 2) (b % 256 * 2) (bit 7 a * 0x11D) (bit 7 b * 0x11D)
+    ap₂ (λ (x y : ℕ). plus (x * 2) (y * modulus)) (xor-mod a b 8) (xor-bit a b 7)
+    ∙ ap₂ plus (xor-shl (a % 256) (b % 256) 1) (xor-digit-mul (bit 7 a) (bit-lt 7 a) (bit 7 b) (bit-lt 7 b) modulus)
+    ∙ xor-swap (a % 256 * 2) (b % 256 * 2) (bit 7 a * modulus) (bit 7 b * modulus)
 
 pub double-zero : double 0 ≡ 0
 unfolding double
@@ -44,7 +44,7 @@ double-byte a =
     low : a % 256 * 2 ≡ bit 7 a * 256 + a % 128 * 2
     low = omega (arith, mod-pow-add a 1 7)
 
-    high : bit 7 a * 0x11D ≡ bit 7 a * 256 + bit 7 a * 29
+    high : bit 7 a * modulus ≡ bit 7 a * 256 + bit 7 a * 29
     high = omega arith
 
 pub double-lt : (a : ℕ) → double a < 256
@@ -113,22 +113,22 @@ sum-double (suc n) a b =
 
 pub times-plus-left : (a b c : ℕ) → times (plus a b) c ≡ plus (times a c) (times b c)
 unfolding times
-times-plus-left a b c = sum-plus-left 8 a b c
+times-plus-left a b c = sum-plus-left _ a b c
 
 pub times-plus-right : (a b c : ℕ) → times a (plus b c) ≡ plus (times a b) (times a c)
 unfolding times
-times-plus-right a b c = sum-plus-right 8 a b c
+times-plus-right a b c = sum-plus-right _ a b c
 
 pub times-zero-left : (b : ℕ) → times 0 b ≡ 0
 unfolding times
-times-zero-left b = sum-zero 8 b
+times-zero-left b = sum-zero _ b
 
 pub times-zero-right : (a : ℕ) → times a 0 ≡ 0
 times-zero-right a = times-plus-right a 0 0 ∙ xor-self (times a 0)
 
 pub times-double : (a b : ℕ) → times (double a) b ≡ double (times a b)
 unfolding times
-times-double a b = sum-double 8 a b
+times-double a b = sum-double _ a b
 
 pub times-doubled : (i a b : ℕ) → times (doubled i a) b ≡ doubled i (times a b)
 unfolding doubled

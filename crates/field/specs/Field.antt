@@ -13,9 +13,13 @@ bit i a = a / 2 ^ i % 2
 abbrev pub plus : ℕ → ℕ → ℕ
 plus a b = bitXor a b
 
--- a times x, modulo hexadecimal 11D: where a has x^7, a times x has x^8, and 11D is added
+-- hexadecimal 11D: x^8 + x^4 + x^3 + x^2 + 1
+abbrev pub modulus : ℕ
+modulus = 0x11D
+
+-- a times x, modulo 11D: where a has x^7, a times x has x^8, and 11D is added
 unfoldable pub double : ℕ → ℕ
-double a = plus (a % 256 * 2) (bit 7 a * 0x11D)
+double a = plus (a % 256 * 2) (bit 7 a * modulus)
 
 -- a times x^i
 unfoldable pub doubled : ℕ → ℕ → ℕ
@@ -36,11 +40,11 @@ unfoldable pub power : ℕ → ℕ → ℕ
 power a zero = 1
 power a (suc i) = times a (power a i)
 
--- the last number below n that a times is 1; 0 if there is none
+-- the last number below n whose product with a is 1; 0 if there is none
 unfoldable pub inverseBelow : ℕ → ℕ → ℕ
 inverseBelow zero a = 0
 inverseBelow (suc n) a = cond (eqb (times a n) 1) n (inverseBelow n a)
 
--- the inverse of a: the byte that a times is 1; of 0, which has none, it is 0
+-- the inverse of a: the byte whose product with a is 1; 0, which has none, gives 0
 unfoldable pub inverseOf : ℕ → ℕ
 inverseOf a = inverseBelow 256 a

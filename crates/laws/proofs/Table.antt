@@ -1,11 +1,16 @@
--- The rule of a table, at each of its entries, by one test over the table that antt computes. Assumes nothing.
-use mathlib.Core.Path.{_≡_, refl, sym, ap, _∙_, subst}
-use mathlib.Core.Bool.{Bool, true, false, _&&_}
+-- The rule of a table, at each of its entries, by one test over the table that antt computes. In order: a table of which each
+-- entry comes from the one before; one whose entries each pass a test of their place; one that has each of the numbers from 1.
+-- Assumes nothing.
+use mathlib.Core.Path.{_≡_, refl, sym, ap, _∙_}
+use mathlib.Core.Bool.{Bool, true, false, _&&_, _||_}
 use mathlib.Core.List.{List, [], _∷_}
-use Prim.Native.Nat.{ℕ, zero, suc, _+_, _<_}
+use Prim.Native.Nat.{ℕ, zero, suc, _+_, _<_, _≤_, suc-le-suc}
 use native.Mathlib.Nat.{zero-add, suc-add, add-suc, add-zero, le-of-suc-le-suc, not-suc-le-zero, zero-lt-suc}
+use native.Mathlib.Decide.{ℕ-discrete}
+use lib.Arith.{le-zero, le-of-le-suc-ne}
 use lib.Dec.{T, eqb, eqb→eq}
 use lib.ListN.{length, getD}
+use borrow.Author.Tests.{eqb-true}
 
 pub and-left : (a b : Bool) → T (a && b) → T a
 and-left true b t = tt
@@ -49,3 +54,32 @@ passes-from f i (x ∷ xs) t (suc k) h =
 
 pub at : (f : ℕ → ℕ → Bool) (xs : List ℕ) → T (passes f 0 xs) → (k : ℕ) → k < length xs → T (f k (getD xs k 0))
 at f xs t k h = rw zero-add at (passes-from f 0 xs t k h)
+
+-- ---- a table that has each of the numbers from 1
+
+abbrev pub has : ℕ → List ℕ → Bool
+has a [] = false
+has a (x ∷ xs) = eqb x a || has a xs
+
+-- each of 1 to n is in the table
+abbrev pub hasAll : ℕ → List ℕ → Bool
+hasAll zero xs = true
+hasAll (suc n) xs = has (suc n) xs && hasAll n xs
+
+pub has-of-all : (n : ℕ) (xs : List ℕ) → T (hasAll n xs) → (a : ℕ) → a ≤ n → (a ≡ 0 → ⊥) → T (has a xs)
+has-of-all zero xs t a h k = absurd (k (le-zero h))
+has-of-all (suc n) xs t a h k =
+    go (has-of-all n xs (and-right (has (suc n) xs) (hasAll n xs) t) a) (ℕ-discrete a (suc n))
+  where
+    go : (a ≤ n → (a ≡ 0 → ⊥) → T (has a xs)) → Dec (a ≡ suc n) → T (has a xs)
+    go ih (yes e) = rw e (and-left (has (suc n) xs) (hasAll n xs) t)
+    go ih (no d) = ih (le-of-le-suc-ne h d) k
+
+pub place : (a : ℕ) (xs : List ℕ) → T (has a xs) → (i : ℕ) × (i < length xs) × (getD xs i 0 ≡ a)
+place a [] t = absurd t
+place a (x ∷ xs) t = go (place a xs) (eqb x a) refl t
+  where
+    go : (T (has a xs) → (i : ℕ) × (i < length xs) × (getD xs i 0 ≡ a))
+        → (b : Bool) → eqb x a ≡ b → T (b || has a xs) → (i : ℕ) × (i < suc (length xs)) × (getD (x ∷ xs) i 0 ≡ a)
+    go ih true e u = (0, zero-lt-suc (length xs), eqb-true x a e)
+    go ih false e u = let p = ih u in (suc (p .0), suc-le-suc (p .1), p .2)

@@ -3,9 +3,9 @@
 use mathlib.Core.Path.{_≡_, refl, sym, ap, ap₂, _∙_}
 use Prim.Native.Nat.{ℕ, zero, suc, _+_, _*_, _/_, _%_, _^_, _<_}
 use native.Mathlib.Nat.{le-of-suc-le-suc, not-suc-le-zero, zero-lt-suc, mod-lt, zero-mul, one-mul, add-zero}
-use lib.Arith.{bin-ind, digits-mod, digits-div}
+use lib.Arith.{bin-ind}
 use lib.Pow.{pow-pos}
-use lib.Bits.{bitXor, differ, xor-step, xor-zero-l, xor-zero-r, xor-self, xor-comm, xor-shr, xor-mod, xor-lt, xor-block}
+use lib.Bits.{bitXor, differ, xor-step, xor-zero-r, xor-self, xor-comm, xor-shr, xor-mod, xor-block}
 
 two-pos : zero < 2
 two-pos = zero-lt-suc 1

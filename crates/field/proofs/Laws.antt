@@ -190,9 +190,3 @@ power-period = power-two 255 ∙ period
 -- 2 generates the bytes other than 0
 pub generates : (a : ℕ) → a < 256 → (a ≡ 0 → ⊥) → (i : ℕ) × (i < 255) × (power 2 i ≡ a)
 generates a h n = let g = generated a h n in (g .0, g .1, power-two (g .0) ∙ g .2)
-
--- ---- document 01's figures
-
-pub figures : (times 2 128 ≡ 29) × (times 3 7 ≡ 9)
-unfolding times sum doubled double
-figures = (refl, refl)

@@ -1,0 +1,51 @@
+-- Document 01's example of ten events, evaluated in the model: N 3, k 1, D 0, E 1, C 2, M 64, starting board 0. With k 1 and E 1 a board
+-- is one byte, and every server's element is that byte.
+use Prim.Native.Nat.{ℕ, _+_, _*_}
+use mathlib.Core.Path.{_≡_, refl}
+use mathlib.Core.List.{List, [], _∷_, map}
+use mathlib.Core.Option.{Option, none, some}
+use Rattle.config.specs.declared.Config.{Config}
+use Rattle.tag.specs.declared.Tag.{Tag}
+use Rattle.history.specs.Number
+use Rattle.history.specs.Tags
+use Rattle.history.specs.Server
+use Rattle.history.specs.Client
+use Rattle.history.specs.Rig
+use Rattle.history.specs.Board.{Call, Answer, Event, refused, nothingEnded, writtenBy, spentBy, readBy}
+
+abbrev pub config : Config
+config = record { n = 3; k = 1; d = 0; e = 1; c = 2 }
+
+abbrev pub key : Tag → ℕ
+key t = t .number * 256 + t .client
+
+abbrev pub encode : ℕ → ℕ → ℕ
+encode v s = v
+
+abbrev pub decode : List (ℕ × ℕ) → ℕ
+decode [] = 0
+decode (x ∷ xs) = x .1
+
+-- an event of the example: code, party, position
+abbrev call : ℕ → ℕ → ℕ → Call ℕ
+call code party position = record { code = code; party = party; position = position; board = 0 }
+
+-- "Events (code, party, position): 2 1 0; 3 0 0; 3 0 0; 3 0 1; 3 0 1; 3 0 1; 3 0 1; 3 0 2; 3 0 2; 1 3 0."
+pub calls : List (Call ℕ)
+calls =
+    call 2 1 0 ∷ call 3 0 0 ∷ call 3 0 0 ∷ call 3 0 1 ∷ call 3 0 1 ∷ call 3 0 1 ∷ call 3 0 1 ∷ call 3 0 2 ∷ call 3 0 2 ∷ call 1 3 0 ∷ []
+
+-- the printed answers: eight times `ok`, `read 0 0 00`, `no 8`
+pub answers : List (Answer ℕ)
+answers =
+    nothingEnded ∷
+    nothingEnded ∷
+    nothingEnded ∷
+    nothingEnded ∷
+    nothingEnded ∷
+    nothingEnded ∷
+    nothingEnded ∷ nothingEnded ∷ readBy 1 (record { number = 0; client = 0 }) 0 ∷ refused 8 ∷ []
+
+pub example : map (λ x. x .answer) (Rig.run key encode decode config 64 (Rig.freshRig encode 0) calls) ≡ answers
+unfolding calls answers Number.upd Number.count Number.toEach Number.pairOf Number.present Tags.startingTag Tags.higher Tags.lower Tags.kindNumber Server.freshServer Server.isStored Server.elementOf Server.atOrBelowFloor Server.smallest Server.inPlaceOf Server.others Server.dropSmallest Server.addLast Server.store Server.storeElement Server.finalised Server.answerTo Server.query Server.preWrite Server.writeFinalise Server.readAnswer Server.readFinalise Server.serverStepOf Server.serverStep Client.quorum Client.sendEach Client.isFirst Client.enough Client.enoughToRead Client.nextTag Client.freshClient Client.isIdle Client.isDown Client.beginQuestions Client.beginClient Client.awaits Client.awaited Client.counting Client.counted Client.stays Client.ends Client.sendPreWrites Client.sendReadFinalises Client.asked Client.sendWriteFinalises Client.endRead Client.settling Client.settle Client.clientStep Client.firstNo Rig.codeOf Rig.isForServer Rig.isWithin Rig.answerOf Rig.listOf Rig.without Rig.freshRig Rig.withServer Rig.withClient Rig.withFlight Rig.begun Rig.served Rig.answered Rig.only Rig.handed Rig.handedAt Rig.move Rig.partyQuestions Rig.hasRoom Rig.unlessNo Rig.moveOf Rig.questions Rig.event Rig.run
+example = refl

@@ -1,2 +1,11 @@
 pub mod Figures
 pub mod Example
+pub mod Basics
+pub mod Quorum
+pub mod World
+pub mod Monotone
+pub mod LogUp
+pub mod LogChose
+pub mod LogEnded
+pub mod LogBegan
+pub mod Change

@@ -4,3 +4,4 @@ pub mod Server
 pub mod Client
 pub mod Board
 pub mod Rig
+pub mod Laws

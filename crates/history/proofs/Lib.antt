@@ -9,3 +9,5 @@ pub mod LogChose
 pub mod LogEnded
 pub mod LogBegan
 pub mod Change
+pub mod Store
+pub mod ServerMove

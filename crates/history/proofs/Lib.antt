@@ -11,3 +11,7 @@ pub mod LogBegan
 pub mod Change
 pub mod Store
 pub mod ServerMove
+pub mod Send
+pub mod Count
+pub mod EndOfAsking
+pub mod ClientChange

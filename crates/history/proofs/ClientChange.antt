@@ -108,7 +108,7 @@ module _ (S : Setting) where
             }
 
     -- client c begins an operation, with the board to write or none
-    module _ (c : ℕ) (board : Option Value) (sends : List (Message Element)) (idle : Idle S g c) (low : 1 ≤ c) (within : c ≤ Setting.cfg S .c) where
+    module _ (c : ℕ) (board : Option Value) (sends : List (Message Element)) (idle : Idle S g c) (low : 1 ≤ c) (within : c ≤ Setting.cfg S .c) (isBoard : (v : Value) → board ≡ some v → Setting.IsBoard S v) where
       abbrev high : ℕ → ℕ
       high s = key (r .servers s .highest)
 
@@ -171,6 +171,7 @@ module _ (S : Setting) where
               low = low;
               high = within;
             };
+            isBoard = isBoard;
             known = record { board = Setting.start S; is = a .log .startBytes; within = unfold startingTag in omega arith };
             start = le-refl _;
             answers = λ s e. absurd (false≢true e);

@@ -36,6 +36,7 @@ module _ (S : Setting) where
     phase-counted (asking b t cs) h a =
         record {
           current = a .current;
+          isBoard = a .isBoard;
           known = higher-elim key (Known S k) t (m .tag) (a .known) (good .known);
           start = omega (arith, a .start, higher-left key t (m .tag));
           answers = counted-more cs (λ (s : ℕ). k .base (m .client) s ≤ key (higher key t (m .tag))) (m .server)

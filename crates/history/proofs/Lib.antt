@@ -15,3 +15,5 @@ pub mod Send
 pub mod Count
 pub mod EndOfAsking
 pub mod ClientChange
+pub mod Present
+pub mod Choose

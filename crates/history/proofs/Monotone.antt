@@ -89,6 +89,7 @@ module _ (S : Setting) where
       phase-up o (asking b t cs) a =
           record {
             current = current-up (a .current);
+            isBoard = a .isBoard;
             known = known-up (a .known);
             start = a .start;
             answers = λ s e. omega (arith, a .answers s e, up .base c o s);

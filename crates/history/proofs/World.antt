@@ -107,6 +107,7 @@ module _ (S : Setting) where
   -- a quorum had its tag
   pub record Asking (k : Knowledge) (g : Ghost) (c : ℕ) (board : Option Value) (best : Tag) (counted : ℕ → Bool) : Type 0 where
     pub current : Current g c board none
+    pub isBoard : (v : Value) → board ≡ some v → IsBoard v
     pub known : Known k best
     pub start : key startingTag ≤ key best
     pub answers : (s : ℕ) → counted s ≡ true → k .base c s ≤ key best

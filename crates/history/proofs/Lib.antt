@@ -17,3 +17,4 @@ pub mod EndOfAsking
 pub mod ClientChange
 pub mod Present
 pub mod Choose
+pub mod Settle

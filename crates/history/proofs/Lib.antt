@@ -18,3 +18,5 @@ pub mod ClientChange
 pub mod Present
 pub mod Choose
 pub mod Settle
+pub mod Events
+pub mod Recorded

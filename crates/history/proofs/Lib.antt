@@ -20,3 +20,6 @@ pub mod Choose
 pub mod Settle
 pub mod Events
 pub mod Recorded
+pub mod Fresh
+pub mod Flight
+pub mod Move

@@ -1,6 +1,7 @@
 -- The rig of document 01, over the models of server and client: servers, clients and the messages in flight, its seven events, their
 -- questions and their answers.
 use Prim.Native.Nat.{ℕ, _+_}
+use mathlib.Core.Path.{_≡_}
 use mathlib.Core.Bool.{Bool, true, false, cond, not, _&&_}
 use mathlib.Core.Option.{Option, none, some}
 use mathlib.Core.List.{List, [], _∷_, _++_}
@@ -186,3 +187,10 @@ module _ {Value Element : Type 0} (key : Tag → ℕ) (encode : Value → ℕ �
   run most r (a ∷ later) =
       let t = event most r a in
       record { call = a; answer = t .answer } ∷ run most (t .rig) later
+
+-- A run of the rig, and its events. Any event may be refused, for any reason, want of room among them, and then nothing changes; an
+-- accepted one is the model's move, once the questions 7 to 11 are answered, and a board that it writes is a board.
+pub data Runs {Value Element : Type 0} (key : Tag → ℕ) (encode : Value → ℕ → Element) (decode : List (ℕ × Element) → Value) (cfg : Config) (IsBoard : Value → Type 0) (start : Value) : Rig Value Element → List (Event Value) → Type 0 where
+  fresh : Runs key encode decode cfg IsBoard start (freshRig encode start) []
+  refuses : {r : Rig Value Element} {events : List (Event Value)} → Runs key encode decode cfg IsBoard start r events → (a : Call Value) (number : ℕ) → Runs key encode decode cfg IsBoard start r (events ++ (record { call = a; answer = refused number } ∷ []))
+  moves : {r : Rig Value Element} {events : List (Event Value)} → Runs key encode decode cfg IsBoard start r events → (a : Call Value) (w : Code) → codeOf (a .code) ≡ some w → firstNo (partyQuestions cfg r a w) ≡ 0 → (w ≡ beginWrite → IsBoard (a .board)) → Runs key encode decode cfg IsBoard start (move key encode decode cfg r a w .rig) (events ++ (record { call = a; answer = move key encode decode cfg r a w .answer } ∷ []))

@@ -23,3 +23,5 @@ pub mod Recorded
 pub mod Fresh
 pub mod Flight
 pub mod Move
+pub mod Sort
+pub mod Replay

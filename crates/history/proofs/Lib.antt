@@ -25,3 +25,6 @@ pub mod Flight
 pub mod Move
 pub mod Sort
 pub mod Replay
+pub mod Order
+pub mod Calls
+pub mod Theorem

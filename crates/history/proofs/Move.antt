@@ -31,7 +31,7 @@ use Rattle.history.proofs.Fresh.{blank, fresh-good, fresh-recorded}
 use Rattle.history.proofs.Flight.{at-mem, without-mem, doubled-mem}
 
 -- the number of an event
-unfoldable numberOf : Code → ℕ
+unfoldable pub numberOf : Code → ℕ
 numberOf beginWrite = 1
 numberOf beginRead = 2
 numberOf handOver = 3
@@ -40,7 +40,7 @@ numberOf double = 5
 numberOf crashServer = 6
 numberOf crashClient = 7
 
-code-number : (n : ℕ) (w : Code) → codeOf n ≡ some w → n ≡ numberOf w
+pub code-number : (n : ℕ) (w : Code) → codeOf n ≡ some w → n ≡ numberOf w
 unfolding codeOf numberOf
 code-number n w =
     pick 1 beginWrite refl _

@@ -11,7 +11,7 @@ use lib.Seq.{drop-append-le}
 use borrow.Author.Tests.{eq-eqb}
 use native.Mathlib.Omega.{arith}
 use Rattle.history.specs.Number.{upd}
-use Rattle.history.specs.Board.{Call, Answer, Event, Deed, noDeed, nothingEnded, isAccepted, names, firstNaming, writeOf, readOf, begunBy, deedOf, history}
+use Rattle.history.specs.Board.{Call, Answer, Event, Deed, noDeed, nothingEnded, isAccepted, names, firstNaming, writeOf, readOf, begunBy, deedOf, endOf, endAt, history}
 use Rattle.history.proofs.Basics.{either, upd-elim, upd-same, upd-other, none≢some, some-injective}
 use Rattle.history.proofs.World.{Setting, Ghost, Knowledge, GoodLog}
 use Rattle.history.proofs.Events.{at-within, at-before, at-last, at-cases, first-stays, first-new}
@@ -166,31 +166,38 @@ module _ (S : Setting) where
 
   -- what the history says of each place
   module _ {h : List (Event Value)} {g : Ghost S} (a : Recorded h g) where
-    none-at : (p : ℕ) (o : Option (Event Value)) → getElem? h p ≡ o → g .begun p ≡ none → deedOf o p (drop (p + 1) h) ≡ noDeed
+    none-at : (p : ℕ) (o : Option (Event Value)) (end : Option (ℕ × Answer Value)) → getElem? h p ≡ o → g .begun p ≡ none → deedOf o end ≡ noDeed
     unfolding deedOf begunBy
-    none-at p none e f = refl
-    none-at p (some x) e f =
+    none-at p none end e f = refl
+    none-at p (some x) end e f =
         let quiet = a .blank p x e f in
         rw (quiet .0, quiet .1)
 
     pub history-blank : (p : ℕ) → g .begun p ≡ none → history h p ≡ noDeed
     unfolding history
-    history-blank p f = none-at p (getElem? h p) refl f
+    history-blank p f = none-at p (getElem? h p) (endAt h p) refl f
 
-    opened : (p c : ℕ) (board : Option Value) (t : Tells h g p c board) → history h p ≡ begunBy (t .event) (g .ending p)
+    pub end-recorded : (p c : ℕ) (board : Option Value) → g .begun p ≡ some (c, board) → endAt h p ≡ g .ending p
+    unfolding endAt endOf
+    end-recorded p c board e =
+        let t = a .begun p c board e in
+        ap (λ (o : Option (Event Value)). endOf o p (drop (p + 1) h)) (t .is) ∙
+        ap (λ (d : ℕ). firstNaming d (p + 1) (drop (p + 1) h)) (t .opens .party) ∙ t .first
+
+    opened : (p c : ℕ) (board : Option Value) (e : g .begun p ≡ some (c, board)) → history h p ≡ begunBy (a .begun p c board e .event) (g .ending p)
     unfolding history deedOf
-    opened p c board t =
-        ap (λ (o : Option (Event Value)). deedOf o p (drop (p + 1) h)) (t .is) ∙
-        ap (λ (d : ℕ). begunBy (t .event) (firstNaming d (p + 1) (drop (p + 1) h))) (t .opens .party) ∙ ap (begunBy (t .event)) (t .first)
+    opened p c board e =
+        let t = a .begun p c board e in
+        ap (λ (o : Option (Event Value)). deedOf o (endAt h p)) (t .is) ∙ ap (begunBy (t .event)) (end-recorded p c board e)
 
     pub history-write : (p c : ℕ) (v : Value) → g .begun p ≡ some (c, some v) → history h p ≡ writeOf v (g .ending p)
     unfolding begunBy
     history-write p c v e =
         let t = a .begun p c (some v) e in
-        opened p c (some v) t ∙ rw (t .opens .accepted, t .opens .coded .0, t .opens .coded .1)
+        opened p c (some v) e ∙ rw (t .opens .accepted, t .opens .coded .0, t .opens .coded .1)
 
     pub history-read : (p c : ℕ) → g .begun p ≡ some (c, none) → history h p ≡ readOf (g .ending p)
     unfolding begunBy
     history-read p c e =
         let t = a .begun p c none e in
-        opened p c none t ∙ rw (t .opens .accepted, t .opens .coded)
+        opened p c none e ∙ rw (t .opens .accepted, t .opens .coded)

@@ -77,8 +77,8 @@ module _ {Value : Type 0} where
   bytesShown (spentBy c) = none
   bytesShown (readBy c t v) = some v
 
-  -- "the first later event whose answer names that client ends it": its place and its answer, if there is one among the events
-  -- given, the first of which stands at place p
+  -- the first of the events given whose answer names that client: its place, where the first of them stands at place p, and its
+  -- answer
   unfoldable pub firstNaming : ℕ → ℕ → List (Event Value) → Option (ℕ × Answer Value)
   firstNaming c p [] = none
   firstNaming c p (x ∷ xs) = cond (names c (x .answer)) (some (p, x .answer)) (firstNaming c (p + 1) xs)
@@ -98,13 +98,22 @@ module _ {Value : Type 0} where
       cond (isAccepted (x .answer) && eqb (x .call .code) 1) (writeOf (x .call .board) end)
       (cond (isAccepted (x .answer) && eqb (x .call .code) 2) (readOf end) noDeed)
 
-  unfoldable pub deedOf : Option (Event Value) → ℕ → List (Event Value) → Deed Value
-  deedOf none p later = noDeed
-  deedOf (some x) p later = begunBy x (firstNaming (x .call .party) (p + 1) later)
+  unfoldable pub deedOf : Option (Event Value) → Option (ℕ × Answer Value) → Deed Value
+  deedOf none end = noDeed
+  deedOf (some x) end = begunBy x end
+
+  -- what ends an operation of the client of an event at place p, among the later events
+  unfoldable pub endOf : Option (Event Value) → ℕ → List (Event Value) → Option (ℕ × Answer Value)
+  endOf none p later = none
+  endOf (some x) p later = firstNaming (x .call .party) (p + 1) later
+
+  -- "the first later event whose answer names that client ends it": for the operation that the event at place p begins
+  unfoldable pub endAt : List (Event Value) → ℕ → Option (ℕ × Answer Value)
+  endAt events p = endOf (getElem? events p) p (drop (p + 1) events)
 
   -- The history of a list of events: what each place begins. "Before and later go by the list."
   unfoldable pub history : List (Event Value) → ℕ → Deed Value
-  history events p = deedOf (getElem? events p) p (drop (p + 1) events)
+  history events p = deedOf (getElem? events p) (endAt events p)
 
   -- "A write: its bytes become the state. A read: the state is shown and stays."
   unfoldable pub after : Deed Value → Value → Value
@@ -176,3 +185,21 @@ pub record Fits {Value : Type 0} (deeds : ℕ → Deed Value) (start : Value) (o
   pub inTime : (p r : ℕ) → List·Memᴰ p order → List·Memᴰ r order → EndedBefore (deeds p) r → StandsFirst p r order
   -- "every read's bytes are those shown"
   pub shown : Shown deeds start order
+
+module _ {Value : Type 0} where
+  -- the tag that an answer has
+  unfoldable pub answerTag : Answer Value → Option Tag
+  answerTag (refused n) = none
+  answerTag nothingEnded = none
+  answerTag (writtenBy c t) = some t
+  answerTag (spentBy c) = none
+  answerTag (readBy c t v) = some t
+
+  unfoldable pub tagOf : Option (ℕ × Answer Value) → Option Tag
+  tagOf none = none
+  tagOf (some e) = answerTag (e .1)
+
+  -- Beside an order that fits, and not asked by it: ended writes stand in rising tag order.
+  unfoldable pub TagsRise : (Tag → ℕ) → List (Event Value) → List ℕ → Type 0
+  TagsRise key events order =
+      (p r : ℕ) (v w : Value) (e f : ℕ) (t u : Tag) → StandsFirst p r order → history events p ≡ wrote v e → history events r ≡ wrote w f → tagOf (endAt events p) ≡ some t → tagOf (endAt events r) ≡ some u → key t < key u

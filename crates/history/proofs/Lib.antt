@@ -28,3 +28,5 @@ pub mod Replay
 pub mod Order
 pub mod Calls
 pub mod Theorem
+pub mod Refute
+pub mod Teeth

@@ -36,6 +36,7 @@ module _ (S : Setting) where
 
     -- the tag that a write takes is above it
     pub next-above : key best < key (nextTag best c)
+    unfolding nextTag
     next-above = tags .next best c (asks .known .within) (asks .current .low) (asks .current .high)
 
     -- and no write has it

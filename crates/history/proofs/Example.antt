@@ -4,6 +4,8 @@ use Prim.Native.Nat.{ℕ, _+_, _*_}
 use mathlib.Core.Path.{_≡_, refl}
 use mathlib.Core.List.{List, [], _∷_, map}
 use mathlib.Core.Option.{Option, none, some}
+use lib.ListN.{length}
+use native.Mathlib.Omega.{arith}
 use Rattle.config.specs.declared.Config.{Config}
 use Rattle.tag.specs.declared.Tag.{Tag}
 use Rattle.history.specs.Number
@@ -11,7 +13,9 @@ use Rattle.history.specs.Tags
 use Rattle.history.specs.Server
 use Rattle.history.specs.Client
 use Rattle.history.specs.Rig
-use Rattle.history.specs.Board.{Call, Answer, Event, refused, nothingEnded, writtenBy, spentBy, readBy}
+use Rattle.history.specs.Laws.{TagOrder, Coding, Rising, ElementsOf}
+use Rattle.history.proofs.Theorem.{atomic-calls}
+use Rattle.history.specs.Board.{Atomic, Call, Answer, Event, refused, nothingEnded, writtenBy, spentBy, readBy}
 
 abbrev pub config : Config
 config = record { n = 3; k = 1; d = 0; e = 1; c = 2 }
@@ -25,6 +29,26 @@ encode v s = v
 abbrev pub decode : List (ℕ × ℕ) → ℕ
 decode [] = 0
 decode (x ∷ xs) = x .1
+
+-- "The number decides, then the client number."
+tags : TagOrder config key
+tags =
+    record {
+      injective = λ t u h i e.
+          let number : t .number ≡ u .number = omega arith in
+          let client : t .client ≡ u .client = omega arith in
+          λ j. record { number = number j; client = client j };
+      next = λ t c h i j. omega arith;
+    }
+
+-- one element is the board
+coding : Coding config (λ (v : ℕ). Unit {0}) encode decode
+unfolding ElementsOf
+coding = record { back = back }
+  where
+    back : (v : ℕ) → Unit {0} → (xs : List (ℕ × ℕ)) → length xs ≡ 1 → Rising 0 3 xs → ElementsOf encode v xs → decode xs ≡ v
+    back v b [] h r e = absurd (omega arith)
+    back v b (x ∷ xs) h r e = e .0
 
 -- an event of the example: code, party, position
 abbrev call : ℕ → ℕ → ℕ → Call ℕ
@@ -49,3 +73,8 @@ answers =
 pub example : map (λ x. x .answer) (Rig.run key encode decode config 64 (Rig.freshRig encode 0) calls) ≡ answers
 unfolding calls answers Number.upd Number.count Number.toEach Number.pairOf Number.present Tags.startingTag Tags.higher Tags.lower Tags.kindNumber Server.freshServer Server.isStored Server.elementOf Server.atOrBelowFloor Server.smallest Server.inPlaceOf Server.others Server.dropSmallest Server.addLast Server.store Server.storeElement Server.finalised Server.answerTo Server.query Server.preWrite Server.writeFinalise Server.readAnswer Server.readFinalise Server.serverStepOf Server.serverStep Client.quorum Client.sendEach Client.isFirst Client.enough Client.enoughToRead Client.nextTag Client.freshClient Client.isIdle Client.isDown Client.beginQuestions Client.beginClient Client.awaits Client.awaited Client.counting Client.counted Client.stays Client.ends Client.sendPreWrites Client.sendReadFinalises Client.asked Client.sendWriteFinalises Client.endRead Client.settling Client.settle Client.clientStep Client.firstNo Rig.codeOf Rig.isForServer Rig.isWithin Rig.answerOf Rig.listOf Rig.without Rig.freshRig Rig.withServer Rig.withClient Rig.withFlight Rig.begun Rig.served Rig.answered Rig.only Rig.handed Rig.handedAt Rig.move Rig.partyQuestions Rig.hasRoom Rig.unlessNo Rig.moveOf Rig.questions Rig.event Rig.run
 example = refl
+
+-- the theorem, for this configuration and code: every list of calls has a history with an order that fits
+pub example-atomic : (calls : List (Call ℕ)) → Atomic key 0 (Rig.run key encode decode config 64 (Rig.freshRig encode 0) calls)
+example-atomic calls =
+    atomic-calls config key tags (λ v. Unit {0}) encode decode coding (omega arith) 0 tt 64 calls (λ a i e. tt)

@@ -61,7 +61,7 @@ module _ {Value : Type 0} (deeds : ℕ → Deed Value) where
         nothingElse = λ p i. subst (λ (y : ℕ). MayStand (deeds y)) (sym (List·Memᴰ·eq-of-singleton i)) may;
         inTime = λ p r i j e.
             absurd (early (subst (EndedBefore (deeds a)) (List·Memᴰ·eq-of-singleton j) (subst (λ (y : ℕ). EndedBefore (deeds y) r) (List·Memᴰ·eq-of-singleton i) e)));
-        shown = shown
+        shown = shown;
       }
 
   -- an order of two
@@ -77,7 +77,7 @@ module _ {Value : Type 0} (deeds : ℕ → Deed Value) where
             (λ h. ⊎-elim (λ k. absurd (earlyA (at h k e))) (λ k. inl (h, List·Memᴰ·head k)) (one-of r j))
             (λ h. ⊎-elim (λ k. absurd (late (at h k e))) (λ k. absurd (earlyB (at h k e))) (one-of r j))
             (one-of p i);
-        shown = shown
+        shown = shown;
       }
     where
       one-of : (p : ℕ) → List·Memᴰ p (a ∷ b ∷ []) → (p ≡ a) ⊎ (p ≡ b)

@@ -5,7 +5,7 @@ use mathlib.Core.Path.{_≡_, refl}
 use mathlib.Core.List.{List, [], _∷_, _++_, List·Memᴰ}
 use Rattle.config.specs.declared.Config.{Config}
 use Rattle.tag.specs.declared.Tag.{Tag}
-use Rattle.history.specs.Board.{Call, Event, history, Fits, TagsRise}
+use Rattle.history.specs.Board.{Call, Event, Atomic}
 use Rattle.history.specs.Rig.{Rig, freshRig, run, Runs, fresh}
 use Rattle.history.specs.Laws.{TagOrder, Coding}
 use Rattle.history.proofs.World.{Setting, know}
@@ -15,15 +15,9 @@ use Rattle.history.proofs.Calls.{calls-run}
 
 -- Values and elements of any types; a key that orders tags; a code; a configuration with k at least 1; a starting board.
 module _ {Value Element : Type 0} (cfg : Config) (key : Tag → ℕ) (tags : TagOrder cfg key) (IsBoard : Value → Type 0) (encode : Value → ℕ → Element) (decode : List (ℕ × Element) → Value) (coding : Coding cfg IsBoard encode decode) (positive : 1 ≤ cfg .k) (start : Value) (startIsBoard : IsBoard start) where
-  -- some order fits, and in it ended writes stand in rising tag order
-  pub record Atomic (events : List (Event Value)) : Type 0 where
-    pub order : List ℕ
-    pub fits : Fits (history events) start order
-    pub tagsRise : TagsRise key events order
-
   -- The events of every run from the fresh rig, in which any event may have been refused for any reason, have a history with an order that
   -- fits.
-  pub atomic : {r : Rig Value Element} {events : List (Event Value)} → Runs key encode decode cfg IsBoard start r events → Atomic events
+  pub atomic : {r : Rig Value Element} {events : List (Event Value)} → Runs key encode decode cfg IsBoard start r events → Atomic key start events
   unfolding know
   atomic runs =
       let S : Setting = record {
@@ -46,6 +40,6 @@ module _ {Value Element : Type 0} (cfg : Config) (key : Tag → ℕ) (tags : Tag
 
   -- The same of every list of calls, with M the most that may be in flight: refused ones included, the events that the model answers to
   -- them have a history with an order that fits.
-  pub atomic-calls : (most : ℕ) (calls : List (Call Value)) → ((a : Call Value) → List·Memᴰ a calls → a .code ≡ 1 → IsBoard (a .board)) → Atomic (run key encode decode cfg most (freshRig encode start) calls)
+  pub atomic-calls : (most : ℕ) (calls : List (Call Value)) → ((a : Call Value) → List·Memᴰ a calls → a .code ≡ 1 → IsBoard (a .board)) → Atomic key start (run key encode decode cfg most (freshRig encode start) calls)
   atomic-calls most calls boards =
       atomic (calls-run key encode decode cfg IsBoard start most calls boards (freshRig encode start) [] fresh .1)

@@ -1,18 +1,17 @@
 -- What the theorem asks of its two parameters: the order of tags, given by a key, and the code.
-use Prim.Native.Nat.{ℕ, _≤_, _<_}
+use Prim.Native.Nat.{ℕ, _+_, _≤_, _<_}
 use mathlib.Core.Path.{_≡_}
 use mathlib.Core.List.{List, [], _∷_}
 use lib.ListN.{length}
 use Rattle.config.specs.declared.Config.{Config}
 use Rattle.tag.specs.declared.Tag.{Tag}
-use Rattle.history.specs.Client.{nextTag}
 
 -- Tags of the clients of a configuration, and the starting tag, are compared by their key.
 pub record TagOrder (cfg : Config) (key : Tag → ℕ) : Type 0 where
   -- tags that compare equal are equal
   pub injective : (t u : Tag) → t .client ≤ cfg .c → u .client ≤ cfg .c → key t ≡ key u → t ≡ u
   -- a tag of the next number is above, whatever client's it is: "The number decides"
-  pub next : (t : Tag) (c : ℕ) → t .client ≤ cfg .c → 1 ≤ c → c ≤ cfg .c → key t < key (nextTag t c)
+  pub next : (t : Tag) (c : ℕ) → t .client ≤ cfg .c → 1 ≤ c → c ≤ cfg .c → key t < key (record { number = t .number + 1; client = c })
 
 -- "server numbers rise strictly within 1 to N": above low, and to N
 unfoldable pub Rising : {Element : Type 0} → ℕ → ℕ → List (ℕ × Element) → Type 0

@@ -70,9 +70,47 @@ answers =
     nothingEnded ∷
     nothingEnded ∷ nothingEnded ∷ readBy 1 (record { number = 0; client = 0 }) 0 ∷ refused 8 ∷ []
 
+-- the answers to a list of calls, with M the most that may be in flight
+unfoldable answersTo : ℕ → List (Call ℕ) → List (Answer ℕ)
+unfolding Number.upd Number.count Number.toEach Number.pairOf Number.present Tags.startingTag Tags.higher Tags.lower Tags.kindNumber Server.freshServer Server.isStored Server.elementOf Server.atOrBelowFloor Server.smallest Server.inPlaceOf Server.others Server.dropSmallest Server.addLast Server.store Server.storeElement Server.finalised Server.answerTo Server.query Server.preWrite Server.writeFinalise Server.readAnswer Server.readFinalise Server.serverStepOf Server.serverStep Client.quorum Client.sendEach Client.isFirst Client.enough Client.enoughToRead Client.nextTag Client.freshClient Client.isIdle Client.isDown Client.beginQuestions Client.beginClient Client.awaits Client.awaited Client.counting Client.counted Client.stays Client.ends Client.sendPreWrites Client.sendReadFinalises Client.asked Client.sendWriteFinalises Client.endRead Client.settling Client.settle Client.clientStep Client.firstNo Rig.codeOf Rig.isForServer Rig.isWithin Rig.answerOf Rig.listOf Rig.without Rig.freshRig Rig.withServer Rig.withClient Rig.withFlight Rig.begun Rig.served Rig.answered Rig.only Rig.handed Rig.handedAt Rig.move Rig.partyQuestions Rig.hasRoom Rig.unlessNo Rig.moveOf Rig.questions Rig.event Rig.run
+answersTo most calls = map (λ x. x .answer) (Rig.run key encode decode config most (Rig.freshRig encode 0) calls)
+
 pub example : map (λ x. x .answer) (Rig.run key encode decode config 64 (Rig.freshRig encode 0) calls) ≡ answers
-unfolding calls answers Number.upd Number.count Number.toEach Number.pairOf Number.present Tags.startingTag Tags.higher Tags.lower Tags.kindNumber Server.freshServer Server.isStored Server.elementOf Server.atOrBelowFloor Server.smallest Server.inPlaceOf Server.others Server.dropSmallest Server.addLast Server.store Server.storeElement Server.finalised Server.answerTo Server.query Server.preWrite Server.writeFinalise Server.readAnswer Server.readFinalise Server.serverStepOf Server.serverStep Client.quorum Client.sendEach Client.isFirst Client.enough Client.enoughToRead Client.nextTag Client.freshClient Client.isIdle Client.isDown Client.beginQuestions Client.beginClient Client.awaits Client.awaited Client.counting Client.counted Client.stays Client.ends Client.sendPreWrites Client.sendReadFinalises Client.asked Client.sendWriteFinalises Client.endRead Client.settling Client.settle Client.clientStep Client.firstNo Rig.codeOf Rig.isForServer Rig.isWithin Rig.answerOf Rig.listOf Rig.without Rig.freshRig Rig.withServer Rig.withClient Rig.withFlight Rig.begun Rig.served Rig.answered Rig.only Rig.handed Rig.handedAt Rig.move Rig.partyQuestions Rig.hasRoom Rig.unlessNo Rig.moveOf Rig.questions Rig.event Rig.run
+unfolding answersTo calls answers
 example = refl
+
+-- Questions 7 to 13 with M 3, each the first that is answered with no: no event 9; client 1 asks; it is not idle; client 2 would make it six
+-- messages; there is no fourth; client 2 crashes, and is not up any more; there is no client 3 and no server 4; server 3 crashes, and is
+-- not up any more; nothing can be doubled; the message to server 3 is gone; then one can be doubled, and no more.
+pub refusals : List (Call ℕ)
+refusals =
+    call 9 0 0 ∷
+    call 2 1 0 ∷
+    call 2 1 0 ∷
+    call 2 2 0 ∷
+    call 3 0 3 ∷
+    call 7 2 0 ∷
+    call 1 2 0 ∷
+    call 7 2 0 ∷
+    call 1 3 0 ∷
+    call 6 4 0 ∷ call 6 3 0 ∷ call 6 3 0 ∷ call 5 0 0 ∷ call 3 0 2 ∷ call 5 0 0 ∷ call 5 0 0 ∷ []
+
+pub refusal-answers : List (Answer ℕ)
+refusal-answers =
+    refused 7 ∷
+    nothingEnded ∷
+    refused 10 ∷
+    refused 13 ∷
+    refused 8 ∷
+    nothingEnded ∷
+    refused 9 ∷
+    refused 9 ∷
+    refused 8 ∷
+    refused 8 ∷ nothingEnded ∷ refused 9 ∷ refused 13 ∷ nothingEnded ∷ nothingEnded ∷ refused 13 ∷ []
+
+pub refused-so : map (λ x. x .answer) (Rig.run key encode decode config 3 (Rig.freshRig encode 0) refusals) ≡ refusal-answers
+unfolding answersTo refusals refusal-answers
+refused-so = refl
 
 -- the theorem, for this configuration and code: every list of calls has a history with an order that fits
 pub example-atomic : (calls : List (Call ℕ)) → Atomic key 0 (Rig.run key encode decode config 64 (Rig.freshRig encode 0) calls)

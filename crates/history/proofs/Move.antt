@@ -207,13 +207,10 @@ module _ (S : Setting) where
       let ten = asked-yes 10 (isIdle (x .phase)) ((11, ltb (x .operation) highestNumber) ∷ []) (λ h. omega arith) (nine .1) in
       (eight .0, ten .0)
 
-  -- a server crashes: it keeps what it has
-  abbrev crashed : Rig Value Element → ℕ → Rig Value Element
-  crashed r s = record { servers = r .servers; up = upd (r .up) s false; clients = r .clients; inFlight = r .inFlight }
-
-  crashed-good : {g : Ghost S} {now : ℕ} (r : Rig Value Element) (s : ℕ) → Good S r g now → Good S (crashed r s) g now
+  -- a server crashes: what is good does not look at who is up
+  crashed-good : {g : Ghost S} {now : ℕ} (r : Rig Value Element) (up : ℕ → Bool) → Good S r g now → Good S (record { servers = r .servers; up = up; clients = r .clients; inFlight = r .inFlight }) g now
   unfolding know
-  crashed-good r s a =
+  crashed-good r up a =
       record { messages = a .messages; servers = a .servers; base = a .base; clients = a .clients; log = a .log }
 
   -- a client crashes
@@ -241,7 +238,7 @@ module _ (S : Setting) where
       turned r h a call (only (withFlight r (r .inFlight ++ listOf (getElem? (r .inFlight) (call .position))))) (differs (call .code) 1 double e refl) (differs (call .code) 2 double e refl)
       (only-good (flight-changed S (a .good) (r .inFlight ++ listOf (getElem? (r .inFlight) (call .position))) (doubled-mem (call .position) (r .inFlight))))
   moved-invariant r h a call crashServer e f b =
-      turned r h a call (only (crashed r (call .party))) (differs (call .code) 1 crashServer e refl) (differs (call .code) 2 crashServer e refl) (only-good (crashed-good r (call .party) (a .good)))
+      turned r h a call (only _) (differs (call .code) 1 crashServer e refl) (differs (call .code) 2 crashServer e refl) (only-good (crashed-good r _ (a .good)))
   moved-invariant r h a call crashClient e f b =
       turned r h a call (only (withClient r (call .party) (record { operation = r .clients (call .party) .operation; phase = down }) [])) (differs (call .code) 1 crashClient e refl) (differs (call .code) 2 crashClient e refl)
       (downed-good r (call .party) (a .good))

@@ -93,14 +93,6 @@ module _ (S : Setting) where
         (reply-good w (listOf o) PreWriteAnswer (m .tag) none (good .known) rises (λ y h. absurd (none≢some h)) (λ h. absurd (omega arith)) (λ h. absurd (omega arith)) (λ h. absurd (omega arith))))
 
     -- the state after a finalise is good, and has the tag
-    finalised-good : GoodServer S (know S r g) s (finalised key v (m .tag))
-    unfolding finalised
-    finalised-good =
-        record {
-          known = higher-elim key (Known S (know S r g)) (v .highest) (m .tag) (a .servers s .known) (good .known);
-          stored = a .servers s .stored;
-        }
-
     finalised-rises : key (v .highest) ≤ key (finalised key v (m .tag) .highest)
     unfolding finalised
     finalised-rises = higher-left key (v .highest) (m .tag)
@@ -108,6 +100,14 @@ module _ (S : Setting) where
     finalised-has : key (m .tag) ≤ key (finalised key v (m .tag) .highest)
     unfolding finalised
     finalised-has = higher-right key (v .highest) (m .tag)
+
+    finalised-good : GoodServer S (know S r g) s (finalised key v (m .tag))
+    unfolding finalised
+    finalised-good =
+        record {
+          known = higher-elim key (Known S (know S r g)) (v .highest) (m .tag) (a .servers s .known) (good .known);
+          stored = a .servers s .stored;
+        }
 
     write-finalise-good : Good S (served r s (writeFinalise key s v m) .rig) g (now + 1)
     unfolding served writeFinalise kindNumber
@@ -138,13 +138,24 @@ module _ (S : Setting) where
         (reply-good w sends ReadFinaliseAnswer (m .tag) none (good .known) rises (λ y l. absurd (none≢some l)) (λ l. absurd (omega arith)) (λ l. has) (λ l. has)))
         i
 
+    -- the server has the tag once it was told to finalise it for a read
+    read-finalised-has : key (m .tag) ≤ key (readFinalise key s v m .server .highest)
+    unfolding readFinalise
+    read-finalised-has = finalised-has
+
+    read-finalised-rises : key (v .highest) ≤ key (readFinalise key s v m .server .highest)
+    unfolding readFinalise
+    read-finalised-rises = finalised-rises
+
+    read-finalised-good : GoodServer S (know S r g) s (readFinalise key s v m .server)
+    unfolding readFinalise
+    read-finalised-good = finalised-good
+
     read-finalise-good : Good S (served r s (readFinalise key s v m) .rig) g (now + 1)
-    unfolding served readFinalise
+    unfolding served
     read-finalise-good =
-        let w = finalised key v (m .tag) in
-        let o = readAnswer key s (v .floor) m (elementOf key (m .tag) (v .stored)) in
-        turn w o finalised-rises finalised-good
-        (read-answer-good w (listOf o) finalised-rises finalised-has (elementOf key (m .tag) (v .stored)) refl)
+        turn (readFinalise key s v m .server) (readFinalise key s v m .answer) read-finalised-rises read-finalised-good
+        (unfold readFinalise in read-answer-good (readFinalise key s v m .server) (listOf (readFinalise key s v m .answer)) read-finalised-rises read-finalised-has (elementOf key (m .tag) (v .stored)) refl)
 
     silent-good : Good S (served r s (record { server = v; answer = none }) .rig) g (now + 1)
     unfolding served

@@ -11,7 +11,7 @@ use Rattle.config.specs.declared.Config.{Config}
 use Rattle.tag.specs.declared.Tag.{Tag}
 use Rattle.history.specs.Client.{firstNo}
 use Rattle.history.specs.Board.{Call, Event, refused}
-use Rattle.history.specs.Rig.{Rig, Turn, Code, codeOf, only, move, moveOf, partyQuestions, hasRoom, questions, unlessNo, event, run, Runs, refuses, moves}
+use Rattle.history.specs.Rig.{Rig, Code, codeOf, moveOf, partyQuestions, questions, unlessNo, event, run, Runs, refuses, moves}
 use Rattle.history.proofs.Move.{numberOf, code-number}
 
 -- questions that were all answered with yes: the first of them were

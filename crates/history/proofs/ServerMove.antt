@@ -1,24 +1,22 @@
 -- A server is handed a good message: it stays good, its highest tag does not fall, and what it answers is good.
-use Prim.Native.Nat.{ℕ, _+_, _≤_, _<_}
+use Prim.Native.Nat.{ℕ, _+_, _≤_}
 use mathlib.Core.Path.{_≡_, refl, sym, _∙_, ap, subst}
-use mathlib.Core.Bool.{Bool, true, false, cond}
-use mathlib.Core.Logic.{_⊎_, inl, inr, ⊎-elim}
+use mathlib.Core.Logic.{⊎-elim}
 use mathlib.Core.Option.{Option, none, some}
-use mathlib.Core.List.{List, [], _∷_, List·Memᴰ, List·Memᴰ·not-nil, List·Memᴰ·eq-of-singleton}
+use mathlib.Core.List.{List, List·Memᴰ, List·Memᴰ·not-nil, List·Memᴰ·eq-of-singleton}
 use native.Mathlib.Nat.{le-refl}
 use native.Mathlib.Omega.{arith}
 use Rattle.tag.specs.declared.Tag.{Tag}
 use Rattle.record.specs.declared.Kind.{Kind}
 use Rattle.record.specs.declared.Kind.the-variants.{Query, QueryAnswer, PreWrite, PreWriteAnswer, WriteFinalise, WriteFinaliseAnswer, ReadFinalise, ReadFinaliseAnswer}
 use Rattle.record.specs.Message.{Message}
-use Rattle.history.specs.Number.{upd}
-use Rattle.history.specs.Tags.{kindNumber, higher}
-use Rattle.history.specs.Server.{Server, Served, Stored, elementOf, atOrBelowFloor, store, storeElement, finalised, answerTo, query, preWrite, writeFinalise, readAnswer, readFinalise, serverStepOf, serverStep}
-use Rattle.history.specs.Rig.{Rig, Turn, withServer, listOf, served}
+use Rattle.history.specs.Tags.{kindNumber}
+use Rattle.history.specs.Server.{Server, Stored, elementOf, atOrBelowFloor, storeElement, finalised, answerTo, query, preWrite, writeFinalise, readAnswer, readFinalise, serverStepOf, serverStep}
+use Rattle.history.specs.Rig.{Rig, withServer, listOf, served}
 use Rattle.history.proofs.Basics.{cond-elim, upd-same, none≢some, some-injective}
 use Rattle.history.proofs.Store.{higher-left, higher-right, higher-elim, store-mem, store-highest, found}
-use Rattle.history.proofs.World.{Setting, Ghost, Knowledge, know, Known, GoodMessage, GoodStored, GoodServer, Good}
-use Rattle.history.proofs.Monotone.{Below, known-up}
+use Rattle.history.proofs.World.{Setting, Ghost, know, Known, GoodMessage, GoodStored, GoodServer, Good}
+use Rattle.history.proofs.Monotone.{known-up}
 use Rattle.history.proofs.Change.{server-rises, server-changed}
 
 -- what holds of the message sent, if there is one, holds of all that are sent

@@ -1,9 +1,9 @@
 -- Tests, and functions changed at one number.
 use Prim.Native.Nat.{ℕ}
 use mathlib.Core.Path.{_≡_, refl}
-use mathlib.Core.Bool.{Bool, true, false, cond, not, _&&_, _||_}
+use mathlib.Core.Bool.{Bool, true, false, cond, _&&_, false≢true}
 use mathlib.Core.Logic.{_⊎_, inl, inr}
-use mathlib.Core.Option.{Option, none, some}
+use mathlib.Core.Option.{none, some, Option·none-ne-some, Option·some-injective}
 use lib.Dec.{eqb}
 use borrow.Author.Tests.{eqb-true, eqb-false, eq-eqb, ne-eqb}
 use Rattle.history.specs.Number.{upd}
@@ -19,7 +19,7 @@ either false = inr refl
 
 pub and-true : (a b : Bool) → (a && b) ≡ true → (a ≡ true) × (b ≡ true)
 and-true true b e = (refl, e)
-and-true false b e = absurd (mathlib.Core.Bool.false≢true e)
+and-true false b e = absurd (false≢true e)
 
 -- a function changed at n, shown at m: m is n, or m is another
 pub upd-elim : {A : Type 0} (P : A → Type 0) (f : ℕ → A) (n : ℕ) (a : A) (m : ℕ) → (m ≡ n → P a) → ((m ≡ n → ⊥) → P (f m)) → P (upd f n a m)
@@ -36,7 +36,7 @@ unfolding upd
 upd-other f n a m h = rw (ne-eqb m n h)
 
 pub none≢some : {A : Type 0} {a : A} → none ≡ some a → ⊥
-none≢some {a = a} e = mathlib.Core.Option.Option·none-ne-some a e
+none≢some {a = a} e = Option·none-ne-some a e
 
 pub some-injective : {A : Type 0} {a b : A} → some a ≡ some b → a ≡ b
-some-injective {a = a} {b = b} e = mathlib.Core.Option.Option·some-injective a b e
+some-injective {a = a} {b = b} e = Option·some-injective a b e

@@ -11,7 +11,7 @@ use Rattle.config.specs.declared.Config.{Config}
 use Rattle.tag.specs.declared.Tag.{Tag}
 use Rattle.history.specs.Client.{firstNo}
 use Rattle.history.specs.Board.{Call, Event, refused}
-use Rattle.history.specs.Rig.{Rig, Turn, Code, codeOf, only, move, moveOf, partyQuestions, hasRoom, questions, unlessNo, event, run, Runs, refuses, moves}
+use Rattle.history.specs.Rig.{Rig, Code, codeOf, moveOf, partyQuestions, questions, unlessNo, event, run, Runs, refuses, moves}
 use Rattle.history.proofs.Move.{numberOf, code-number}
 
 -- questions that were all answered with yes: the first of them were
@@ -36,12 +36,18 @@ module _ {Value Element : Type 0} (key : Tag → ℕ) (encode : Value → ℕ �
   event-runs r h runs a board (some w) e true f =
       moves runs a w e (firstNo-append (partyQuestions cfg r a w) _ (eqb-true _ 0 f)) (λ i. board (code-number (a .code) w e ∙ ap numberOf i))
 
+  -- the model's event, whatever it answers, goes on with the run
+  pub event-run : (r : Rig Value Element) (h : List (Event Value)) → Run r h → (a : Call Value) → (a .code ≡ 1 → IsBoard (a .board)) → Run (event key encode decode cfg most r a .rig) (h ++ (record { call = a; answer = event key encode decode cfg most r a .answer } ∷ []))
+  unfolding event unlessNo
+  event-run r h runs a board =
+      event-runs r h runs a board (codeOf (a .code)) refl (eqb (firstNo (questions key encode decode cfg most r a (codeOf (a .code)))) 0) refl
+
   pub calls-run : (calls : List (Call Value)) → ((a : Call Value) → List·Memᴰ a calls → a .code ≡ 1 → IsBoard (a .board)) → (r : Rig Value Element) (h : List (Event Value)) → Run r h → (r′ : Rig Value Element) × Run r′ (h ++ run key encode decode cfg most r calls)
-  unfolding run event unlessNo
+  unfolding run
   calls-run [] boards r h runs = (r, subst (Run r) (sym (append-nil h)) runs)
   calls-run (a ∷ later) boards r h runs =
       let t = event key encode decode cfg most r a in
       let x : Event Value = record { call = a; answer = t .answer } in
-      let next : Run (t .rig) (h ++ (x ∷ [])) = event-runs r h runs a (boards a (List·Memᴰ·head refl)) (codeOf (a .code)) refl (eqb (firstNo (questions key encode decode cfg most r a (codeOf (a .code)))) 0) refl in
+      let next = event-run r h runs a (boards a (List·Memᴰ·head refl)) in
       let rest = calls-run later (λ b i. boards b (List·Memᴰ·tail i)) (t .rig) (h ++ (x ∷ [])) next in
       (rest .0, subst (Run (rest .0)) (append-assoc h (x ∷ []) (run key encode decode cfg most (t .rig) later)) (rest .1))

@@ -1,9 +1,8 @@
 -- The world changes in one place: messages come or go, a server is changed, a client is changed. All else stays good.
-use Prim.Native.Nat.{ℕ, _+_, _≤_, _<_}
-use mathlib.Core.Path.{_≡_, refl, sym, _∙_, ap, subst}
-use mathlib.Core.Logic.{_⊎_, inl, inr, ⊎-elim}
-use mathlib.Core.Option.{Option, none, some}
-use mathlib.Core.List.{List, [], _∷_, _++_, List·Memᴰ, List·Memᴰ·append-cases}
+use Prim.Native.Nat.{ℕ, _+_, _≤_}
+use mathlib.Core.Path.{_≡_, refl, sym, ap, subst}
+use mathlib.Core.Logic.{⊎-elim}
+use mathlib.Core.List.{List, List·Memᴰ, List·Memᴰ·append-cases}
 use native.Mathlib.Nat.{le-refl}
 use native.Mathlib.Omega.{arith}
 use Rattle.record.specs.Message.{Message}
@@ -11,7 +10,7 @@ use Rattle.history.specs.Number.{upd}
 use Rattle.history.specs.Server.{Server}
 use Rattle.history.specs.Client.{Client}
 use Rattle.history.specs.Rig.{Rig, withServer, withClient, withFlight}
-use Rattle.history.proofs.Basics.{upd-elim, upd-same, upd-other}
+use Rattle.history.proofs.Basics.{upd-elim, upd-other}
 use Rattle.history.proofs.World.{Setting, Ghost, Knowledge, know, GoodMessage, GoodServer, GoodPhase, GoodLog, Good}
 use Rattle.history.proofs.Monotone.{Below, Keeps, keeps-refl, message-up, server-up, phase-up}
 use Rattle.history.proofs.LogUp.{log-up}

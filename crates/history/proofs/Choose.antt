@@ -1,6 +1,6 @@
 -- Asking ends: a read takes the best tag, a write the next above it.
-use Prim.Native.Nat.{ℕ, _+_, _≤_, _<_}
-use mathlib.Core.Path.{_≡_, refl, sym, _∙_, ap, subst}
+use Prim.Native.Nat.{ℕ, _+_, _≤_}
+use mathlib.Core.Path.{_≡_, refl, sym, _∙_}
 use mathlib.Core.Bool.{Bool, true, false≢true}
 use mathlib.Core.Logic.{_⊎_, inl, inr, ⊎-elim}
 use mathlib.Core.Option.{Option, none, some}
@@ -8,16 +8,15 @@ use native.Mathlib.Nat.{le-refl}
 use native.Mathlib.Omega.{arith}
 use Rattle.tag.specs.declared.Tag.{Tag}
 use Rattle.record.specs.declared.Kind.the-variants.{PreWrite, ReadFinalise}
-use Rattle.history.specs.Number.{upd, nobody, nothingYet}
-use Rattle.history.specs.Tags.{startingTag, kindNumber}
-use Rattle.history.specs.Client.{Client, Moved, enough, nextTag, finalisingRead, preWriting, sendEach, sendReadFinalises, sendPreWrites}
-use Rattle.history.specs.Board.{Answer}
+use Rattle.history.specs.Number.{upd, nothingYet}
+use Rattle.history.specs.Tags.{kindNumber}
+use Rattle.history.specs.Client.{Moved, enough, nextTag, sendReadFinalises, sendPreWrites}
 use Rattle.history.specs.Rig.{Rig, withClient}
 use Rattle.history.proofs.Basics.{upd-elim, upd-same, upd-other, none≢some, some-injective}
-use Rattle.history.proofs.World.{Setting, Ghost, Knowledge, know, Known, Wrote, Current, Asking, FinalisingRead, PreWriting, Good}
+use Rattle.history.proofs.World.{Setting, Ghost, know, Known, Current, Asking, Good}
 use Rattle.history.proofs.Monotone.{Below, known-up}
 use Rattle.history.proofs.LogChose.{chose, Choice}
-use Rattle.history.proofs.Send.{Sent, sent-good}
+use Rattle.history.proofs.Send.{sent-good}
 use Rattle.history.proofs.EndOfAsking.{best-above, next-above, next-new}
 use Rattle.history.proofs.ClientChange.{taken-up, client-chose}
 

@@ -1,8 +1,7 @@
 -- A client goes on, takes a tag, ends, begins: the changes of the world that its moves are made of.
-use Prim.Native.Nat.{ℕ, _+_, _≤_, _<_}
-use mathlib.Core.Path.{_≡_, refl, sym, _∙_, ap, subst}
-use mathlib.Core.Bool.{Bool, true, false≢true}
-use mathlib.Core.Logic.{_⊎_, inl, inr, ⊎-elim}
+use Prim.Native.Nat.{ℕ, _+_, _≤_}
+use mathlib.Core.Path.{_≡_, refl, sym, _∙_, ap}
+use mathlib.Core.Bool.{false≢true}
 use mathlib.Core.Option.{Option, none, some}
 use mathlib.Core.List.{List, List·Memᴰ}
 use native.Mathlib.Nat.{le-refl}
@@ -15,8 +14,8 @@ use Rattle.history.specs.Client.{Client, asking}
 use Rattle.history.specs.Board.{Answer}
 use Rattle.history.specs.Rig.{Rig, withClient}
 use Rattle.history.proofs.Basics.{upd-elim, upd-same, upd-other, none≢some, some-injective}
-use Rattle.history.proofs.Quorum.{Quorum, quorum-map}
-use Rattle.history.proofs.World.{Setting, Ghost, Knowledge, know, Known, GoodMessage, GoodPhase, Current, Idle, Asking, GoodLog, Good}
+use Rattle.history.proofs.Quorum.{quorum-map}
+use Rattle.history.proofs.World.{Setting, Ghost, know, GoodMessage, GoodPhase, Idle, Asking, Good}
 use Rattle.history.proofs.Monotone.{Below, Keeps, keeps-refl, message-up, phase-up}
 use Rattle.history.proofs.LogUp.{log-up}
 use Rattle.history.proofs.LogChose.{chose, Choice, log-chose}

@@ -1,16 +1,15 @@
 -- The first half of a client's step: an awaited answer is counted, and the phase stays good.
 use Prim.Native.Nat.{ℕ, _≤_}
-use mathlib.Core.Path.{_≡_, refl, sym, _∙_, ap, subst}
-use mathlib.Core.Bool.{Bool, true, false, not, _&&_}
-use mathlib.Core.Option.{Option, none, some}
+use mathlib.Core.Path.{_≡_, sym, _∙_, ap, subst}
+use mathlib.Core.Bool.{Bool, true, not}
+use mathlib.Core.Option.{Option, some}
 use lib.Dec.{eqb}
 use borrow.Author.Tests.{eqb-true}
 use native.Mathlib.Omega.{arith}
-use Rattle.tag.specs.declared.Tag.{Tag}
 use Rattle.record.specs.Message.{Message}
 use Rattle.history.specs.Number.{upd}
 use Rattle.history.specs.Tags.{kindNumber, higher, same}
-use Rattle.history.specs.Client.{Client, Phase, idle, asking, preWriting, finalisingWrite, finalisingRead, down, isFirst, awaits, awaited, counting}
+use Rattle.history.specs.Client.{Phase, idle, asking, preWriting, finalisingWrite, finalisingRead, down, isFirst, awaits, counting}
 use Rattle.history.proofs.Basics.{and-true, upd-elim, some-injective}
 use Rattle.history.proofs.Store.{higher-left, higher-right, higher-elim}
 use Rattle.history.proofs.World.{Setting, Ghost, Knowledge, Known, GoodMessage, GoodPhase}

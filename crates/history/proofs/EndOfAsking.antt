@@ -2,22 +2,19 @@
 -- tag of an operation that ended before. The two meet: the best tag is at least that tag. A write takes a tag above it, and so one that no
 -- write has.
 use Prim.Native.Nat.{ℕ, _≤_, _<_}
-use mathlib.Core.Path.{_≡_, refl, sym, _∙_, ap, subst}
+use mathlib.Core.Path.{_≡_, sym, _∙_, ap}
 use mathlib.Core.Bool.{Bool, true}
-use mathlib.Core.Logic.{_⊎_, inl, inr, ⊎-elim}
-use mathlib.Core.Option.{Option, none, some}
+use mathlib.Core.Logic.{⊎-elim}
+use mathlib.Core.Option.{Option, some}
 use native.Mathlib.Omega.{arith}
 use borrow.Author.Tests.{leb-true}
 use Rattle.tag.specs.declared.Tag.{Tag}
-use Rattle.history.specs.Number.{upd, count}
-use Rattle.history.specs.Tags.{startingTag}
+use Rattle.history.specs.Number.{count}
 use Rattle.history.specs.Client.{quorum, enough, nextTag}
 use Rattle.history.specs.Board.{Answer}
-use Rattle.history.proofs.Basics.{upd-elim, upd-same, none≢some, some-injective}
+use Rattle.history.proofs.Basics.{none≢some}
 use Rattle.history.proofs.Quorum.{Quorum, quorums-meet}
-use Rattle.history.proofs.World.{Setting, Ghost, Knowledge, Known, Wrote, Asking, GoodLog}
-use Rattle.history.proofs.Monotone.{Below}
-use Rattle.history.proofs.LogChose.{Choice}
+use Rattle.history.proofs.World.{Setting, Ghost, Knowledge, Wrote, Asking, GoodLog}
 
 module _ (S : Setting) where
   open Setting S using (Value, cfg, key, IsBoard, tags, positive)

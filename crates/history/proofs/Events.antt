@@ -1,16 +1,14 @@
 -- A list of events with one more: what stands at a place, and what is the first to name a client.
-use Prim.Native.Nat.{ℕ, zero, suc, _+_, _≤_, _<_}
-use mathlib.Core.Path.{_≡_, refl, sym, _∙_, ap, subst}
-use mathlib.Core.Bool.{Bool, true, false, cond}
+use Prim.Native.Nat.{ℕ, zero, suc, _+_, _<_}
+use mathlib.Core.Path.{_≡_, refl, sym, _∙_, ap}
+use mathlib.Core.Bool.{cond}
 use mathlib.Core.Logic.{_⊎_, inl, inr, ⊎-elim, ⊎-map}
-use mathlib.Core.Option.{Option, none, some}
+use mathlib.Core.Option.{none, some}
 use mathlib.Core.List.{List, [], _∷_, _++_}
-use lib.ListN.{length, drop, getElem?, length-append, length-drop}
-use native.Mathlib.Nat.{suc-inj}
-use native.Mathlib.Numerals.{add-one}
+use lib.ListN.{length, getElem?}
 use native.Mathlib.Omega.{arith}
 use Rattle.history.specs.Board.{Answer, Event, names, firstNaming}
-use Rattle.history.proofs.Basics.{cond-elim, either, none≢some, some-injective}
+use Rattle.history.proofs.Basics.{either, none≢some, some-injective}
 
 module _ {A : Type 0} where
   pub at-within : (xs : List A) (p : ℕ) (y : A) → getElem? xs p ≡ some y → p < length xs

@@ -3,7 +3,6 @@
 use Prim.Native.Nat.{ℕ, _+_, _*_}
 use mathlib.Core.Path.{_≡_, refl}
 use mathlib.Core.List.{List, [], _∷_, map}
-use mathlib.Core.Option.{Option, none, some}
 use lib.ListN.{length}
 use native.Mathlib.Omega.{arith}
 use Rattle.config.specs.declared.Config.{Config}
@@ -15,7 +14,7 @@ use Rattle.history.specs.Client
 use Rattle.history.specs.Rig
 use Rattle.history.specs.Laws.{TagOrder, Coding, Rising, ElementsOf}
 use Rattle.history.proofs.Theorem.{atomic-calls}
-use Rattle.history.specs.Board.{Atomic, Call, Answer, Event, refused, nothingEnded, writtenBy, spentBy, readBy}
+use Rattle.history.specs.Board.{Atomic, Call, Answer, refused, nothingEnded, readBy}
 
 abbrev pub config : Config
 config = record { n = 3; k = 1; d = 0; e = 1; c = 2 }

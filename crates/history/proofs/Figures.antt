@@ -2,14 +2,14 @@
 use Prim.Native.Nat.{ℕ, _+_, _*_}
 use mathlib.Core.Path.{_≡_, refl}
 use mathlib.Core.Option.{Option, none, some}
-use mathlib.Core.List.{List, [], _∷_}
+use mathlib.Core.List.{[], _∷_}
 use Rattle.config.specs.declared.Config.{Config}
 use Rattle.tag.specs.declared.Tag.{Tag}
 use Rattle.record.specs.declared.Kind.{Kind}
 use Rattle.record.specs.declared.Kind.the-variants.{PreWrite, PreWriteAnswer, ReadFinalise, ReadFinaliseAnswer}
 use Rattle.record.specs.Message.{Message}
-use Rattle.history.specs.Tags.{startingTag, same, atOrBelow, higher, lower}
-use Rattle.history.specs.Server.{Server, Stored, Served, freshServer, isStored, elementOf, atOrBelowFloor, smallest, inPlaceOf, others, dropSmallest, addLast, store, storeElement, finalised, answerTo, query, preWrite, writeFinalise, readAnswer, readFinalise, serverStepOf, serverStep}
+use Rattle.history.specs.Tags.{startingTag, lower}
+use Rattle.history.specs.Server.{Server, Served, freshServer, isStored, elementOf, atOrBelowFloor, smallest, inPlaceOf, others, dropSmallest, store, storeElement, answerTo, preWrite, readAnswer, readFinalise, serverStepOf, serverStep}
 use Rattle.history.specs.Client.{quorum}
 
 abbrev sized : ℕ → ℕ → Config

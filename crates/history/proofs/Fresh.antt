@@ -1,17 +1,17 @@
 -- The invariant holds of the fresh rig.
-use Prim.Native.Nat.{ℕ, _≤_, _<_}
-use mathlib.Core.Path.{_≡_, refl, sym, _∙_, ap, subst}
-use mathlib.Core.Logic.{_⊎_, inl, inr}
+use Prim.Native.Nat.{ℕ}
+use mathlib.Core.Path.{_≡_, refl, sym, subst}
+use mathlib.Core.Logic.{inl}
 use mathlib.Core.Option.{Option, none, some}
-use mathlib.Core.List.{List, [], _∷_, List·Memᴰ, List·Memᴰ·not-nil, List·Memᴰ·eq-of-singleton}
+use mathlib.Core.List.{[], List·Memᴰ·not-nil, List·Memᴰ·eq-of-singleton}
 use native.Mathlib.Omega.{arith}
 use Rattle.history.specs.Number.{upd}
 use Rattle.history.specs.Tags.{startingTag}
-use Rattle.history.specs.Server.{Stored, freshServer}
+use Rattle.history.specs.Server.{freshServer}
 use Rattle.history.specs.Client.{freshClient}
-use Rattle.history.specs.Rig.{Rig, freshRig}
+use Rattle.history.specs.Rig.{freshRig}
 use Rattle.history.proofs.Basics.{upd-elim, upd-same, none≢some, some-injective}
-use Rattle.history.proofs.World.{Setting, Ghost, Knowledge, know, Known, GoodStored, GoodServer, GoodLog, Good}
+use Rattle.history.proofs.World.{Setting, Ghost, know, GoodStored, GoodLog, Good}
 use Rattle.history.proofs.Recorded.{Recorded}
 
 module _ (S : Setting) where

@@ -2,14 +2,14 @@
 use Prim.Native.Nat.{ℕ, _+_, _≤_, _<_}
 use mathlib.Core.Path.{_≡_, refl, sym, _∙_, ap, subst}
 use mathlib.Core.Logic.{_⊎_, inl, inr, ⊎-elim, ⊎-map}
-use mathlib.Core.Option.{Option, none, some}
+use mathlib.Core.Option.{Option, some}
 use native.Mathlib.Omega.{arith}
 use Rattle.tag.specs.declared.Tag.{Tag}
 use Rattle.history.specs.Number.{upd}
 use Rattle.history.specs.Tags.{startingTag}
 use Rattle.history.specs.Board.{Answer, refused, nothingEnded, writtenBy, spentBy, readBy}
-use Rattle.history.proofs.Basics.{upd-elim, upd-same, upd-other, none≢some, some-injective}
-use Rattle.history.proofs.World.{Setting, Ghost, Knowledge, Known, Wrote, How, Idle, GoodLog}
+use Rattle.history.proofs.Basics.{upd-elim, upd-other, some-injective}
+use Rattle.history.proofs.World.{Setting, Ghost, Knowledge, Wrote, How, Idle, GoodLog}
 use Rattle.history.proofs.Monotone.{Below, known-up, high-up}
 
 module _ (S : Setting) where

@@ -1,6 +1,6 @@
 -- An operation ends: the record stays good.
 use Prim.Native.Nat.{ℕ, _+_, _≤_, _<_}
-use mathlib.Core.Path.{_≡_, refl, sym, _∙_, ap, subst}
+use mathlib.Core.Path.{_≡_, sym, _∙_, ap, subst}
 use mathlib.Core.Logic.{_⊎_, inl, inr, ⊎-elim, ⊎-map}
 use mathlib.Core.Option.{Option, none, some}
 use native.Mathlib.Omega.{arith}
@@ -10,7 +10,7 @@ use Rattle.history.specs.Tags.{startingTag}
 use Rattle.history.specs.Board.{Answer, refused, nothingEnded, writtenBy, spentBy, readBy}
 use Rattle.history.proofs.Basics.{upd-elim, upd-other, none≢some, some-injective}
 use Rattle.history.proofs.Quorum.{Quorum}
-use Rattle.history.proofs.World.{Setting, Ghost, Knowledge, Known, Wrote, How, GoodLog}
+use Rattle.history.proofs.World.{Setting, Ghost, Knowledge, Wrote, How, GoodLog}
 use Rattle.history.proofs.Monotone.{Below, known-up, high-up}
 
 module _ (S : Setting) where

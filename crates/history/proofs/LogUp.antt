@@ -1,11 +1,8 @@
 -- The record of operations stays good while knowledge grows and events go by.
-use Prim.Native.Nat.{ℕ, _≤_, _<_}
-use mathlib.Core.Path.{_≡_, refl, sym, _∙_}
-use mathlib.Core.Option.{Option, none, some}
+use Prim.Native.Nat.{ℕ, _≤_}
+use mathlib.Core.Path.{_≡_, sym, _∙_}
 use native.Mathlib.Omega.{arith}
-use Rattle.tag.specs.declared.Tag.{Tag}
 use Rattle.history.specs.Tags.{startingTag}
-use Rattle.history.specs.Board.{Answer}
 use Rattle.history.proofs.World.{Setting, Ghost, Knowledge, GoodLog}
 use Rattle.history.proofs.Monotone.{Below, known-up, high-up}
 

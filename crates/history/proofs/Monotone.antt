@@ -1,8 +1,7 @@
 -- Knowledge only grows, and what is good stays good.
 use Prim.Native.Nat.{ℕ, _≤_, _<_}
-use mathlib.Core.Path.{_≡_, refl, sym, _∙_}
-use mathlib.Core.Bool.{Bool, true}
-use mathlib.Core.Option.{Option, none, some}
+use mathlib.Core.Path.{_≡_, refl, _∙_}
+use mathlib.Core.Option.{Option, some}
 use native.Mathlib.Omega.{arith}
 use Rattle.tag.specs.declared.Tag.{Tag}
 use Rattle.record.specs.Message.{Message}
@@ -10,7 +9,7 @@ use Rattle.history.specs.Server.{Server, Stored}
 use Rattle.history.specs.Client.{Phase, idle, asking, preWriting, finalisingWrite, finalisingRead, down}
 use Rattle.history.specs.Board.{Answer}
 use Rattle.history.proofs.Quorum.{Quorum, quorum-map}
-use Rattle.history.proofs.World.{Setting, Ghost, Knowledge, Known, GoodMessage, GoodStored, GoodServer, Current, Idle, Asking, PreWriting, FinalisingWrite, FinalisingRead, GoodPhase}
+use Rattle.history.proofs.World.{Setting, Ghost, Knowledge, Known, GoodMessage, GoodStored, GoodServer, Current, GoodPhase}
 
 module _ (S : Setting) where
   open Setting S using (Value, Element, cfg, key, encode)

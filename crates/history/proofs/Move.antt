@@ -1,32 +1,30 @@
 -- Every event of a run keeps the invariant.
-use Prim.Native.Nat.{ℕ, _+_, _≤_, _<_}
+use Prim.Native.Nat.{ℕ, _+_, _≤_}
 use mathlib.Core.Path.{_≡_, refl, sym, _∙_, ap, subst}
 use mathlib.Core.Bool.{Bool, true, false, cond, not, _&&_, false≢true}
-use mathlib.Core.Logic.{_⊎_, inl, inr, ⊎-elim}
 use mathlib.Core.Option.{Option, none, some}
-use mathlib.Core.List.{List, [], _∷_, _++_, List·Memᴰ, List·Memᴰ·not-nil}
+use mathlib.Core.List.{List, [], _∷_, _++_, List·Memᴰ·not-nil}
 use lib.Dec.{eqb, leb, ltb}
 use lib.ListN.{length, getElem?, length-append}
-use borrow.Author.Tests.{eqb-true, leb-true, ne-eqb}
+use borrow.Author.Tests.{eqb-true, leb-true}
 use native.Mathlib.Nat.{le-refl}
 use native.Mathlib.Omega.{arith}
 use Rattle.record.specs.declared.Kind.the-variants.{Query}
 use Rattle.record.specs.Message.{Message}
-use Rattle.history.specs.Number.{upd, nobody, nothingYet}
+use Rattle.history.specs.Number.{nothingYet}
 use Rattle.history.specs.Tags.{startingTag, kindNumber}
 use Rattle.history.specs.Server.{serverStep}
-use Rattle.history.specs.Client.{Client, Phase, idle, asking, preWriting, finalisingWrite, finalisingRead, down, isIdle, isDown, sendEach, beginClient, beginQuestions, clientStep, firstNo, highestNumber}
-use Rattle.history.specs.Board.{Call, Answer, Event, refused, nothingEnded, isAccepted, names}
-use Rattle.history.specs.Rig.{Rig, Turn, Code, beginWrite, beginRead, handOver, lose, double, crashServer, crashClient, codeOf, isForServer, isWithin, listOf, without, withServer, withClient, withFlight, freshRig, begun, served, answered, only, handed, handedAt, move, partyQuestions, Runs, fresh, refuses, moves}
-use Rattle.history.proofs.Basics.{cond-elim, and-true, either, upd-same, none≢some, some-injective}
-use Rattle.history.proofs.World.{Setting, Ghost, Knowledge, know, Known, Idle, GoodMessage, GoodPhase, GoodLog, Good}
-use Rattle.history.proofs.Monotone.{known-up}
+use Rattle.history.specs.Client.{Phase, idle, asking, preWriting, finalisingWrite, finalisingRead, down, isIdle, isDown, sendEach, beginClient, beginQuestions, clientStep, firstNo, highestNumber}
+use Rattle.history.specs.Board.{Call, Event, refused, nothingEnded, isAccepted, names}
+use Rattle.history.specs.Rig.{Rig, Turn, Code, beginWrite, beginRead, handOver, lose, double, crashServer, crashClient, codeOf, isForServer, isWithin, listOf, without, withClient, withFlight, freshRig, begun, served, answered, only, handed, handedAt, move, partyQuestions, Runs, fresh, refuses, moves}
+use Rattle.history.proofs.Basics.{cond-elim, and-true, upd-same, none≢some, some-injective}
+use Rattle.history.proofs.World.{Setting, Ghost, Knowledge, know, Known, Idle, GoodMessage, GoodPhase, Good}
 use Rattle.history.proofs.Change.{later, flight-changed}
 use Rattle.history.proofs.ServerMove.{server-good}
-use Rattle.history.proofs.Send.{Sent, sent-good}
-use Rattle.history.proofs.ClientChange.{client-moved, begins, asks, begins-up, client-began}
+use Rattle.history.proofs.Send.{sent-good}
+use Rattle.history.proofs.ClientChange.{client-moved, begins, asks, client-began}
 use Rattle.history.proofs.Settle.{Outcome, still, closes, client-good}
-use Rattle.history.proofs.Recorded.{NoBegin, Coded, Opens, Recorded, next-still, next-closes, next-begins}
+use Rattle.history.proofs.Recorded.{Coded, Recorded, next-still, next-closes, next-begins}
 use Rattle.history.proofs.Fresh.{blank, fresh-good, fresh-recorded}
 use Rattle.history.proofs.Flight.{at-mem, without-mem, doubled-mem}
 
@@ -207,13 +205,10 @@ module _ (S : Setting) where
       let ten = asked-yes 10 (isIdle (x .phase)) ((11, ltb (x .operation) highestNumber) ∷ []) (λ h. omega arith) (nine .1) in
       (eight .0, ten .0)
 
-  -- a server crashes: it keeps what it has
-  abbrev crashed : Rig Value Element → ℕ → Rig Value Element
-  crashed r s = record { servers = r .servers; up = upd (r .up) s false; clients = r .clients; inFlight = r .inFlight }
-
-  crashed-good : {g : Ghost S} {now : ℕ} (r : Rig Value Element) (s : ℕ) → Good S r g now → Good S (crashed r s) g now
+  -- a server crashes: what is good does not look at who is up
+  crashed-good : {g : Ghost S} {now : ℕ} (r : Rig Value Element) (up : ℕ → Bool) → Good S r g now → Good S (record { servers = r .servers; up = up; clients = r .clients; inFlight = r .inFlight }) g now
   unfolding know
-  crashed-good r s a =
+  crashed-good r up a =
       record { messages = a .messages; servers = a .servers; base = a .base; clients = a .clients; log = a .log }
 
   -- a client crashes
@@ -241,7 +236,7 @@ module _ (S : Setting) where
       turned r h a call (only (withFlight r (r .inFlight ++ listOf (getElem? (r .inFlight) (call .position))))) (differs (call .code) 1 double e refl) (differs (call .code) 2 double e refl)
       (only-good (flight-changed S (a .good) (r .inFlight ++ listOf (getElem? (r .inFlight) (call .position))) (doubled-mem (call .position) (r .inFlight))))
   moved-invariant r h a call crashServer e f b =
-      turned r h a call (only (crashed r (call .party))) (differs (call .code) 1 crashServer e refl) (differs (call .code) 2 crashServer e refl) (only-good (crashed-good r (call .party) (a .good)))
+      turned r h a call (only _) (differs (call .code) 1 crashServer e refl) (differs (call .code) 2 crashServer e refl) (only-good (crashed-good r _ (a .good)))
   moved-invariant r h a call crashClient e f b =
       turned r h a call (only (withClient r (call .party) (record { operation = r .clients (call .party) .operation; phase = down }) [])) (differs (call .code) 1 crashClient e refl) (differs (call .code) 2 crashClient e refl)
       (downed-good r (call .party) (a .good))

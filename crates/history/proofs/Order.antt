@@ -1,19 +1,19 @@
 -- The order: ended operations, and unended writes that have a tag, by tag, a write before the reads of its tag, and then by begin. It fits.
-use Prim.Native.Nat.{ℕ, zero, suc, _+_, _≤_, _<_}
+use Prim.Native.Nat.{ℕ, _+_, _≤_, _<_}
 use mathlib.Core.Path.{_≡_, refl, sym, _∙_, ap, subst}
 use mathlib.Core.Bool.{Bool, true, false, cond, false≢true}
 use mathlib.Core.Logic.{_⊎_, inl, inr, ⊎-elim}
 use mathlib.Core.Option.{Option, none, some}
-use mathlib.Core.List.{List, [], _∷_, List·Memᴰ}
+use mathlib.Core.List.{List, List·Memᴰ}
 use lib.Dec.{leb}
 use lib.ListN.{length}
 use borrow.Author.Tests.{leb-true, leb-false}
 use native.Mathlib.Omega.{arith}
 use Rattle.tag.specs.declared.Tag.{Tag}
 use Rattle.history.specs.Tags.{startingTag}
-use Rattle.history.specs.Board.{Answer, Event, Deed, refused, nothingEnded, writtenBy, spentBy, readBy, noDeed, unendedWrite, unendedRead, wrote, showed, leftOut, isSpent, bytesShown, writeOf, readOf, endAt, history, MayStand, MustStand, EndedBefore, StandsFirst, Fits, answerTag, tagOf, TagsRise}
+use Rattle.history.specs.Board.{Answer, Event, Deed, refused, nothingEnded, writtenBy, spentBy, readBy, unendedWrite, wrote, showed, leftOut, isSpent, bytesShown, writeOf, readOf, endAt, history, MayStand, MustStand, EndedBefore, Fits, answerTag, tagOf, TagsRise}
 use Rattle.history.proofs.Basics.{either, none≢some, some-injective}
-use Rattle.history.proofs.World.{Setting, Ghost, Knowledge, Known, Wrote, How, GoodLog}
+use Rattle.history.proofs.World.{Setting, Ghost, Knowledge, Wrote, How, GoodLog}
 use Rattle.history.proofs.Recorded.{Recorded, history-blank, end-recorded, history-write, history-read}
 use Rattle.history.proofs.Sort.{Precedes, Sorted, arranged, arranged-mem, arranged-all, arranged-sorted, sorted-once, sorted-first, first-precedes}
 use Rattle.history.proofs.Replay.{Op, writes, reads, shown}

@@ -1,5 +1,5 @@
 -- The elements that a read received, of the k lowest servers that sent one: they are k, of rising servers, and each is its server's.
-use Prim.Native.Nat.{ℕ, zero, suc, _≤_, _<_}
+use Prim.Native.Nat.{ℕ, zero, suc, _≤_}
 use mathlib.Core.Path.{_≡_, refl}
 use mathlib.Core.Option.{Option, none, some}
 use mathlib.Core.List.{List, [], _∷_, _++_}
@@ -8,7 +8,7 @@ use lib.Seq.{length-take-le}
 use native.Mathlib.Nat.{le-refl}
 use native.Mathlib.Omega.{arith}
 use Rattle.history.specs.Number.{pairOf, present}
-use Rattle.history.specs.Laws.{Rising, ElementsOf, Coding}
+use Rattle.history.specs.Laws.{Rising, ElementsOf}
 use Rattle.history.proofs.World.{Setting}
 
 module _ {Element : Type 0} where

@@ -1,17 +1,16 @@
 -- The record says what the history of the events says, and goes on saying it.
-use Prim.Native.Nat.{ℕ, zero, suc, _+_, _≤_, _<_}
+use Prim.Native.Nat.{ℕ, _+_, _<_}
 use mathlib.Core.Path.{_≡_, refl, sym, _∙_, ap, subst}
-use mathlib.Core.Bool.{Bool, true, false, cond, _&&_, false≢true}
-use mathlib.Core.Logic.{_⊎_, inl, inr, ⊎-elim, ⊎-map}
+use mathlib.Core.Bool.{true, false, cond, _&&_, false≢true}
+use mathlib.Core.Logic.{⊎-elim}
 use mathlib.Core.Option.{Option, none, some}
 use mathlib.Core.List.{List, [], _∷_, _++_}
 use lib.Dec.{eqb}
 use lib.ListN.{length, drop, getElem?, length-append, length-drop, drop-of-length-le}
 use lib.Seq.{drop-append-le}
-use borrow.Author.Tests.{eq-eqb}
 use native.Mathlib.Omega.{arith}
 use Rattle.history.specs.Number.{upd}
-use Rattle.history.specs.Board.{Call, Answer, Event, Deed, noDeed, nothingEnded, isAccepted, names, firstNaming, writeOf, readOf, begunBy, deedOf, endOf, endAt, history}
+use Rattle.history.specs.Board.{Call, Answer, Event, noDeed, isAccepted, names, firstNaming, writeOf, readOf, begunBy, deedOf, endOf, endAt, history}
 use Rattle.history.proofs.Basics.{either, upd-elim, upd-same, upd-other, none≢some, some-injective}
 use Rattle.history.proofs.World.{Setting, Ghost, Knowledge, GoodLog}
 use Rattle.history.proofs.Events.{at-within, at-before, at-last, at-cases, first-stays, first-new}

@@ -1,6 +1,6 @@
 -- What the orders that fit have in common, by which a history is shown to have none; and orders of one or two operations.
-use Prim.Native.Nat.{ℕ, _<_}
-use mathlib.Core.Path.{_≡_, refl, sym, _∙_, subst}
+use Prim.Native.Nat.{ℕ}
+use mathlib.Core.Path.{_≡_, refl, sym, subst}
 use mathlib.Core.Logic.{_⊎_, inl, inr, ⊎-elim}
 use mathlib.Core.List.{List, [], _∷_, List·Memᴰ, List·Memᴰ·head, List·Memᴰ·tail, List·Memᴰ·not-nil, List·Memᴰ·cases-cons, List·Memᴰ·eq-of-singleton}
 use Rattle.history.specs.Board.{Deed, after, ShowsState, Shown, MayStand, MustStand, EndedBefore, Once, StandsFirst, Fits}

@@ -1,12 +1,12 @@
 -- Operations in the order of their tags, a write before the reads of its tag, are fed to the single board: each read shows what was
 -- written with its tag.
-use Prim.Native.Nat.{ℕ, _+_, _≤_, _<_}
+use Prim.Native.Nat.{ℕ, _+_, _≤_}
 use mathlib.Core.Path.{_≡_, refl, sym, _∙_, ap, subst}
 use mathlib.Core.Logic.{_⊎_, inl, inr, ⊎-elim}
-use mathlib.Core.Option.{Option, none, some}
-use mathlib.Core.List.{List, [], _∷_, List·Memᴰ, List·Memᴰ·head, List·Memᴰ·tail, List·Memᴰ·not-nil, List·Memᴰ·cases-cons}
+use mathlib.Core.Option.{Option, some}
+use mathlib.Core.List.{List, [], _∷_, List·Memᴰ, List·Memᴰ·head, List·Memᴰ·tail, List·Memᴰ·cases-cons}
 use native.Mathlib.Omega.{arith}
-use Rattle.history.specs.Board.{Deed, noDeed, unendedWrite, unendedRead, wrote, showed, leftOut, after, ShowsState, Shown}
+use Rattle.history.specs.Board.{Deed, unendedWrite, wrote, showed, after, ShowsState, Shown}
 use Rattle.history.proofs.Basics.{some-injective}
 use Rattle.history.proofs.Sort.{Precedes, Sorted}
 

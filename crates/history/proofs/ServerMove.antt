@@ -1,24 +1,22 @@
 -- A server is handed a good message: it stays good, its highest tag does not fall, and what it answers is good.
-use Prim.Native.Nat.{ℕ, _+_, _≤_, _<_}
+use Prim.Native.Nat.{ℕ, _+_, _≤_}
 use mathlib.Core.Path.{_≡_, refl, sym, _∙_, ap, subst}
-use mathlib.Core.Bool.{Bool, true, false, cond}
-use mathlib.Core.Logic.{_⊎_, inl, inr, ⊎-elim}
+use mathlib.Core.Logic.{⊎-elim}
 use mathlib.Core.Option.{Option, none, some}
-use mathlib.Core.List.{List, [], _∷_, List·Memᴰ, List·Memᴰ·not-nil, List·Memᴰ·eq-of-singleton}
+use mathlib.Core.List.{List, List·Memᴰ, List·Memᴰ·not-nil, List·Memᴰ·eq-of-singleton}
 use native.Mathlib.Nat.{le-refl}
 use native.Mathlib.Omega.{arith}
 use Rattle.tag.specs.declared.Tag.{Tag}
 use Rattle.record.specs.declared.Kind.{Kind}
 use Rattle.record.specs.declared.Kind.the-variants.{Query, QueryAnswer, PreWrite, PreWriteAnswer, WriteFinalise, WriteFinaliseAnswer, ReadFinalise, ReadFinaliseAnswer}
 use Rattle.record.specs.Message.{Message}
-use Rattle.history.specs.Number.{upd}
-use Rattle.history.specs.Tags.{kindNumber, higher}
-use Rattle.history.specs.Server.{Server, Served, Stored, elementOf, atOrBelowFloor, store, storeElement, finalised, answerTo, query, preWrite, writeFinalise, readAnswer, readFinalise, serverStepOf, serverStep}
-use Rattle.history.specs.Rig.{Rig, Turn, withServer, listOf, served}
+use Rattle.history.specs.Tags.{kindNumber}
+use Rattle.history.specs.Server.{Server, Stored, elementOf, atOrBelowFloor, storeElement, finalised, answerTo, query, preWrite, writeFinalise, readAnswer, readFinalise, serverStepOf, serverStep}
+use Rattle.history.specs.Rig.{Rig, withServer, listOf, served}
 use Rattle.history.proofs.Basics.{cond-elim, upd-same, none≢some, some-injective}
 use Rattle.history.proofs.Store.{higher-left, higher-right, higher-elim, store-mem, store-highest, found}
-use Rattle.history.proofs.World.{Setting, Ghost, Knowledge, know, Known, GoodMessage, GoodStored, GoodServer, Good}
-use Rattle.history.proofs.Monotone.{Below, known-up}
+use Rattle.history.proofs.World.{Setting, Ghost, know, Known, GoodMessage, GoodStored, GoodServer, Good}
+use Rattle.history.proofs.Monotone.{known-up}
 use Rattle.history.proofs.Change.{server-rises, server-changed}
 
 -- what holds of the message sent, if there is one, holds of all that are sent
@@ -93,14 +91,6 @@ module _ (S : Setting) where
         (reply-good w (listOf o) PreWriteAnswer (m .tag) none (good .known) rises (λ y h. absurd (none≢some h)) (λ h. absurd (omega arith)) (λ h. absurd (omega arith)) (λ h. absurd (omega arith))))
 
     -- the state after a finalise is good, and has the tag
-    finalised-good : GoodServer S (know S r g) s (finalised key v (m .tag))
-    unfolding finalised
-    finalised-good =
-        record {
-          known = higher-elim key (Known S (know S r g)) (v .highest) (m .tag) (a .servers s .known) (good .known);
-          stored = a .servers s .stored;
-        }
-
     finalised-rises : key (v .highest) ≤ key (finalised key v (m .tag) .highest)
     unfolding finalised
     finalised-rises = higher-left key (v .highest) (m .tag)
@@ -108,6 +98,14 @@ module _ (S : Setting) where
     finalised-has : key (m .tag) ≤ key (finalised key v (m .tag) .highest)
     unfolding finalised
     finalised-has = higher-right key (v .highest) (m .tag)
+
+    finalised-good : GoodServer S (know S r g) s (finalised key v (m .tag))
+    unfolding finalised
+    finalised-good =
+        record {
+          known = higher-elim key (Known S (know S r g)) (v .highest) (m .tag) (a .servers s .known) (good .known);
+          stored = a .servers s .stored;
+        }
 
     write-finalise-good : Good S (served r s (writeFinalise key s v m) .rig) g (now + 1)
     unfolding served writeFinalise kindNumber
@@ -138,13 +136,24 @@ module _ (S : Setting) where
         (reply-good w sends ReadFinaliseAnswer (m .tag) none (good .known) rises (λ y l. absurd (none≢some l)) (λ l. absurd (omega arith)) (λ l. has) (λ l. has)))
         i
 
+    -- the server has the tag once it was told to finalise it for a read
+    read-finalised-has : key (m .tag) ≤ key (readFinalise key s v m .server .highest)
+    unfolding readFinalise
+    read-finalised-has = finalised-has
+
+    read-finalised-rises : key (v .highest) ≤ key (readFinalise key s v m .server .highest)
+    unfolding readFinalise
+    read-finalised-rises = finalised-rises
+
+    read-finalised-good : GoodServer S (know S r g) s (readFinalise key s v m .server)
+    unfolding readFinalise
+    read-finalised-good = finalised-good
+
     read-finalise-good : Good S (served r s (readFinalise key s v m) .rig) g (now + 1)
-    unfolding served readFinalise
+    unfolding served
     read-finalise-good =
-        let w = finalised key v (m .tag) in
-        let o = readAnswer key s (v .floor) m (elementOf key (m .tag) (v .stored)) in
-        turn w o finalised-rises finalised-good
-        (read-answer-good w (listOf o) finalised-rises finalised-has (elementOf key (m .tag) (v .stored)) refl)
+        turn (readFinalise key s v m .server) (readFinalise key s v m .answer) read-finalised-rises read-finalised-good
+        (unfold readFinalise in read-answer-good (readFinalise key s v m .server) (listOf (readFinalise key s v m .answer)) read-finalised-rises read-finalised-has (elementOf key (m .tag) (v .stored)) refl)
 
     silent-good : Good S (served r s (record { server = v; answer = none }) .rig) g (now + 1)
     unfolding served

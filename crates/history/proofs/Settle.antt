@@ -1,11 +1,11 @@
 -- The second half of a client's step: what it does once an answer is counted keeps the invariant.
-use Prim.Native.Nat.{ℕ, _+_, _≤_, _<_}
+use Prim.Native.Nat.{ℕ, _+_, _≤_}
 use mathlib.Core.Path.{_≡_, refl, sym, _∙_, ap, subst}
-use mathlib.Core.Bool.{Bool, true, false, cond, _&&_, false≢true}
-use mathlib.Core.Logic.{_⊎_, inl, inr, ⊎-elim}
+use mathlib.Core.Bool.{Bool, true, false≢true}
+use mathlib.Core.Logic.{⊎-elim}
 use mathlib.Core.Option.{Option, none, some}
-use mathlib.Core.List.{List, [], _∷_, List·Memᴰ, List·Memᴰ·not-nil}
-use lib.Dec.{leb, ltb}
+use mathlib.Core.List.{[], List·Memᴰ·not-nil}
+use lib.Dec.{eqb, leb, ltb}
 use lib.ListN.{length, take}
 use borrow.Author.Tests.{leb-true, eq-eqb, eqb-true}
 use native.Mathlib.Nat.{le-refl}
@@ -15,14 +15,14 @@ use Rattle.record.specs.declared.Kind.the-variants.{WriteFinalise}
 use Rattle.record.specs.Message.{Message}
 use Rattle.history.specs.Number.{upd, count, present, nobody, nothingYet}
 use Rattle.history.specs.Tags.{kindNumber}
-use Rattle.history.specs.Client.{Client, Phase, Moved, Ended, idle, asking, preWriting, finalisingWrite, finalisingRead, down, quorum, sendEach, enough, enoughToRead, highestNumber, nextTag, stays, ends, asked, endRead, sendPreWrites, sendReadFinalises, sendWriteFinalises, settling, settle, counting, counted, awaited, awaits, clientStep}
-use Rattle.history.specs.Board.{Answer, nothingEnded, writtenBy, spentBy, readBy, names}
+use Rattle.history.specs.Client.{Phase, Moved, Ended, idle, asking, preWriting, finalisingWrite, finalisingRead, down, quorum, sendEach, enough, enoughToRead, highestNumber, nextTag, stays, ends, asked, endRead, sendPreWrites, sendReadFinalises, sendWriteFinalises, settling, settle, counting, counted, awaited, awaits, clientStep}
+use Rattle.history.specs.Board.{Answer, nothingEnded, names}
 use Rattle.history.specs.Rig.{Rig, withClient, answerOf}
 use Rattle.history.proofs.Basics.{cond-elim, and-true, upd-elim, none≢some, some-injective}
 use Rattle.history.proofs.Quorum.{Quorum}
-use Rattle.history.proofs.World.{Setting, Ghost, Knowledge, know, Known, Current, Idle, Asking, GoodMessage, GoodPhase, GoodLog, Good}
+use Rattle.history.proofs.World.{Setting, Ghost, know, Current, Idle, Asking, GoodMessage, GoodPhase, Good}
 use Rattle.history.proofs.LogEnded.{ended, End}
-use Rattle.history.proofs.Send.{Sent, sent-good}
+use Rattle.history.proofs.Send.{sent-good}
 use Rattle.history.proofs.Count.{phase-counted}
 use Rattle.history.proofs.Present.{decoded}
 use Rattle.history.proofs.ClientChange.{client-moved, client-ended}
@@ -71,7 +71,7 @@ module _ (S : Setting) where
     ends-good board tag how current end naming =
         (ended S g (g .latest c) (now, answerOf c how), client-ended S a c (record { operation = o; phase = idle }) [] (answerOf c how) refl end (λ m i. absurd (List·Memᴰ·not-nil i)) (idle-after (answerOf c how)), closes c board (current .begun) (current .ending) refl refl naming)
 
-    naming-one : (d : ℕ) → lib.Dec.eqb c d ≡ true → d ≡ c
+    naming-one : (d : ℕ) → eqb c d ≡ true → d ≡ c
     naming-one d e = sym (eqb-true c d e)
 
     spent-good : (board : Option Value) → Current S g c board none → Result (ends o Ended.spent)
@@ -158,6 +158,6 @@ module _ (S : Setting) where
       let x = r .clients (m .client) in
       cond-elim (Result a (m .client)) (awaited key x m) (settle encode decode cfg (m .client) (counted key x m)) (stays x)
       (λ e.
-      let parts = and-true (lib.Dec.eqb (m .operation) (x .operation)) (awaits key (x .phase) m) e in
+      let parts = and-true (eqb (m .operation) (x .operation)) (awaits key (x .phase) m) e in
       settle-good a (m .client) (counting key (x .phase) m) (phase-counted S g m good (eqb-true (m .operation) (x .operation) (parts .0)) (x .phase) (parts .1) (a .clients (m .client))))
       (λ e. stays-good a (m .client) (x .phase) (a .clients (m .client)))

@@ -1,10 +1,10 @@
 -- What a server stores after a pre-write is what it stored, and perhaps the new element; what it finds, it stores.
-use Prim.Native.Nat.{ℕ, _+_, _≤_, _<_}
-use mathlib.Core.Path.{_≡_, refl, sym, _∙_, ap}
-use mathlib.Core.Bool.{Bool, true, false, cond, _||_}
+use Prim.Native.Nat.{ℕ, _+_, _≤_}
+use mathlib.Core.Path.{_≡_, refl}
+use mathlib.Core.Bool.{cond, _||_}
 use mathlib.Core.Logic.{_⊎_, inl, inr, ⊎-elim, ⊎-map}
-use mathlib.Core.Option.{Option, none, some}
-use mathlib.Core.List.{List, [], _∷_, _++_, List·Memᴰ, List·Memᴰ·head, List·Memᴰ·tail, List·Memᴰ·append-cases, List·Memᴰ·eq-of-singleton}
+use mathlib.Core.Option.{Option, some}
+use mathlib.Core.List.{List, [], _∷_, List·Memᴰ, List·Memᴰ·head, List·Memᴰ·tail, List·Memᴰ·cases-cons, List·Memᴰ·append-cases, List·Memᴰ·eq-of-singleton}
 use lib.Dec.{ltb}
 use lib.ListN.{length}
 use borrow.Author.Tests.{ltb-true, ltb-false, eqb-true}
@@ -36,8 +36,8 @@ module _ {Element : Type 0} (key : Tag → ℕ) where
   inPlace-mem u y x [] i = inr i
   inPlace-mem u y x (z ∷ zs) i =
       cond-elim (λ (l : List (Stored Element)). List·Memᴰ x l → (x ≡ y) ⊎ List·Memᴰ x (z ∷ zs)) (same key (z .tag) u) (y ∷ zs) (z ∷ inPlaceOf key u y zs)
-      (λ e j. ⊎-map (λ h. h) List·Memᴰ·tail (mathlib.Core.List.List·Memᴰ·cases-cons j))
-      (λ e j. ⊎-elim (λ h. inr (List·Memᴰ·head h)) (λ h. ⊎-map (λ l. l) List·Memᴰ·tail (inPlace-mem u y x zs h)) (mathlib.Core.List.List·Memᴰ·cases-cons j))
+      (λ e j. ⊎-map (λ h. h) List·Memᴰ·tail (List·Memᴰ·cases-cons j))
+      (λ e j. ⊎-elim (λ h. inr (List·Memᴰ·head h)) (λ h. ⊎-map (λ l. l) List·Memᴰ·tail (inPlace-mem u y x zs h)) (List·Memᴰ·cases-cons j))
       i
 
   others-mem : (u : Tag) (y x : Stored Element) (xs : List (Stored Element)) → List·Memᴰ x (others key u y xs) → (x ≡ y) ⊎ List·Memᴰ x xs

@@ -1,13 +1,12 @@
 -- The teeth of the definition: histories that no order fits, and histories that one fits. Boards are numbers here, the starting board is 0.
 use Prim.Native.Nat.{ℕ, zero, suc, _<_}
-use mathlib.Core.Path.{_≡_, refl, sym, _∙_, ap}
+use mathlib.Core.Path.{_≡_, refl, sym}
 use mathlib.Core.Logic.{_⊎_, inl, inr}
-use mathlib.Core.Option.{Option, none, some}
 use mathlib.Core.List.{List, [], _∷_}
 use native.Mathlib.Omega.{arith}
 use Rattle.tag.specs.declared.Tag.{Tag}
 use Rattle.history.specs.Board
-use Rattle.history.specs.Board.{Call, Answer, Event, Deed, refused, nothingEnded, writtenBy, spentBy, readBy, unendedWrite, wrote, showed, history, after, ShowsState, Shown, MayStand, MustStand, EndedBefore, StandsFirst, Fits}
+use Rattle.history.specs.Board.{Answer, Event, Deed, refused, nothingEnded, writtenBy, spentBy, readBy, history, after, ShowsState, Shown, MayStand, MustStand, EndedBefore, StandsFirst, Fits}
 use Rattle.history.proofs.Basics.{some-injective}
 use Rattle.history.proofs.Refute.{first-one, carried, fits-one, fits-two}
 

@@ -2,7 +2,7 @@
 -- fits), specs/Rig.antt (the rig's events) and specs/Laws.antt (what is asked of the order of tags and of the code).
 use Prim.Native.Nat.{ℕ, _≤_}
 use mathlib.Core.Path.{_≡_, refl}
-use mathlib.Core.List.{List, [], _∷_, _++_, List·Memᴰ}
+use mathlib.Core.List.{List, [], List·Memᴰ}
 use Rattle.config.specs.declared.Config.{Config}
 use Rattle.tag.specs.declared.Tag.{Tag}
 use Rattle.history.specs.Board.{Call, Event, Atomic}

@@ -62,6 +62,7 @@ module _ {Value : Type 0} where
   names c (spentBy c′) = eqb c′ c
   names c (readBy c′ t v) = eqb c′ c
 
+  -- the answer is spent
   unfoldable pub isSpent : Answer Value → Bool
   isSpent (refused n) = false
   isSpent nothingEnded = false
@@ -83,11 +84,12 @@ module _ {Value : Type 0} where
   firstNaming c p [] = none
   firstNaming c p (x ∷ xs) = cond (names c (x .answer)) (some (p, x .answer)) (firstNaming c (p + 1) xs)
 
-  -- "A write's bytes are those handed in at its begin"
+  -- a write, given what ends it: "A write's bytes are those handed in at its begin"
   unfoldable pub writeOf : Value → Option (ℕ × Answer Value) → Deed Value
   writeOf v none = unendedWrite v
   writeOf v (some e) = cond (isSpent (e .1)) leftOut (wrote v (e .0))
 
+  -- a read, given what ends it
   unfoldable pub readOf : Option (ℕ × Answer Value) → Deed Value
   readOf none = unendedRead
   readOf (some e) = cond (isSpent (e .1)) leftOut (showed (bytesShown (e .1)) (e .0))
@@ -98,6 +100,7 @@ module _ {Value : Type 0} where
       cond (isAccepted (x .answer) && eqb (x .call .code) 1) (writeOf (x .call .board) end)
       (cond (isAccepted (x .answer) && eqb (x .call .code) 2) (readOf end) noDeed)
 
+  -- what stands at a place, if anything does, begins
   unfoldable pub deedOf : Option (Event Value) → Option (ℕ × Answer Value) → Deed Value
   deedOf none end = noDeed
   deedOf (some x) end = begunBy x end
@@ -195,6 +198,7 @@ module _ {Value : Type 0} where
   answerTag (spentBy c) = none
   answerTag (readBy c t v) = some t
 
+  -- the tag with which an operation ended
   unfoldable pub tagOf : Option (ℕ × Answer Value) → Option Tag
   tagOf none = none
   tagOf (some e) = answerTag (e .1)

@@ -80,6 +80,7 @@ module _ {Value Element : Type 0} where
   unfoldable pub freshClient : Client Value Element
   freshClient = record { operation = 0; phase = idle }
 
+  -- the client is idle
   unfoldable pub isIdle : Phase Value Element → Bool
   isIdle idle = true
   isIdle (asking b t cs) = false
@@ -88,6 +89,7 @@ module _ {Value Element : Type 0} where
   isIdle (finalisingRead t cs es) = false
   isIdle down = false
 
+  -- the client is down
   unfoldable pub isDown : Phase Value Element → Bool
   isDown idle = false
   isDown (asking b t cs) = false

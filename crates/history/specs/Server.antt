@@ -1,7 +1,7 @@
 -- The server of document 01, as the protocol sees it: what it keeps and its step on a message. Elements are of any type, tags are
 -- compared by their key.
 use Prim.Native.Nat.{ℕ, _+_}
-use mathlib.Core.Bool.{Bool, true, false, cond, _||_}
+use mathlib.Core.Bool.{Bool, false, cond, _||_}
 use mathlib.Core.Option.{Option, none, some}
 use mathlib.Core.List.{List, [], _∷_, _++_}
 use lib.Dec.{ltb}

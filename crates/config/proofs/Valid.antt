@@ -6,8 +6,8 @@ use Prim.Native.Nat.{ℕ, _+_, _/_, _≤_}
 use native.Mathlib.Omega.{arith}
 use borrow.Author.Tests.{leb-true, le-leb}
 use lib.Dec.{leb}
-use Rattle.laws.specs.Servers.{size, shared}
-use Rattle.laws.proofs.Servers.{size-both}
+use Rattle.laws.specs.Servers.{count, shared}
+use Rattle.laws.proofs.Servers.{count-both}
 use Rattle.config.specs.declared.Config.{Config}
 use Rattle.config.specs.Config.{questions, rigQuestions, quorumOf, Valid}
 use Rattle.config.specs.Questions.{Question, ask, within, firstNo}
@@ -90,6 +90,6 @@ pub quorum-high : (cfg : Config) → Valid cfg → quorumOf cfg ≤ cfg .n
 quorum-high cfg v = omega arith
 
 -- "two quorums share at least k servers"
-pub quorums-share : (cfg : Config) (f g : ℕ → Bool) → quorumOf cfg ≤ size (cfg .n) f → quorumOf cfg ≤ size (cfg .n) g
-    → cfg .k ≤ size (cfg .n) (shared f g)
-quorums-share cfg f g hf hg = omega (arith, size-both (cfg .n) f g)
+pub quorums-share : (cfg : Config) (f g : ℕ → Bool) → quorumOf cfg ≤ count f (cfg .n) → quorumOf cfg ≤ count g (cfg .n)
+    → cfg .k ≤ count (shared f g) (cfg .n)
+quorums-share cfg f g hf hg = omega (arith, count-both f g (cfg .n))

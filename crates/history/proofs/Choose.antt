@@ -55,7 +55,7 @@ module _ (S : Setting) where
       read-number = rw (upd-same (r .clients) c (reads .client)) (le-refl _)
 
       pub read-chose : Good S (withClient r c (reads .client) (reads .sends)) afterRead (now + 1)
-      unfolding sendReadFinalises know kindNumber withClient
+      unfolding sendReadFinalises know withClient
       read-chose =
           client-chose S a c (reads .client) (reads .sends) best (g .bytes) refl (λ n v e. e)
           (record {
@@ -138,7 +138,7 @@ module _ (S : Setting) where
           }
 
       pub write-chose : Good S (withClient r c (writes .client) (writes .sends)) afterWrite (now + 1)
-      unfolding sendPreWrites kindNumber write-known
+      unfolding sendPreWrites write-known
       write-chose =
           client-chose S a c (writes .client) (writes .sends) t bytes refl grows choice
           (sent-good S PreWrite c o t (λ s. some (encode board s)) (λ h. omega arith, λ h. omega arith, λ h. omega arith) write-number write-known (λ s x e. sym (some-injective e)))

@@ -71,7 +71,7 @@ answers =
 
 -- the answers to a list of calls, with M the most that may be in flight
 unfoldable answersTo : ℕ → List (Call ℕ) → List (Answer ℕ)
-unfolding Number.upd Number.count Number.toEach Number.pairOf Number.present Tags.startingTag Tags.higher Tags.lower Tags.kindNumber Server.freshServer Server.isStored Server.elementOf Server.atOrBelowFloor Server.smallest Server.inPlaceOf Server.others Server.dropSmallest Server.addLast Server.store Server.storeElement Server.finalised Server.answerTo Server.query Server.preWrite Server.writeFinalise Server.readAnswer Server.readFinalise Server.serverStepOf Server.serverStep Client.quorum Client.sendEach Client.isFirst Client.enough Client.enoughToRead Client.nextTag Client.freshClient Client.isIdle Client.isDown Client.beginQuestions Client.beginClient Client.awaits Client.awaited Client.counting Client.counted Client.stays Client.ends Client.sendPreWrites Client.sendReadFinalises Client.asked Client.sendWriteFinalises Client.endRead Client.settling Client.settle Client.clientStep Client.firstNo Rig.codeOf Rig.isForServer Rig.isWithin Rig.answerOf Rig.listOf Rig.without Rig.freshRig Rig.withServer Rig.withClient Rig.withFlight Rig.begun Rig.served Rig.answered Rig.only Rig.handed Rig.handedAt Rig.move Rig.partyQuestions Rig.hasRoom Rig.unlessNo Rig.moveOf Rig.questions Rig.event Rig.run
+unfolding Number.upd Number.count Number.toEach Number.pairOf Number.present Tags.startingTag Tags.higher Tags.lower Server.freshServer Server.isStored Server.elementOf Server.atOrBelowFloor Server.smallest Server.inPlaceOf Server.others Server.dropSmallest Server.addLast Server.store Server.storeElement Server.finalised Server.answerTo Server.query Server.preWrite Server.writeFinalise Server.readAnswer Server.readFinalise Server.serverStepOf Server.serverStep Client.quorum Client.sendEach Client.isFirst Client.enough Client.enoughToRead Client.nextTag Client.freshClient Client.isIdle Client.isDown Client.beginQuestions Client.beginClient Client.awaits Client.awaited Client.counting Client.counted Client.stays Client.ends Client.sendPreWrites Client.sendReadFinalises Client.asked Client.sendWriteFinalises Client.endRead Client.settling Client.settle Client.clientStep Client.firstNo Rig.codeOf Rig.isForServer Rig.isWithin Rig.answerOf Rig.listOf Rig.without Rig.freshRig Rig.withServer Rig.withClient Rig.withFlight Rig.begun Rig.served Rig.answered Rig.only Rig.handed Rig.handedAt Rig.move Rig.partyQuestions Rig.hasRoom Rig.unlessNo Rig.moveOf Rig.questions Rig.event Rig.run
 answersTo most calls = map (λ x. x .answer) (Rig.run key encode decode config most (Rig.freshRig encode 0) calls)
 
 pub example : map (λ x. x .answer) (Rig.run key encode decode config 64 (Rig.freshRig encode 0) calls) ≡ answers

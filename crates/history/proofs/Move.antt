@@ -164,7 +164,7 @@ module _ (S : Setting) where
     start-known = record { board = start; is = a .good .log .startBytes; within = omega arith }
 
     begun-good : Good S (begun cfg r c board .rig) after (length h + 1)
-    unfolding begun beginClient kindNumber
+    unfolding begun beginClient
     begun-good =
         client-began S (a .good) c board sends was-idle low within isBoard
         (sent-good S Query c (r .clients c .operation + 1) startingTag nothingYet (λ i. omega arith, λ i. omega arith, λ i. omega arith) number

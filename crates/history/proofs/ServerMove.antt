@@ -54,7 +54,7 @@ module _ (S : Setting) where
         server-changed S a s w (listOf o) rises kept (sent-all (GoodMessage S (know S (withServer r s w (listOf o)) g)) o sent)
 
     query-good : Good S (served r s (query s v m) .rig) g (now + 1)
-    unfolding served query kindNumber
+    unfolding served query
     query-good =
         turn v (some (answerTo s m QueryAnswer (v .highest) none)) (le-refl _) (a .servers s)
         (λ x e. subst (GoodMessage S (know S (withServer r s v (listOf (some (answerTo s m QueryAnswer (v .highest) none)))) g)) (some-injective e)
@@ -81,7 +81,7 @@ module _ (S : Setting) where
     stored-highest (some e) = store-highest key (cfg .d) v (record { tag = m .tag; element = e })
 
     pre-write-good : Good S (served r s (preWrite key (cfg .d) s v m) .rig) g (now + 1)
-    unfolding served preWrite kindNumber
+    unfolding served preWrite
     pre-write-good =
         let w = storeElement key (cfg .d) v (m .tag) (m .element) in
         let o = some (answerTo s m PreWriteAnswer (m .tag) none) in
@@ -108,7 +108,7 @@ module _ (S : Setting) where
         }
 
     write-finalise-good : Good S (served r s (writeFinalise key s v m) .rig) g (now + 1)
-    unfolding served writeFinalise kindNumber
+    unfolding served writeFinalise
     write-finalise-good =
         let w = finalised key v (m .tag) in
         let o = some (answerTo s m WriteFinaliseAnswer (m .tag) none) in
@@ -126,7 +126,7 @@ module _ (S : Setting) where
         sym (x .3) ∙ st .element ∙ ap (λ (b : Value). encode b s) boards
 
     read-answer-good : (w : Server Element) (sends : List (Message Element)) → key (v .highest) ≤ key (w .highest) → key (m .tag) ≤ key (w .highest) → (e : Option Element) → elementOf key (m .tag) (v .stored) ≡ e → (x : Message Element) → readAnswer key s (v .floor) m e ≡ some x → GoodMessage S (know S (withServer r s w sends) g) x
-    unfolding readAnswer kindNumber
+    unfolding readAnswer
     read-answer-good w sends rises has (some e) h x i =
         subst (GoodMessage S (know S (withServer r s w sends) g)) (some-injective i)
         (reply-good w sends ReadFinaliseAnswer (m .tag) (some e) (good .known) rises (λ y j. sym (some-injective j) ∙ found-good e h) (λ j. absurd (omega arith)) (λ j. has) (λ j. has))

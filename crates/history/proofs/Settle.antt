@@ -129,7 +129,7 @@ module _ (S : Setting) where
         (λ e. spent-good (some v) (h .current))
 
     finalise-good : (t : Tag) (cs : ℕ → Bool) → GoodPhase S (know S r g) g c (preWriting t cs) → Result (sendWriteFinalises cfg c o t)
-    unfolding sendWriteFinalises answerOf kindNumber know
+    unfolding sendWriteFinalises answerOf know
     finalise-good t cs h = (
       g,
       client-moved S a c (record { operation = o; phase = finalisingWrite t nobody }) (sendEach cfg WriteFinalise c o t nothingYet) refl

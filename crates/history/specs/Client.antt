@@ -7,20 +7,18 @@ use mathlib.Core.List.{List, [], _∷_}
 use lib.Dec.{eqb, leb, ltb}
 use lib.ListN.{length, take}
 use Rattle.config.specs.declared.Config.{Config}
+use Rattle.config.specs.Config.{quorumOf}
 use Rattle.tag.specs.declared.Tag.{Tag}
 use Rattle.record.specs.declared.Kind.{Kind}
 use Rattle.record.specs.declared.Kind.the-variants.{Query, PreWrite, WriteFinalise, ReadFinalise}
 use Rattle.record.specs.Message.{Message}
+pub use Rattle.record.specs.Record.{highestNumber}
 use Rattle.history.specs.Number.{upd, count, toEach, present, nobody, nothingYet}
 use Rattle.history.specs.Tags.{startingTag, same, higher, kindNumber}
 
 -- "A quorum is q = (N + k) / 2 rounded up, so two quorums share at least k servers."
 unfoldable pub quorum : Config → ℕ
-quorum cfg = (cfg .n + cfg .k + 1) / 2
-
--- 4,294,967,295, the highest operation number and the highest number of a tag
-abbrev pub highestNumber : ℕ
-highestNumber = 4294967295
+quorum cfg = quorumOf cfg
 
 -- "Its state is idle, asking, pre-writing, finalising a write, finalising a read, or down."
 pub data Phase (Value Element : Type 0) : Type 0 where

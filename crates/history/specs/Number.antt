@@ -4,15 +4,11 @@ use mathlib.Core.Bool.{Bool, false, cond}
 use mathlib.Core.List.{List, [], _∷_, _++_}
 use mathlib.Core.Option.{Option, none, some}
 use lib.Dec.{eqb}
+unfoldable pub use Rattle.laws.specs.Servers.{count}
 
 -- the same function, but for what it gives at n
 unfoldable pub upd : {A : Type 0} → (ℕ → A) → ℕ → A → ℕ → A
 upd f n a m = cond (eqb m n) a (f m)
-
--- how many of 1 to n are in the set
-unfoldable pub count : (ℕ → Bool) → ℕ → ℕ
-count f zero = 0
-count f (suc n) = count f n + cond (f (suc n)) 1 0
 
 -- what f gives for 1 to n, in that order
 unfoldable pub toEach : {A : Type 0} → ℕ → (ℕ → A) → List A

@@ -4,12 +4,12 @@ use Prim.Native.Nat.{ℕ}
 use mathlib.Core.Bool.{Bool, cond}
 use lib.Dec.{eqb, leb, ltb}
 use Rattle.tag.specs.declared.Tag.{Tag}
-use Rattle.record.specs.declared.Kind.{Kind}
-use Rattle.record.specs.declared.Kind.the-variants.{Query, QueryAnswer, PreWrite, PreWriteAnswer, WriteFinalise, WriteFinaliseAnswer, ReadFinalise, ReadFinaliseAnswer}
+use Rattle.tag.specs.Tag.{start}
+pub use Rattle.record.specs.Record.{kindNumber}
 
 -- "The starting tag is (0, 0)."
 unfoldable pub startingTag : Tag
-startingTag = record { number = 0; client = 0 }
+startingTag = start
 
 -- two tags are the same
 abbrev pub same : (Tag → ℕ) → Tag → Tag → Bool
@@ -26,14 +26,3 @@ higher key t u = cond (ltb (key t) (key u)) u t
 -- the lower of two tags
 unfoldable pub lower : (Tag → ℕ) → Tag → Tag → Tag
 lower key t u = cond (ltb (key u) (key t)) u t
-
--- "Kinds: 1 query, 2 its answer, 3 pre-write, 4 its answer, 5 write finalise, 6 its answer, 7 read finalise, 8 its answer."
-unfoldable pub kindNumber : Kind → ℕ
-kindNumber Query = 1
-kindNumber QueryAnswer = 2
-kindNumber PreWrite = 3
-kindNumber PreWriteAnswer = 4
-kindNumber WriteFinalise = 5
-kindNumber WriteFinaliseAnswer = 6
-kindNumber ReadFinalise = 7
-kindNumber ReadFinaliseAnswer = 8

@@ -1,10 +1,10 @@
--- Sets of servers: a set has at most n members, two sets that together have more than n share the rest, and a set grows
--- with its members. Assumes nothing.
-use mathlib.Core.Path.{_≡_, refl, ap₂}
+-- Sets of servers: a set has at most n members, two sets that together have more than n share the rest, and a set that is
+-- not empty has a member. Assumes nothing.
+use mathlib.Core.Path.{_≡_, refl}
 use mathlib.Core.Bool.{Bool, true, false, cond, _&&_}
 use Prim.Native.Nat.{ℕ, zero, suc, _+_, _≤_, _<_}
 use native.Mathlib.Omega.{arith}
-use Rattle.laws.specs.Servers.{size, shared}
+use Rattle.laws.specs.Servers.{count, shared}
 
 one-le : (b : Bool) → cond b 1 0 ≤ 1
 one-le true = omega arith
@@ -16,20 +16,23 @@ one-both true false = omega arith
 one-both false true = omega arith
 one-both false false = omega arith
 
-pub size-le : (n : ℕ) (f : ℕ → Bool) → size n f ≤ n
-unfolding size
-size-le zero f = omega arith
-size-le (suc n) f = omega (arith, size-le n f, one-le (f (suc n)))
+pub count-le : (f : ℕ → Bool) (n : ℕ) → count f n ≤ n
+unfolding count
+count-le f zero = omega arith
+count-le f (suc n) = omega (arith, count-le f n, one-le (f (suc n)))
 
 -- two sets: what they have together is at most the n servers and what they share
-pub size-both : (n : ℕ) (f g : ℕ → Bool) → size n f + size n g ≤ n + size n (shared f g)
-unfolding size
-size-both zero f g = omega arith
-size-both (suc n) f g = omega (arith, size-both n f g, one-both (f (suc n)) (g (suc n)))
+pub count-both : (f g : ℕ → Bool) (n : ℕ) → count f n + count g n ≤ n + count (shared f g) n
+unfolding count
+count-both f g zero = omega arith
+count-both f g (suc n) = omega (arith, count-both f g n, one-both (f (suc n)) (g (suc n)))
 
--- a set is counted by its members among 1 to n alone
-pub size-same : (n : ℕ) (f g : ℕ → Bool) → ((s : ℕ) → 1 ≤ s → s ≤ n → f s ≡ g s) → size n f ≡ size n g
-unfolding size
-size-same zero f g h = refl
-size-same (suc n) f g h =
-    ap₂ (λ (a : ℕ) (b : Bool). a + cond b 1 0) (size-same n f g (λ s lo hi. h s lo (omega arith))) (h (suc n) (omega arith) (omega arith))
+-- a set that is not empty has a member
+pub count-member : (f : ℕ → Bool) (n : ℕ) → 1 ≤ count f n → (s : ℕ) × (f s ≡ true)
+unfolding count
+count-member f zero h = absurd (omega arith)
+count-member f (suc n) h = go (f (suc n)) refl (count-member f n)
+  where
+    go : (b : Bool) → f (suc n) ≡ b → (1 ≤ count f n → (s : ℕ) × (f s ≡ true)) → (s : ℕ) × (f s ≡ true)
+    go true e below = (suc n, e)
+    go false e below = below (omega (arith, rw e at h))

@@ -3,9 +3,9 @@ use Prim.Native.Nat.{ℕ, zero, suc, _+_}
 use mathlib.Core.Bool.{Bool, cond, _&&_}
 
 -- how many of the servers 1 to n are in the set
-unfoldable pub size : ℕ → (ℕ → Bool) → ℕ
-size zero f = 0
-size (suc n) f = size n f + cond (f (suc n)) 1 0
+unfoldable pub count : (ℕ → Bool) → ℕ → ℕ
+count f zero = 0
+count f (suc n) = count f n + cond (f (suc n)) 1 0
 
 -- the servers that are in both sets
 abbrev pub shared : (ℕ → Bool) → (ℕ → Bool) → ℕ → Bool

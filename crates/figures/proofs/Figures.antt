@@ -2,9 +2,10 @@
 use mathlib.Core.Path.{refl}
 use Rattle.figures.specs.Figures.{Figures}
 use Rattle.field.specs.Field.{times, sum, doubled, double}
+use Rattle.history.proofs.Evaluate.{answersTo}
 
 pub figures : Figures
-unfolding times sum doubled double
+unfolding times sum doubled double answersTo
 figures =
     record {
       quorum-5-3 = refl;
@@ -15,4 +16,11 @@ figures =
       product-3-7 = refl;
       tag-by-number = refl;
       tag-by-client = refl;
+      floor-1 = refl;
+      floor-2 = refl;
+      floor-3 = refl;
+      not-stored = refl;
+      acknowledged = refl;
+      read-1-1 = refl;
+      read-3-1 = refl;
     }

@@ -2,11 +2,16 @@
 use Prim.Native.Nat.{ℕ}
 use mathlib.Core.Path.{_≡_}
 use mathlib.Core.Bool.{true}
+use mathlib.Core.Option.{Option, none, some}
 use Rattle.config.specs.declared.Config.{Config}
 use Rattle.config.specs.Config.{quorumOf}
 use Rattle.field.specs.Field.{times}
 use Rattle.tag.specs.declared.Tag.{Tag}
-use Rattle.tag.specs.Tag.{above}
+use Rattle.tag.specs.Tag.{above, key}
+use Rattle.record.specs.declared.Kind.{Kind}
+use Rattle.record.specs.declared.Kind.the-variants.{PreWrite, PreWriteAnswer, ReadFinalise, ReadFinaliseAnswer}
+use Rattle.record.specs.Message.{Message}
+use Rattle.history.specs.Server.{Server, Served, elementOf, freshServer, serverStep}
 
 -- N servers, any k, D, E and C clients
 abbrev pub config : ℕ → ℕ → ℕ → ℕ → ℕ → Config
@@ -20,6 +25,27 @@ tag z c = record { number = z; client = c }
 abbrev pub q : ℕ → ℕ → ℕ
 q n k = quorumOf (config n k 0 1 1)
 
+-- a message of client 1 and server 1 in operation 1; elements are numbers here
+abbrev pub message : Kind → Tag → Option ℕ → Message ℕ
+message kind t e = record { kind = kind; client = 1; server = 1; operation = 1; tag = t; element = e }
+
+-- server 1 with D 0 is handed a message
+abbrev pub step : Server ℕ → Kind → Tag → Option ℕ → Served ℕ
+step v kind t e = serverStep key 0 1 v (message kind t e)
+
+-- "D 0, fresh", and after each of the pre-writes
+abbrev pub server-0 : Server ℕ
+server-0 = freshServer 0
+
+abbrev pub server-1 : Server ℕ
+server-1 = step server-0 PreWrite (tag 1 1) (some 1) .server
+
+abbrev pub server-2 : Server ℕ
+server-2 = step server-1 PreWrite (tag 2 1) (some 2) .server
+
+abbrev pub server-3 : Served ℕ
+server-3 = step server-2 PreWrite (tag 1 2) (some 3)
+
 pub record Figures : Type 0 where
   -- "(N, k) gives q: (5, 3) 4; (5, 5) 5; (6, 3) 5; (16, 1) 9."
   pub quorum-5-3 : q 5 3 ≡ 4
@@ -32,3 +58,13 @@ pub record Figures : Type 0 where
   -- "Tag (2, 1) is above (1, 9), and (2, 3) above (2, 1)."
   pub tag-by-number : above (tag 2 1) (tag 1 9) ≡ true
   pub tag-by-client : above (tag 2 3) (tag 2 1) ≡ true
+  -- "D 0, fresh: pre-write (1, 1) gives floor (0, 0); then (2, 1) gives floor (1, 1);"
+  pub floor-1 : server-1 .floor ≡ some (tag 0 0)
+  pub floor-2 : server-2 .floor ≡ some (tag 1 1)
+  -- "then (1, 2) gives floor (1, 2), not stored, acknowledged;"
+  pub floor-3 : server-3 .server .floor ≡ some (tag 1 2)
+  pub not-stored : elementOf key (tag 1 2) (server-3 .server .stored) ≡ none
+  pub acknowledged : server-3 .answer ≡ some (message PreWriteAnswer (tag 1 2) none)
+  -- "a read finalise of (1, 1) gets 15; one of (3, 1) is answered without an element." No answer is 15.
+  pub read-1-1 : step (server-3 .server) ReadFinalise (tag 1 1) none .answer ≡ none
+  pub read-3-1 : step (server-3 .server) ReadFinalise (tag 3 1) none .answer ≡ some (message ReadFinaliseAnswer (tag 3 1) none)

@@ -2,25 +2,20 @@
 -- is one byte, and every server's element is that byte.
 use Prim.Native.Nat.{ℕ, _+_, _*_}
 use mathlib.Core.Path.{_≡_, refl}
-use mathlib.Core.List.{List, [], _∷_, map}
+use mathlib.Core.List.{List, [], _∷_}
 use lib.ListN.{length}
 use native.Mathlib.Omega.{arith}
 use Rattle.config.specs.declared.Config.{Config}
 use Rattle.tag.specs.declared.Tag.{Tag}
-use Rattle.history.specs.Number
-use Rattle.history.specs.Tags
-use Rattle.history.specs.Server
-use Rattle.history.specs.Client
+use Rattle.tag.specs.Tag.{key}
 use Rattle.history.specs.Rig
 use Rattle.history.specs.Laws.{TagOrder, Coding, Rising, ElementsOf}
+use Rattle.history.proofs.Evaluate.{answersTo}
 use Rattle.history.proofs.Theorem.{atomic-calls}
 use Rattle.history.specs.Board.{Atomic, Call, Answer, refused, nothingEnded, readBy}
 
 abbrev pub config : Config
 config = record { n = 3; k = 1; d = 0; e = 1; c = 2 }
-
-abbrev pub key : Tag → ℕ
-key t = t .number * 256 + t .client
 
 abbrev pub encode : ℕ → ℕ → ℕ
 encode v s = v
@@ -31,6 +26,7 @@ decode (x ∷ xs) = x .1
 
 -- "The number decides, then the client number."
 tags : TagOrder config key
+unfolding key
 tags =
     record {
       injective = λ t u h i e.
@@ -69,16 +65,11 @@ answers =
     nothingEnded ∷
     nothingEnded ∷ nothingEnded ∷ readBy 1 (record { number = 0; client = 0 }) 0 ∷ refused 8 ∷ []
 
--- the answers to a list of calls, with M the most that may be in flight
-unfoldable answersTo : ℕ → List (Call ℕ) → List (Answer ℕ)
-unfolding Number.upd Number.count Number.toEach Number.pairOf Number.present Tags.startingTag Tags.higher Tags.lower Server.freshServer Server.isStored Server.elementOf Server.atOrBelowFloor Server.smallest Server.inPlaceOf Server.others Server.dropSmallest Server.addLast Server.store Server.storeElement Server.finalised Server.answerTo Server.query Server.preWrite Server.writeFinalise Server.readAnswer Server.readFinalise Server.serverStepOf Server.serverStep Client.quorum Client.sendEach Client.isFirst Client.enough Client.enoughToRead Client.nextTag Client.freshClient Client.isIdle Client.isDown Client.beginQuestions Client.beginClient Client.awaits Client.awaited Client.counting Client.counted Client.stays Client.ends Client.sendPreWrites Client.sendReadFinalises Client.asked Client.sendWriteFinalises Client.endRead Client.settling Client.settle Client.clientStep Client.firstNo Rig.codeOf Rig.isForServer Rig.isWithin Rig.answerOf Rig.listOf Rig.without Rig.freshRig Rig.withServer Rig.withClient Rig.withFlight Rig.begun Rig.served Rig.answered Rig.only Rig.handed Rig.handedAt Rig.move Rig.partyQuestions Rig.hasRoom Rig.unlessNo Rig.moveOf Rig.questions Rig.event Rig.run
-answersTo most calls = map (λ x. x .answer) (Rig.run key encode decode config most (Rig.freshRig encode 0) calls)
-
-pub example : map (λ x. x .answer) (Rig.run key encode decode config 64 (Rig.freshRig encode 0) calls) ≡ answers
+pub example : answersTo key encode decode config 64 0 calls ≡ answers
 unfolding answersTo calls answers
 example = refl
 
--- Questions 7 to 13 with M 3, each the first that is answered with no: no event 9; client 1 asks; it is not idle; client 2 would make it six
+-- Questions 7 to 10 and 13 with M 3, each the first that is answered with no: no event 9; client 1 asks; it is not idle; client 2 would make it six
 -- messages; there is no fourth; client 2 crashes, and is not up any more; there is no client 3 and no server 4; server 3 crashes, and is
 -- not up any more; nothing can be doubled; the message to server 3 is gone; then one can be doubled, and no more.
 pub refusals : List (Call ℕ)
@@ -107,7 +98,7 @@ refusal-answers =
     refused 8 ∷
     refused 8 ∷ nothingEnded ∷ refused 9 ∷ refused 13 ∷ nothingEnded ∷ nothingEnded ∷ refused 13 ∷ []
 
-pub refused-so : map (λ x. x .answer) (Rig.run key encode decode config 3 (Rig.freshRig encode 0) refusals) ≡ refusal-answers
+pub refused-so : answersTo key encode decode config 3 0 refusals ≡ refusal-answers
 unfolding answersTo refusals refusal-answers
 refused-so = refl
 

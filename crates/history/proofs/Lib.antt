@@ -1,5 +1,6 @@
-pub mod Figures
+pub mod Evaluate
 pub mod Example
+pub mod Coded
 pub mod Basics
 pub mod Quorum
 pub mod World

@@ -1,6 +1,6 @@
 -- Document 01, "Configuration", and questions 1 to 5.
 use Prim.Native.Nat.{ℕ, _+_, _*_, _/_, _≤_}
-use mathlib.Core.Bool.{_&&_}
+use mathlib.Core.Bool.{Bool, _&&_}
 use mathlib.Core.List.{List, [], _∷_}
 use lib.Dec.{leb}
 use Rattle.config.specs.declared.Config.{Config}
@@ -14,25 +14,23 @@ boardLength cfg = cfg .k * cfg .e
 abbrev pub quorumOf : Config → ℕ
 quorumOf cfg = (cfg .n + cfg .k + 1) / 2
 
--- "1. Is N in range? 2. Is k? 3. Is D? 4. Is E? 5. Is C"
-unfoldable pub questions : Config → List Question
-questions cfg =
+-- "1. Is N in range? 2. Is k? 3. Is D? 4. Is E?", and then 5, with the answer that is given
+abbrev pub questionsTo5 : Config → Bool → List Question
+questionsTo5 cfg fifth =
     ask 1 (within 1 16 (cfg .n))
     ∷ ask 2 (within 1 (cfg .n) (cfg .k))
     ∷ ask 3 (leb (cfg .d) 7)
     ∷ ask 4 (within 1 64 (cfg .e))
-    ∷ ask 5 (within 1 16 (cfg .c))
+    ∷ ask 5 fifth
     ∷ []
+
+-- "5. Is C"
+unfoldable pub questions : Config → List Question
+questions cfg = questionsTo5 cfg (within 1 16 (cfg .c))
 
 -- "5. Is C, and in the rig M?"
 unfoldable pub rigQuestions : Config → ℕ → List Question
-rigQuestions cfg m =
-    ask 1 (within 1 16 (cfg .n))
-    ∷ ask 2 (within 1 (cfg .n) (cfg .k))
-    ∷ ask 3 (leb (cfg .d) 7)
-    ∷ ask 4 (within 1 64 (cfg .e))
-    ∷ ask 5 (within 1 16 (cfg .c) && within 1 512 m)
-    ∷ []
+rigQuestions cfg m = questionsTo5 cfg (within 1 16 (cfg .c) && within 1 512 m)
 
 -- a configuration of which questions 1 to 5 are answered yes
 pub record Valid (cfg : Config) : Type 0 where

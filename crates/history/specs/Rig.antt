@@ -130,8 +130,8 @@ module _ {Value Element : Type 0} where
   partyQuestions cfg r a crashClient =
       (8, isWithin (a .party) (cfg .c)) ∷ (9, not (isDown (r .clients (a .party) .phase))) ∷ []
 
-  -- "13. Would at most M be in flight afterwards?" of what the event would leave. (No record of a model is ill formed, so 12 does
-  -- not arise; 1 to 6 are asked of numbers and buffers that a model has not.)
+  -- "13. Would at most M be in flight afterwards?" of what the event would leave. (12 is asked of a record's
+  -- bytes, and 1 to 6 of numbers and buffers: a model has none of these.)
   unfoldable pub hasRoom : ℕ → Turn Value Element → Bool
   hasRoom most t = leb (length (t .rig .inFlight)) most
 
@@ -190,7 +190,14 @@ module _ {Value Element : Type 0} (key : Tag → ℕ) (encode : Value → ℕ �
 
 -- A run of the rig, and its events. Any event may be refused, for any reason, want of room among them, and then nothing changes; an
 -- accepted one is the model's move, once the questions 7 to 11 are answered, and a board that it writes is a board.
-pub data Runs {Value Element : Type 0} (key : Tag → ℕ) (encode : Value → ℕ → Element) (decode : List (ℕ × Element) → Value) (cfg : Config) (IsBoard : Value → Type 0) (start : Value) : Rig Value Element → List (Event Value) → Type 0 where
+pub data Runs {Value Element : Type 0} (key : Tag → ℕ) (encode : Value → ℕ → Element) (decode : List (ℕ × Element) → Value) (cfg : Config)
+    (IsBoard : Value → Type 0) (start : Value) : Rig Value Element → List (Event Value) → Type 0 where
   fresh : Runs key encode decode cfg IsBoard start (freshRig encode start) []
-  refuses : {r : Rig Value Element} {events : List (Event Value)} → Runs key encode decode cfg IsBoard start r events → (a : Call Value) (number : ℕ) → Runs key encode decode cfg IsBoard start r (events ++ (record { call = a; answer = refused number } ∷ []))
-  moves : {r : Rig Value Element} {events : List (Event Value)} → Runs key encode decode cfg IsBoard start r events → (a : Call Value) (w : Code) → codeOf (a .code) ≡ some w → firstNo (partyQuestions cfg r a w) ≡ 0 → (w ≡ beginWrite → IsBoard (a .board)) → Runs key encode decode cfg IsBoard start (move key encode decode cfg r a w .rig) (events ++ (record { call = a; answer = move key encode decode cfg r a w .answer } ∷ []))
+  refuses : {r : Rig Value Element} {events : List (Event Value)} → Runs key encode decode cfg IsBoard start r events
+      → (a : Call Value) (number : ℕ)
+      → Runs key encode decode cfg IsBoard start r (events ++ (record { call = a; answer = refused number } ∷ []))
+  moves : {r : Rig Value Element} {events : List (Event Value)} → Runs key encode decode cfg IsBoard start r events
+      → (a : Call Value) (w : Code) → codeOf (a .code) ≡ some w → firstNo (partyQuestions cfg r a w) ≡ 0
+      → (w ≡ beginWrite → IsBoard (a .board))
+      → Runs key encode decode cfg IsBoard start (move key encode decode cfg r a w .rig)
+      (events ++ (record { call = a; answer = move key encode decode cfg r a w .answer } ∷ []))

@@ -23,7 +23,7 @@ pub record Server (Element : Type 0) : Type 0 where
   pub floor : Option Tag
   pub stored : List (Stored Element)
 
--- what a step leaves: the server, and its answer; no answer is number 15
+-- what a step leaves: the server, and its answer; to the kinds that a server receives, no answer is number 15
 pub record Served (Element : Type 0) : Type 0 where
   pub server : Server Element
   pub answer : Option (Message Element)

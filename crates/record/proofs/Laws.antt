@@ -332,7 +332,7 @@ module _ (cfg : Config) (high : cfg .e ≤ 64) (bs : List ℕ) (bytes : Bytes bs
         clause cfg bs 11 w,
       )
 
--- "A record is well formed exactly if it is what writing some message of the configuration gives."
+-- a record is well formed exactly if it is what writing some message of the configuration gives
 abbrev pub Writes : Config → List ℕ → Type 0
 Writes cfg bs = (m : Message (List ℕ)) × (ofConfig cfg m ≡ true) × (recordOf cfg m ≡ bs)
 

@@ -30,7 +30,7 @@ impl Tag {
         false
     }
 
-    // Whether the tag may stand in a store of `clients` clients.
+    // Whether the tag is allowed where there are `clients` clients.
     pub fn allowed(self, clients: usize) -> bool
         ensures { λ r. ⌜ r ≡ allowed clients self ⌝ }
     {

@@ -1,1 +1,4 @@
+pub mod Config
 pub mod Number
+pub mod Questions
+pub mod Refusal

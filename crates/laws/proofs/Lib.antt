@@ -1,2 +1,4 @@
+pub mod Bools
+pub mod Servers
 pub mod Table
 pub mod Xor

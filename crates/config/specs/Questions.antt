@@ -1,0 +1,23 @@
+-- A call's questions: a list of document 01's numbers, each with the answer, in the document's order. The first that is
+-- answered no is the refusal, and nothing else is.
+use Prim.Native.Nat.{ℕ}
+use mathlib.Core.Bool.{Bool, true, cond, _&&_}
+use mathlib.Core.List.{List, [], _∷_}
+use lib.Dec.{leb}
+
+pub data Question : Type 0 where
+  ask : ℕ → Bool → Question
+
+-- the number of the first question that is answered no, or 0
+unfoldable pub firstNo : List Question → ℕ
+firstNo [] = 0
+firstNo (ask number holds ∷ rest) = cond holds (firstNo rest) number
+
+-- low ≤ x ≤ high
+abbrev pub within : ℕ → ℕ → ℕ → Bool
+within low high x = leb low x && leb x high
+
+-- each number is one of document 01's
+unfoldable pub numbered : List Question → Bool
+numbered [] = true
+numbered (ask number holds ∷ rest) = within 1 18 number && numbered rest

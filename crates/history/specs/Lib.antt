@@ -1,0 +1,4 @@
+pub mod Number
+pub mod Tags
+pub mod Server
+pub mod Client

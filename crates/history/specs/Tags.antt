@@ -1,0 +1,39 @@
+-- Tags and kinds of messages, as the protocol's tests see them. Two tags are compared by one number, the tag's key: the order
+-- of tags is the key's, and the protocol takes it as a parameter.
+use Prim.Native.Nat.{ℕ}
+use mathlib.Core.Bool.{Bool, cond}
+use lib.Dec.{eqb, leb, ltb}
+use Rattle.tag.specs.declared.Tag.{Tag}
+use Rattle.record.specs.declared.Kind.{Kind}
+use Rattle.record.specs.declared.Kind.the-variants.{Query, QueryAnswer, PreWrite, PreWriteAnswer, WriteFinalise, WriteFinaliseAnswer, ReadFinalise, ReadFinaliseAnswer}
+
+-- "The starting tag is (0, 0)."
+unfoldable pub startingTag : Tag
+startingTag = record { number = 0; client = 0 }
+
+-- two tags are the same
+abbrev pub same : (Tag → ℕ) → Tag → Tag → Bool
+same key t u = eqb (key t) (key u)
+
+-- the first tag is at or below the second
+abbrev pub atOrBelow : (Tag → ℕ) → Tag → Tag → Bool
+atOrBelow key t u = leb (key t) (key u)
+
+-- the higher of two tags
+unfoldable pub higher : (Tag → ℕ) → Tag → Tag → Tag
+higher key t u = cond (ltb (key t) (key u)) u t
+
+-- the lower of two tags
+unfoldable pub lower : (Tag → ℕ) → Tag → Tag → Tag
+lower key t u = cond (ltb (key u) (key t)) u t
+
+-- "Kinds: 1 query, 2 its answer, 3 pre-write, 4 its answer, 5 write finalise, 6 its answer, 7 read finalise, 8 its answer."
+unfoldable pub kindNumber : Kind → ℕ
+kindNumber Query = 1
+kindNumber QueryAnswer = 2
+kindNumber PreWrite = 3
+kindNumber PreWriteAnswer = 4
+kindNumber WriteFinalise = 5
+kindNumber WriteFinaliseAnswer = 6
+kindNumber ReadFinalise = 7
+kindNumber ReadFinaliseAnswer = 8

@@ -54,6 +54,15 @@ unfolding leading
 leading-zero z d [] e h = e
 leading-zero z d (c ∷ p) e h = leading-zero z c p (h 0 (omega arith)) (λ i l. h (suc i) (omega arith))
 
+pub interpolated-cong : {F : Type 0} (o : Operations F) (xs : List F) (v w : ℕ → F) → ((r : ℕ) → r < length xs → v r ≡ w r)
+    → (i : ℕ) → interpolated o xs v i ≡ interpolated o xs w i
+unfolding interpolated
+interpolated-cong {F} o xs v w h i =
+    sum-cong o (length xs) (λ r. o .mul (c r) (v r)) (λ r. o .mul (c r) (w r)) (λ r l. ap (o .mul (c r)) (h r l))
+  where
+    c : ℕ → F
+    c r = getD (lagrange o xs (getD xs r (o .nought))) i (o .nought)
+
 module _ {F : Type 0} (o : Operations F) (L : Laws o) where
   leading-quotient : (c s : F) (p : List F) → leading (value o (c ∷ p) s) (divided o s (c ∷ p)) ≡ leading c p
   unfolding value divided leading

@@ -1,5 +1,11 @@
+pub mod Asked
+pub mod Counted
+pub mod Decodable
 pub mod Decoding
+pub mod Digits
+pub mod Encodable
 pub mod Factor
+pub mod Filled
 pub mod Joined
 pub mod Lagrange
 pub mod Listed

@@ -1,1 +1,5 @@
 // The code.
+mod digit;
+mod element;
+mod question;
+mod row;

@@ -6,6 +6,7 @@ pub mod Digits
 pub mod Encodable
 pub mod Factor
 pub mod Filled
+pub mod Horner
 pub mod Joined
 pub mod Lagrange
 pub mod Listed

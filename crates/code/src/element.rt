@@ -14,7 +14,7 @@ pub(crate) fn evaluate(cfg: Config, board: &[u8], s: u8, buffer: &mut [u8])
     let e = cfg.e;
     let mut i = k - 1;
     let last = i * e;
-    bytes::copy(&board[last..], buffer);
+    bytes::copy(&board[last..last + e], buffer);
     while 0 < i {
         i -= 1;
         let at = i * e;

@@ -33,7 +33,7 @@ pub passed : (cfg : Config) (rest : List Question) → firstNo (questions cfg) �
 passed cfg rest none = firstNo-pass (questions cfg) rest (questions-numbered cfg) none
 
 pub stopped : (cfg : Config) (rest : List Question) (got : ℕ) → got ≡ firstNo (questions cfg) → (got ≡ 0 → ⊥)
-  → got ≡ firstNo (questions cfg ++ rest)
+    → got ≡ firstNo (questions cfg ++ rest)
 stopped cfg rest got e some = e ∙ sym (firstNo-stop (questions cfg) rest (λ z. some (e ∙ z)))
 
 -- where the first of all is no, it is 1 to 5's

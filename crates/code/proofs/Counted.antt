@@ -23,6 +23,7 @@ same-quotient count e total q = go (ℕ-discrete (total % e) 0)
   where
     parts : count * e + total % e ≡ total
     parts = ap (λ n. n * e + total % e) (sym q) ∙ div-add-mod' total e
+
     go : Dec (total % e ≡ 0) → eqb (total % e) 0 ≡ eqb total (count * e)
     go (yes z) = eq-eqb (total % e) 0 z ∙ sym (eq-eqb total (count * e) (omega (arith, parts)))
     go (no z) = ne-eqb (total % e) 0 z ∙ sym (ne-eqb total (count * e) (λ w. z (omega (arith, parts))))

@@ -76,7 +76,7 @@ module _ (cfg : Config) (servers : List ℕ) (elements buffer : ℕ) where
       later =
           passes none
           ∙ firstNo-yes 6 shape (ask 17 up ∷ ask 18 many ∷ [])
-            (both-yes whole (eqb buffer (boardLength cfg)) le (eq-eqb buffer (boardLength cfg) lb))
+          (both-yes whole (eqb buffer (boardLength cfg)) le (eq-eqb buffer (boardLength cfg) lb))
 
       pub falling : up ≡ false → 17 ≡ answer
       falling h = sym (later ∙ firstNo-no 17 up (ask 18 many ∷ []) h)

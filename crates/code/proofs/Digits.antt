@@ -13,7 +13,7 @@ use Rattle.field.proofs.Laws.{
   double-plus,
   double-lt,
   plus-assoc,
-  plus-comm
+  plus-comm,
 }
 use Rattle.field.proofs.Linear.{double-byte}
 use Rattle.laws.proofs.Xor.{by-digit, xor-swap}
@@ -49,7 +49,7 @@ masked x d lx ld =
 
 -- the same of two products at once
 pub last-digits : (x c y d : ℕ) → x < 256 → c < 256 → y < 256 → d < 256
-  → plus (plus (double (plus (times x (c / 2)) (times y (d / 2)))) (times x (c % 2))) (times y (d % 2)) ≡ plus (times x c) (times y d)
+    → plus (plus (double (plus (times x (c / 2)) (times y (d / 2)))) (times x (c % 2))) (times y (d % 2)) ≡ plus (times x c) (times y d)
 last-digits x c y d lx lc ly ld =
     ap (λ n. plus (plus n (times x (c % 2))) (times y (d % 2))) (double-plus (times x (c / 2)) (times y (d / 2)))
     ∙ plus-assoc (plus (double (times x (c / 2))) (double (times y (d / 2)))) (times x (c % 2)) (times y (d % 2))

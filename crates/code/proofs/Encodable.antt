@@ -68,7 +68,7 @@ module _ (cfg : Config) (board s buffer : ℕ) where
       last =
           passes none
           ∙ firstNo-yes 6 shape (ask 18 server ∷ [])
-            (both-yes (eqb board (boardLength cfg)) (eqb buffer (cfg .e)) (eq-eqb board (boardLength cfg) lb) (eq-eqb buffer (cfg .e) le))
+          (both-yes (eqb board (boardLength cfg)) (eqb buffer (cfg .e)) (eq-eqb board (boardLength cfg) lb) (eq-eqb buffer (cfg .e) le))
 
       pub server-below : s < 1 → 18 ≡ answer
       server-below h = sym (last ∙ firstNo-no 18 server [] (left-no (leb 1 s) (leb s (cfg .n)) (lt-leb 1 s h)))

@@ -4,7 +4,7 @@ use mathlib.Core.Path.{_≡_, refl, sym, ap, ap₂, _∙_}
 use mathlib.Core.List.{List, [], _∷_, _++_, append-nil}
 use native.Mathlib.Omega.{arith}
 use native.Mathlib.Numerals.{add-one}
-use lib.ListN.{length, getD, drop, set, length-append, length-drop, length-set, drop-of-length-le}
+use lib.ListN.{length, getD, drop, set, length-append, length-drop, length-set, drop-of-length-le, List·getD-append}
 use lib.Seq.{drop-length}
 use Rattle.code.specs.Lists.{listOf}
 use Rattle.code.proofs.Listed.{length-listOf, getD-listOf}
@@ -47,9 +47,13 @@ module _ {A : Type 0} where
   was f i l now d e h = ap (λ k. getD k i d) e ∙ filled-rest f i i l d (omega arith) h
 
   pub turn : (f : ℕ → A) (i : ℕ) (l now : List A) (x : A) → now ≡ filled f i l → i < length l → x ≡ f i
-    → set now i x ≡ filled f (i + 1) l
+      → set now i x ≡ filled f (i + 1) l
   turn f i l now x e h v = ap (λ k. set k i x) e ∙ filled-more f i l x h v
 
   -- and after the last turn all is filled
   pub done : (f : ℕ → A) (i : ℕ) (l now : List A) → now ≡ filled f i l → length l ≡ i → now ≡ listOf (length l) f
   done f i l now e h = e ∙ filled-all f i l (omega arith) ∙ ap (λ n. listOf n f) (sym h)
+
+  -- what is filled
+  pub filled-at : (f : ℕ → A) (n i : ℕ) (l : List A) (d : A) → i < n → getD (filled f n l) i d ≡ f i
+  filled-at f n i l d h = List·getD-append (listOf n f) (drop n l) d i (rw length-listOf h) ∙ getD-listOf n f i d h

@@ -1,11 +1,14 @@
+pub mod Advanced
 pub mod Asked
 pub mod Counted
 pub mod Decodable
 pub mod Decoding
 pub mod Digits
+pub mod Division
 pub mod Encodable
 pub mod Factor
 pub mod Filled
+pub mod FirstRoots
 pub mod Horner
 pub mod Joined
 pub mod Lagrange

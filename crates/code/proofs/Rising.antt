@@ -42,7 +42,7 @@ module _ (n : ℕ) where
   scan-high low ss r h l = rw (drop-cons ss r 0 h, lt-leb (getD ss r 0) n l) (neither (ltb low (getD ss r 0)) (risingAbove n (getD ss r 0) (drop (suc r) ss)))
 
   pub scan-on : (low : ℕ) (ss : List ℕ) (r : ℕ) → r < length ss → low < getD ss r 0 → getD ss r 0 ≤ n
-    → risingAbove n low (drop r ss) ≡ risingAbove n (getD ss r 0) (drop (r + 1) ss)
+      → risingAbove n low (drop r ss) ≡ risingAbove n (getD ss r 0) (drop (r + 1) ss)
   unfolding risingAbove
   scan-on low ss r h l m = rw (drop-cons ss r 0 h, lt-ltb low (getD ss r 0) l, le-leb (getD ss r 0) n m, add-one r)
 

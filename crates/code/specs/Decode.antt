@@ -26,7 +26,7 @@ decodeQuestions cfg servers elements buffer =
 pub record DecodePost (cfg : Config) (servers elements before after : List ℕ) (r : Verdict) : Type 0 where
   pub number : verdictNumber r ≡ firstNo (decodeQuestions cfg servers (length elements) (length before))
   pub buffer : after
-    ≡ cond (eqb (firstNo (decodeQuestions cfg servers (length elements) (length before))) 0) (decoded cfg servers elements) before
+      ≡ cond (eqb (firstNo (decodeQuestions cfg servers (length elements) (length before))) 0) (decoded cfg servers elements) before
 
 -- what the questions show where all are answered yes
 pub record Decodable (cfg : Config) (servers : List ℕ) (elements buffer : ℕ) : Type 0 where

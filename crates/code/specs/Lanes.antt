@@ -31,4 +31,4 @@ firstRoots k servers = listOf 16 (λ i. getD (roots bytes (take k servers)) i 0)
 -- row i has coefficient i of Lagrange's polynomials, of server r in lane r
 abbrev pub Inverse : ℕ → List ℕ → List (List ℕ) → Type 0
 Inverse k servers rows = (i r : ℕ) → i < k → r < k
-  → getD (getD rows i []) r 0 ≡ getD (lagrange bytes (take k servers) (getD servers r 0)) i 0
+    → getD (getD rows i []) r 0 ≡ getD (lagrange bytes (take k servers) (getD servers r 0)) i 0

@@ -3,7 +3,6 @@ ghost use mathlib.Core.Path.{_≡_};
 ghost use lib.ListN.{length};
 ghost use Rattle.code.specs.Element.{element};
 ghost use Rattle.code.specs.Encode.{Encodable};
-
 use config::Config;
 
 pub(crate) fn evaluate(cfg: Config, board: &[u8], s: u8, buffer: &mut [u8])

@@ -1,5 +1,6 @@
 // The code.
 mod digit;
 mod element;
+mod inverse;
 mod question;
 mod row;

@@ -6,7 +6,6 @@ ghost use Rattle.config.specs.Questions.{firstNo};
 ghost use Rattle.code.specs.Encode.{encodeQuestions};
 ghost use Rattle.code.specs.Decode.{decodeQuestions};
 ghost use Rattle.code.specs.Decoded.{rising};
-
 use config::Config;
 
 pub(crate) fn encode(cfg: Config, board: usize, s: u8, buffer: usize) -> u8

@@ -57,12 +57,12 @@ loop-holds : tie.Need-loop-holds Inv-loop μ-loop
 loop-holds c =
     let x = c .before .before .before .before .before .before .before .args in
     let h = c .before .before .before .before .before .before .before .pre in
-    let v = h .valid in
-    ( omega arith
-    , c .before .before .copy .kept .1 .0 ∙ h .buffer-length
-    , c .before .before .copy .ensures .1
-      ∙ row-last (x .cfg .k) (x .cfg .e) (x .board .now) (x .s) (x .cfg .k - 1) _ (x .buffer .now)
-        (omega arith) (h .board-length) (h .buffer-length) refl
+    let v = h .valid in (
+      omega arith,
+      c .before .before .copy .kept .1 .0 ∙ h .buffer-length,
+      c .before .before .copy .ensures .1
+          ∙ row-last (x .cfg .k) (x .cfg .e) (x .board .now) (x .s) (x .cfg .k - 1) _ (x .buffer .now)
+          (omega arith) (h .board-length) (h .buffer-length) refl,
     )
 
 sub-i-2 : tie.Need-sub-i-2 Inv-loop μ-loop
@@ -103,9 +103,9 @@ step-requires c κs =
     let x = c .before .before .before .before .before .before .before .before .before .before .before .args in
     let h = c .before .before .before .before .before .before .before .before .before .before .before .pre in
     let v = h .valid in
-    let at = c .before .before .before .loop in
-    ( (h .server-low, omega arith)
-    , at .inv .1 ∙ sym (row-part (x .cfg) (x .board .now) (x .s) (length (x .buffer .now)) h (at .i - 1) (omega arith))
+    let at = c .before .before .before .loop in (
+      (h .server-low, omega arith),
+      at .inv .1 ∙ sym (row-part (x .cfg) (x .board .now) (x .s) (length (x .buffer .now)) h (at .i - 1) (omega arith)),
     )
 
 loop-less : tie.Need-loop-less Inv-loop μ-loop
@@ -117,12 +117,12 @@ loop-again c =
     let h = c .before .before .before .before .before .before .before .before .before .before .before .before .before .before .pre in
     let v = h .valid in
     let at = c .before .before .before .before .before .before .loop in
-    let one : suc (at .i - 1) ≡ at .i = omega arith in
-    ( omega arith
-    , c .before .before .step .kept .0 ∙ at .inv .1
-    , c .before .before .step .ensures
-      ∙ ap (λ l. stepped l (x .s) (part (x .cfg .e) (x .board .now) (at .i - 1))) (at .inv .2 ∙ ap (rows (x .cfg .k) (x .cfg .e) (x .board .now) (x .s)) (sym one))
-      ∙ row-step (x .cfg .k) (x .cfg .e) (x .board .now) (x .s) (at .i - 1) (omega arith)
+    let one : suc (at .i - 1) ≡ at .i = omega arith in (
+      omega arith,
+      c .before .before .step .kept .0 ∙ at .inv .1,
+      c .before .before .step .ensures
+          ∙ ap (λ l. stepped l (x .s) (part (x .cfg .e) (x .board .now) (at .i - 1))) (at .inv .2 ∙ ap (rows (x .cfg .k) (x .cfg .e) (x .board .now) (x .s)) (sym one))
+          ∙ row-step (x .cfg .k) (x .cfg .e) (x .board .now) (x .s) (at .i - 1) (omega arith),
     )
 
 same-length : tie.Need-same-length Inv-loop μ-loop

@@ -44,9 +44,10 @@ loop-less c = omega arith
 loop-again : tie.Need-loop-again Inv-loop μ-loop
 loop-again c =
     let at = c .before .before .before .before .loop in
-    let a = c .before .before .before .before .before .args in
-    (omega arith
-    , sym (scan-on (a .n) (at .low) (a .servers .now) (at .r) (omega arith) (omega arith) (omega arith)) ∙ at .inv .1)
+    let a = c .before .before .before .before .before .args in (
+      omega arith,
+      sym (scan-on (a .n) (at .low) (a .servers .now) (at .r) (omega arith) (omega arith) (omega arith)) ∙ at .inv .1,
+    )
 
 returns-3 : tie.Need-returns-3 Inv-loop μ-loop
 returns-3 c =

@@ -54,12 +54,12 @@ loop-again c =
     let start = c .before .before .before .before .before .before .before .before .before in
     let row = start .args .row .now in
     let f = each row (start .args .c) (start .args .x .now) (start .args .d) (start .args .y .now) in
-    let here : at .j < length row = omega arith in
-    ( omega arith
-    , length-set (at .row) (at .j) _ ∙ at .inv .1
-    , at .inv .2
-    , at .inv .3
-    , turn f (at .j) row (at .row) _ (at .inv .4) here (ap₂ bitXor (was f (at .j) row (at .row) 0 (at .inv .4) here) (c .two .ensures))
+    let here : at .j < length row = omega arith in (
+      omega arith,
+      length-set (at .row) (at .j) _ ∙ at .inv .1,
+      at .inv .2,
+      at .inv .3,
+      turn f (at .j) row (at .row) _ (at .inv .4) here (ap₂ bitXor (was f (at .j) row (at .row) 0 (at .inv .4) here) (c .two .ensures)),
     )
 
 same-length : tie.Need-same-length Inv-loop μ-loop

@@ -55,12 +55,12 @@ loop-again c =
     let row = start .args .row .now in
     let more = start .args .more .now in
     let f = each row (start .args .s) more in
-    let here : at .j < length row = omega arith in
-    ( omega arith
-    , length-set (at .row) (at .j) _ ∙ at .inv .1
-    , at .inv .2
-    , turn f (at .j) row (at .row) _ (at .inv .3) here
-      (ap (bitXor (getD more (at .j) 0)) (c .by-server .ensures ∙ ap (times (start .args .s)) (was f (at .j) row (at .row) 0 (at .inv .3) here)))
+    let here : at .j < length row = omega arith in (
+      omega arith,
+      length-set (at .row) (at .j) _ ∙ at .inv .1,
+      at .inv .2,
+      turn f (at .j) row (at .row) _ (at .inv .3) here
+          (ap (bitXor (getD more (at .j) 0)) (c .by-server .ensures ∙ ap (times (start .args .s)) (was f (at .j) row (at .row) 0 (at .inv .3) here))),
     )
 
 same-length : tie.Need-same-length Inv-loop μ-loop

@@ -6,10 +6,11 @@ use mathlib.Core.List.{List, [], _∷_, _++_}
 use native.Mathlib.Omega.{arith}
 use native.Mathlib.Decide.{ℕ-discrete}
 use native.Mathlib.Nat.{mul-le-mul, le-trans}
+use Rattle.laws.proofs.Bools.{and-left, and-right}
 use Rattle.config.specs.declared.Config.{Config}
 use Rattle.config.specs.Config.{questions, boardLength, Valid}
-use Rattle.config.specs.Questions.{Question, ask, firstNo}
-use Rattle.config.proofs.Questions.{firstNo-pass, firstNo-stop, questions-numbered}
+use Rattle.config.specs.Questions.{Question, ask, within, firstNo, numbered}
+use Rattle.config.proofs.Questions.{firstNo-pass, firstNo-stop, firstNo-high, questions-numbered}
 
 -- a conjunction fails by either part
 pub left-no : (a b : Bool) → a ≡ false → (a && b) ≡ false
@@ -43,3 +44,14 @@ none-of cfg rest h = go (ℕ-discrete (firstNo (questions cfg)) 0)
     go : Dec (firstNo (questions cfg) ≡ 0) → firstNo (questions cfg) ≡ 0
     go (yes e) = e
     go (no n) = sym (firstNo-stop (questions cfg) rest n) ∙ h
+
+-- no answer is above 18
+joined-numbered : (first rest : List Question) → numbered first ≡ true → numbered rest ≡ true → numbered (first ++ rest) ≡ true
+unfolding numbered
+joined-numbered [] rest h l = l
+joined-numbered (ask number holds ∷ first) rest h l =
+    both-yes (within 1 18 number) (numbered (first ++ rest)) (and-left (within 1 18 number) (numbered first) h)
+    (joined-numbered first rest (and-right (within 1 18 number) (numbered first) h) l)
+
+pub all-high : (cfg : Config) (rest : List Question) → numbered rest ≡ true → firstNo (questions cfg ++ rest) ≤ 18
+all-high cfg rest h = firstNo-high (questions cfg ++ rest) (joined-numbered (questions cfg) rest (questions-numbered cfg) h)

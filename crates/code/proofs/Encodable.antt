@@ -10,11 +10,11 @@ use lib.ListN.{length}
 use Rattle.laws.proofs.Bools.{and-left, and-right}
 use Rattle.config.specs.declared.Config.{Config}
 use Rattle.config.specs.Config.{questions, boardLength, Valid}
-use Rattle.config.specs.Questions.{Question, ask, within, firstNo}
+use Rattle.config.specs.Questions.{Question, ask, within, firstNo, numbered}
 use Rattle.config.proofs.Questions.{firstNo-yes, firstNo-no, within-low, within-high, within-true}
 use Rattle.config.proofs.Valid.{valid}
 use Rattle.code.specs.Encode.{encodeQuestions, Encodable}
-use Rattle.code.proofs.Asked.{left-no, right-no, both-yes, passed, stopped, none-of}
+use Rattle.code.proofs.Asked.{left-no, right-no, both-yes, passed, stopped, none-of, all-high}
 
 all-yes : (a b : Bool) → firstNo (ask 6 a ∷ ask 18 b ∷ []) ≡ 0 → (a ≡ true) × (b ≡ true)
 unfolding firstNo
@@ -52,6 +52,10 @@ module _ (cfg : Config) (board s buffer : ℕ) where
         server-low = within-low 1 (cfg .n) s (y .1);
         server-high = within-high 1 (cfg .n) s (y .1);
       }
+
+  pub answer-high : answer ≤ 18
+  unfolding encodeQuestions numbered
+  answer-high = all-high cfg (ask 6 shape ∷ ask 18 server ∷ []) refl
 
   module _ (none : firstNo (questions cfg) ≡ 0) where
     misshaped : shape ≡ false → 6 ≡ answer

@@ -16,30 +16,13 @@ use Rattle.code.specs.Encode.{Encodable}
 use Rattle.code.specs.Row.{stepped}
 use Rattle.code.proofs.Asked.{board-small}
 use Rattle.code.proofs.Decoding.{column, element-value}
+use Rattle.code.proofs.Parts.{part, part-at, part-length, row-inside}
 use Rattle.code.proofs.Listed.{length-listOf, getD-listOf, listOf-cong}
 use Rattle.code.proofs.Value.{value-drop}
 
 -- the value, at s, of the rows from i on
 abbrev pub rows : ℕ → ℕ → List ℕ → ℕ → ℕ → List ℕ
 rows k e board s i = listOf e (λ j. value bytes (drop i (column k e board j)) s)
-
--- row i of k rows of e bytes lies within them
-pub row-inside : (k e i : ℕ) → i < k → i * e + e ≤ k * e
-row-inside k e i h = omega (arith, mul-le-mul-right e h)
-
--- row i as a part of the board
-abbrev pub part : ℕ → List ℕ → ℕ → List ℕ
-part e board i = take (i * e + e - i * e) (drop (i * e) board)
-
-pub part-length : (k e i : ℕ) (board : List ℕ) → i < k → k * e ≤ length board → length (part e board i) ≡ e
-part-length k e i board h l =
-    length-take-le (i * e + e - i * e) (drop (i * e) board)
-    (rw (length-drop (i * e) board) (omega (arith, row-inside k e i h)))
-    ∙ omega arith
-
-pub part-at : (e i j : ℕ) (board : List ℕ) → j < e → getD (part e board i) j 0 ≡ getD board (i * e + j) 0
-part-at e i j board h =
-    getD-take (i * e + e - i * e) (drop (i * e) board) j 0 (omega arith) ∙ getD-drop (i * e) board j 0
 
 -- the rows of a board that was asked for
 pub row-fits : (cfg : Config) (board s buffer : ℕ) → Encodable cfg board s buffer → (i : ℕ) → i < cfg .k

@@ -1,11 +1,13 @@
 pub mod Advanced
 pub mod Asked
+pub mod Combined
 pub mod Counted
 pub mod Decodable
 pub mod Decoding
 pub mod Digits
 pub mod Division
 pub mod Encodable
+pub mod Encoded
 pub mod Factor
 pub mod Filled
 pub mod FirstRoots
@@ -14,6 +16,7 @@ pub mod Joined
 pub mod Lagrange
 pub mod Listed
 pub mod Numbers
+pub mod Parts
 pub mod Preserved
 pub mod Ring
 pub mod Rising

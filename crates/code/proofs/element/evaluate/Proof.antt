@@ -4,7 +4,8 @@ use mathlib.Core.Path.{_≡_, refl, sym, ap, _∙_}
 use native.Mathlib.Omega.{arith}
 use lib.ListN.{length}
 use Rattle.code.specs.Row.{stepped}
-use Rattle.code.proofs.Horner.{part, rows, row-fits, row-part, row-last, row-step, row-all}
+use Rattle.code.proofs.Horner.{rows, row-fits, row-part, row-last, row-step, row-all}
+use Rattle.code.proofs.Parts.{part}
 use Rattle.code.proofs.element.evaluate.Statement.{statement}
 use Rattle.code.proofs.element.evaluate.Tie as tie
 

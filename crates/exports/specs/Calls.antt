@@ -1,0 +1,23 @@
+-- What the exported calls answer: what `encode` and `decode` do, with the refusal as its number.
+use Prim.Native.Nat.{ℕ}
+use mathlib.Core.Path.{_≡_}
+use mathlib.Core.List.{List}
+use Rattle.config.specs.declared.Config.{Config}
+use Rattle.config.specs.declared.Verdict.{Verdict}
+use Rattle.config.specs.Refusal.{verdictNumber}
+use Rattle.code.specs.Encode.{EncodePost}
+use Rattle.code.specs.Decode.{DecodePost}
+
+-- N, k and E, with D 0 and one client
+abbrev pub configOf : ℕ → ℕ → ℕ → Config
+configOf n k e = record { n = n; k = k; d = 0; e = e; c = 1 }
+
+pub record Encoded (n k e : ℕ) (board : List ℕ) (s : ℕ) (before after : List ℕ) (r : ℕ) : Type 0 where
+  pub verdict : Verdict
+  pub post : EncodePost (configOf n k e) board s before after verdict
+  pub number : r ≡ verdictNumber verdict
+
+pub record Decoded (n k e : ℕ) (servers elements before after : List ℕ) (r : ℕ) : Type 0 where
+  pub verdict : Verdict
+  pub post : DecodePost (configOf n k e) servers elements before after verdict
+  pub number : r ≡ verdictNumber verdict

@@ -1,0 +1,32 @@
+// The code for programs in C and Rust, as a static library: a slice is a pointer and a length. Each call is that of `code`, with
+// D 0 and one client, which do not concern it; it answers the refusal's number, or 0.
+ghost use Rattle.exports.specs.Calls.{Decoded, Encoded};
+use config::Config;
+
+#[no_mangle]
+pub extern "C" fn coded_encode(n: usize, k: usize, e: usize, board: &[u8], s: u8, element: &mut [u8]) -> u8
+    ensures { λ r. ⌜ Encoded n k e (now (board .entry)) s (now (element .entry)) (now (element .exit)) r ⌝ }
+{
+    let cfg = Config {
+        n,
+        k,
+        d: 0,
+        e,
+        c: 1,
+    };
+    code::encode(cfg, board, s, element).number()
+}
+
+#[no_mangle]
+pub extern "C" fn coded_decode(n: usize, k: usize, e: usize, servers: &[u8], elements: &[u8], board: &mut [u8]) -> u8
+    ensures { λ r. ⌜ Decoded n k e (now (servers .entry)) (now (elements .entry)) (now (board .entry)) (now (board .exit)) r ⌝ }
+{
+    let cfg = Config {
+        n,
+        k,
+        d: 0,
+        e,
+        c: 1,
+    };
+    code::decode(cfg, servers, elements, board).number()
+}

@@ -54,7 +54,7 @@ below-at p i h = ap (λ n. getD (0 ∷ p) n 0) one
     one = omega arith
 
 pub shifted : (p below : List ℕ) (s : ℕ) → ((i : ℕ) → i < 16 → getD below i 0 ≡ getD (0 ∷ p) i 0)
-  → advanced p (replicate 16 s) below ≡ rootedOnce p s
+    → advanced p (replicate 16 s) below ≡ rootedOnce p s
 unfolding advanced rootedOnce
 shifted p below s h =
     listOf-cong 16

@@ -40,11 +40,11 @@ loop-less c = omega arith
 loop-again : tie.Need-loop-again Inv-loop μ-loop
 loop-again c =
     let at = c .before .loop in
-    let q = c .before .before .args .t1 in
-    ( omega arith
-    , omega arith
-    , length-set (at .below) (at .i) _ ∙ at .inv .2
-    , turn (λ n. getD (0 ∷ q) n 0) (at .i) (replicate 16 0) (at .below) _ (at .inv .3) (omega arith) (below-at q (at .i) (at .inv .0))
+    let q = c .before .before .args .t1 in (
+      omega arith,
+      omega arith,
+      length-set (at .below) (at .i) _ ∙ at .inv .2,
+      turn (λ n. getD (0 ∷ q) n 0) (at .i) (replicate 16 0) (at .below) _ (at .inv .3) (omega arith) (below-at q (at .i) (at .inv .0)),
     )
 
 advance-requires : tie.Need-advance-requires Inv-loop μ-loop
@@ -56,7 +56,7 @@ returns c =
     let a = c .before .before .before .args in
     c .advance .ensures
     ∙ shifted (a .t1) (at .below) (a .s)
-      (λ i h. ap (λ l. getD l i 0) (at .inv .3) ∙ filled-at (λ n. getD (0 ∷ a .t1) n 0) (at .i) i (replicate 16 0) 0 (omega arith))
+    (λ i h. ap (λ l. getD l i 0) (at .inv .3) ∙ filled-at (λ n. getD (0 ∷ a .t1) n 0) (at .i) i (replicate 16 0) 0 (omega arith))
 
 pub root-spec : {M : Type 1} → statement M
 root-spec =

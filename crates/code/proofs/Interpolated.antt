@@ -19,7 +19,6 @@ use Rattle.code.proofs.Combined.{combined-decoded}
 use Rattle.code.proofs.Filled.{filled, filled-none, filled-all, length-filled, turn-part}
 use Rattle.code.proofs.Listed.{listOf-cong}
 use Rattle.code.proofs.Parts.{row-inside}
-use Rattle.code.proofs.Rising as rise
 
 -- byte m of the board
 abbrev pub each : ℕ → ℕ → List ℕ → List ℕ → ℕ → ℕ
@@ -27,17 +26,7 @@ each k e servers elements m = decodedByte k e servers elements (m / e) (m % e)
 
 module _ (cfg : Config) (servers : List ℕ) (elements buffer : ℕ) (d : Decodable cfg servers elements buffer) where
   pub usable : Usable (cfg .k) servers
-  usable =
-      record {
-        low = v .k-low;
-        high = omega arith;
-        enough = d .enough;
-        server-low = λ r h. rise.rising-low (cfg .n) 0 servers (d .rises) r (omega (arith, d .enough));
-        server-high = λ r h. omega (arith, rise.rising-high (cfg .n) 0 servers (d .rises) r (omega (arith, d .enough)), v .n-high);
-      }
-    where
-      v : Valid cfg
-      v = d .valid
+  usable = record { low = d .valid .k-low; high = omega (arith, d .valid .k-high, d .valid .n-high); enough = d .enough }
 
   pub combinable : (row : ℕ) → row ≡ cfg .e → Combinable (cfg .k) (cfg .e) elements row
   combinable row h =

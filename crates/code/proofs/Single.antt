@@ -2,12 +2,12 @@
 use Prim.Native.Nat.{ℕ, zero, suc, _+_, _*_, _-_, _<_, _≤_}
 use mathlib.Core.Path.{_≡_, refl, sym, ap, ap₂, _∙_}
 use mathlib.Core.Bool.{true}
-use mathlib.Core.List.{List, [], _++_, append-nil}
+use mathlib.Core.List.{List, _++_}
 use native.Mathlib.Omega.{arith}
 use native.Mathlib.Nat.{mul-le-mul-right, zero-mul}
 use lib.Bits.{xor-zero-l}
-use lib.ListN.{length, getD, take, drop, length-take, drop-of-length-le}
-use lib.Seq.{ext-getD, take-all, length-take-le}
+use lib.ListN.{length, getD, take, drop, length-take}
+use lib.Seq.{ext-getD, length-take-le}
 use Rattle.config.specs.declared.Config.{Config}
 use Rattle.config.specs.Config.{boardLength, Valid}
 use Rattle.field.specs.Field.{plus, times, power}
@@ -18,6 +18,7 @@ use Rattle.code.specs.Element.{bytes, element, elementByte}
 use Rattle.code.specs.Decode.{Decodable}
 use Rattle.code.specs.Decoded.{decoded, rising}
 use Rattle.code.proofs.Decoding.{length-element, element-at, length-decoded, bytes-decoded, encode-decoded}
+use Rattle.code.proofs.Parts.{copied}
 
 one-term : (f : ℕ → ℕ) (k : ℕ) → k ≡ 1 → sum bytes k f ≡ f 0
 unfolding sum
@@ -51,8 +52,7 @@ module _ (cfg : Config) (servers elements buffer : List ℕ) (d : Decodable cfg 
       let whole : cfg .e - 0 ≡ cfg .e = omega arith in
       let length-part : length (take (cfg .e - 0) elements) ≡ cfg .e =
       ap (λ n. length (take n elements)) whole ∙ length-take-le (cfg .e) elements enough in
-      ap₂ _++_ (take-all m (take (cfg .e - 0) elements) (omega arith)) (drop-of-length-le buffer {i = m} (omega (arith, buffer-size)))
-      ∙ append-nil (take (cfg .e - 0) elements)
+      copied (take (cfg .e - 0) elements) buffer m lm (buffer-size ∙ sym length-part)
       ∙ ap (λ n. take n elements) whole
       ∙ sym
       (sym (element-one cfg board (getD servers 0 0) one (length-decoded cfg servers elements ∙ size) (bytes-decoded cfg v servers up many elements b))

@@ -4,7 +4,14 @@ ghost use Rattle.exports.specs.Calls.{Decoded, Encoded};
 use config::Config;
 
 #[no_mangle]
-pub extern "C" fn coded_encode(n: usize, k: usize, e: usize, board: &[u8], s: u8, element: &mut [u8]) -> u8
+pub extern "C" fn coded_encode(
+    n: usize,
+    k: usize,
+    e: usize,
+    board: &[u8],
+    s: u8,
+    element: &mut [u8],
+) -> u8
     ensures { λ r. ⌜ Encoded n k e (now (board .entry)) s (now (element .entry)) (now (element .exit)) r ⌝ }
 {
     let cfg = Config {
@@ -18,7 +25,14 @@ pub extern "C" fn coded_encode(n: usize, k: usize, e: usize, board: &[u8], s: u8
 }
 
 #[no_mangle]
-pub extern "C" fn coded_decode(n: usize, k: usize, e: usize, servers: &[u8], elements: &[u8], board: &mut [u8]) -> u8
+pub extern "C" fn coded_decode(
+    n: usize,
+    k: usize,
+    e: usize,
+    servers: &[u8],
+    elements: &[u8],
+    board: &mut [u8],
+) -> u8
     ensures { λ r. ⌜ Decoded n k e (now (servers .entry)) (now (elements .entry)) (now (board .entry)) (now (board .exit)) r ⌝ }
 {
     let cfg = Config {

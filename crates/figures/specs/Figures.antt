@@ -3,9 +3,12 @@ use Prim.Native.Nat.{ℕ}
 use mathlib.Core.Path.{_≡_}
 use mathlib.Core.Bool.{true}
 use mathlib.Core.Option.{Option, none, some}
+use mathlib.Core.List.{List, [], _∷_}
 use Rattle.config.specs.declared.Config.{Config}
 use Rattle.config.specs.Config.{quorumOf}
 use Rattle.field.specs.Field.{times}
+use Rattle.code.specs.Element.{element}
+use Rattle.code.specs.Decoded.{decoded}
 use Rattle.tag.specs.declared.Tag.{Tag}
 use Rattle.tag.specs.Tag.{above, key}
 use Rattle.record.specs.declared.Kind.{Kind}
@@ -24,6 +27,13 @@ tag z c = record { number = z; client = c }
 -- the quorum of N and k
 abbrev pub q : ℕ → ℕ → ℕ
 q n k = quorumOf (config n k 0 1 1)
+
+-- N 5, k 3, E 1, and N 3, k 2, E 1
+abbrev pub five : Config
+five = config 5 3 0 1 1
+
+abbrev pub three : Config
+three = config 3 2 0 1 1
 
 -- a message of client 1 and server 1 in operation 1; elements are numbers here
 abbrev pub message : Kind → Tag → Option ℕ → Message ℕ
@@ -55,6 +65,17 @@ pub record Figures : Type 0 where
   -- "Products: 2 and 128 give 29; 3 and 7 give 9."
   pub product-2-128 : times 2 128 ≡ 29
   pub product-3-7 : times 3 7 ≡ 9
+  -- "N 5, k 3, E 1, board 10 20 30: elements 0 90 80 167 173; servers 2, 4, 5 give it back."
+  pub element-1 : element five (10 ∷ 20 ∷ 30 ∷ []) 1 ≡ 0 ∷ []
+  pub element-2 : element five (10 ∷ 20 ∷ 30 ∷ []) 2 ≡ 90 ∷ []
+  pub element-3 : element five (10 ∷ 20 ∷ 30 ∷ []) 3 ≡ 80 ∷ []
+  pub element-4 : element five (10 ∷ 20 ∷ 30 ∷ []) 4 ≡ 167 ∷ []
+  pub element-5 : element five (10 ∷ 20 ∷ 30 ∷ []) 5 ≡ 173 ∷ []
+  pub decoded-2-4-5 : decoded five (2 ∷ 4 ∷ 5 ∷ []) (90 ∷ 167 ∷ 173 ∷ []) ≡ 10 ∷ 20 ∷ 30 ∷ []
+  -- "Board 1 2 with k 2, N 3: 3 5 7."
+  pub two-1 : element three (1 ∷ 2 ∷ []) 1 ≡ 3 ∷ []
+  pub two-2 : element three (1 ∷ 2 ∷ []) 2 ≡ 5 ∷ []
+  pub two-3 : element three (1 ∷ 2 ∷ []) 3 ≡ 7 ∷ []
   -- "Tag (2, 1) is above (1, 9), and (2, 3) above (2, 1)."
   pub tag-by-number : above (tag 2 1) (tag 1 9) ≡ true
   pub tag-by-client : above (tag 2 3) (tag 2 1) ≡ true

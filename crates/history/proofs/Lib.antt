@@ -31,3 +31,4 @@ pub mod Calls
 pub mod Theorem
 pub mod Refute
 pub mod Teeth
+pub mod Boards

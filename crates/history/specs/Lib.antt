@@ -5,3 +5,4 @@ pub mod Client
 pub mod Board
 pub mod Rig
 pub mod Laws
+pub mod Boards

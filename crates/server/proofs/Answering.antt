@@ -1,0 +1,110 @@
+-- A server's answers: they are messages of the configuration, and what a read finalise answers. Assumes nothing.
+use mathlib.Core.Path.{_≡_, refl, sym, _∙_, ap, ap₂}
+use mathlib.Core.Bool.{Bool, true, false, cond}
+use mathlib.Core.List.{List, [], _∷_, _++_, append-nil}
+use mathlib.Core.Option.{Option, none, some}
+use Prim.Native.Nat.{ℕ, _+_, _-_, _*_, _≤_, _<_}
+use native.Mathlib.Omega.{arith}
+use borrow.Author.Tests.{eq-eqb}
+use lib.Dec.{eqb, leb}
+use lib.ListN.{length, take, drop, drop-of-length-le, length-append, length-drop, length-take}
+use lib.Seq.{drop-at, length-take-le, take-at, take-length}
+use Rattle.config.specs.declared.Config.{Config}
+use Rattle.config.specs.declared.Server.{Server as ServerNumber}
+use Rattle.config.specs.Config.{Valid}
+use Rattle.config.specs.Number.{clientNumber, serverNumber}
+use Rattle.config.specs.Questions.{within}
+use Rattle.config.specs.Refusal.{verdictNumber}
+use Rattle.tag.specs.declared.Tag.{Tag}
+use Rattle.tag.specs.Tag.{allowed, key}
+use Rattle.record.specs.declared.Header.{Header}
+use Rattle.record.specs.declared.Kind.{Kind}
+use Rattle.record.specs.declared.Kind.the-variants.{ReadFinaliseAnswer}
+use Rattle.record.specs.Message.{Message}
+use Rattle.record.specs.Record.{all, elementAt as elementIn, highestNumber, isPresent, kindNumber, messageClauses, ofConfig, ownTag, presence, queryTag, recordOf, sized}
+use Rattle.history.specs.Server.{answerTo, atOrBelowFloor, elementOf, readAnswer}
+use Rattle.server.specs.declared.State.{State}
+use Rattle.server.specs.declared.Stepped.{Stepped}
+use Rattle.server.specs.Calls.{answerBytes, answers, raised}
+use Rattle.server.specs.Inner.{Finalised, Finalising, Replied, readAnswered, reply}
+use Rattle.server.specs.View.{floorOf, view}
+use Rattle.server.proofs.Held.{state-me}
+
+pub reply-of-config : (cfg : Config) (me : ServerNumber) (h : Header) (kind : Kind) (t : Tag) (o : Option (List ℕ))
+    → within 1 highestNumber (h .operation) ≡ true → leb (t .number) highestNumber ≡ true → sized cfg o ≡ true
+    → queryTag (kindNumber kind) t ≡ true → ownTag (kindNumber kind) (clientNumber (h .client)) t ≡ true
+    → presence (kindNumber kind) (isPresent o) ≡ true → within 1 (cfg .c) (clientNumber (h .client)) ≡ true
+    → within 1 (cfg .n) (serverNumber me) ≡ true → allowed (cfg .c) t ≡ true → ofConfig cfg (reply me h kind t o) ≡ true
+unfolding ofConfig messageClauses all reply
+reply-of-config cfg me h kind t o operation number e q own p client server tag =
+    rw (operation, number, e, q, own, p, client, server, tag)
+
+-- the answer to a read finalise
+pub read-reply : (cfg : Config) (s : State) (h : Header) (store answer : List ℕ) → Finalising cfg s h store answer → (me : ServerNumber) → me ≡ s .me
+    → (o : Option (List ℕ)) → sized cfg o ≡ true → ofConfig cfg (reply me h ReadFinaliseAnswer (h .tag) o) ≡ true
+read-reply cfg s h store answer f me is o e =
+    reply-of-config cfg me h ReadFinaliseAnswer (h .tag) o (f .operation) (f .number) e refl refl refl (f .client)
+    (ap (λ (x : ServerNumber). within 1 (cfg .n) (serverNumber x)) is ∙ state-me cfg s (f .held .kept)) (f .allowed)
+
+-- an element copied into the answer's bytes
+module _ (e : ℕ) (high : e ≤ 64) (answer src part : List ℕ) (eighty : length answer ≡ 80) (sized-src : length src ≡ e)
+    (is : part ≡ take (length src) src ++ drop (length src) (take (length answer - 16) (drop 16 answer))) where
+  abbrev copied : List ℕ
+  copied = take 16 answer ++ (part ++ drop (length answer - 16) (drop 16 answer))
+
+  front : length (take 16 answer) ≡ 16
+  front = length-take-le 16 answer (omega arith)
+
+  nothing-after : drop (length answer - 16) (drop 16 answer) ≡ []
+  nothing-after = drop-of-length-le (drop 16 answer) {i = length answer - 16} (omega (arith, length-drop 16 answer))
+
+  part-is : part ≡ src ++ drop (length src) (take (length answer - 16) (drop 16 answer))
+  part-is = is ∙ ap (λ (l : List ℕ). l ++ drop (length src) (take (length answer - 16) (drop 16 answer))) (take-length src)
+
+  pub copied-long : length copied ≡ 80
+  copied-long =
+      ap (λ (l : List ℕ). length (take 16 answer ++ (part ++ l))) nothing-after ∙ ap (λ (l : List ℕ). length (take 16 answer ++ l)) (append-nil part)
+      ∙ ap (λ (l : List ℕ). length (take 16 answer ++ l)) part-is
+      ∙ length-append (take 16 answer) (src ++ drop (length src) (take (length answer - 16) (drop 16 answer)))
+      ∙ omega (arith, front, length-append src (drop (length src) (take (length answer - 16) (drop 16 answer))),
+      length-drop (length src) (take (length answer - 16) (drop 16 answer)), length-take (length answer - 16) (drop 16 answer), length-drop 16 answer)
+
+  pub copied-element : take e (drop 16 copied) ≡ src
+  copied-element =
+      ap (λ (l : List ℕ). take e l) (drop-at (take 16 answer) (part ++ drop (length answer - 16) (drop 16 answer)) 16 front)
+      ∙ ap (λ (l : List ℕ). take e (part ++ l)) nothing-after ∙ ap (λ (l : List ℕ). take e l) (append-nil part ∙ part-is)
+      ∙ take-at src (drop (length src) (take (length answer - 16) (drop 16 answer))) e sized-src
+
+-- what a read finalise leaves, by what is stored
+module _ (cfg : Config) (s after : State) (h : Header) (store answer : List ℕ) (is : after ≡ raised s (h .tag)) where
+  me-is : after .me ≡ s .me
+  unfolding raised
+  me-is = ap (λ (x : State). x .me) is
+
+  replied : (o : Option (List ℕ)) → readAnswered s h store cfg ≡ some (reply (s .me) h ReadFinaliseAnswer (h .tag) o) → (bs : List ℕ) (r : Stepped)
+      → Replied cfg after (reply (after .me) h ReadFinaliseAnswer (h .tag) o) bs r → Finalised cfg s h store answer bs r
+  replied o e bs r p =
+      record {
+        number = p .number ∙ rw e;
+        state = p .state ∙ is;
+        answer = p .answer ∙ ap (λ (x : ServerNumber). recordOf cfg (reply x h ReadFinaliseAnswer (h .tag) o)) me-is ∙ rw e;
+      }
+
+  pub finalised-element : (element : List ℕ) → elementOf key (h .tag) (view cfg s store .stored) ≡ some element → (bs : List ℕ) (r : Stepped)
+      → Replied cfg after (reply (after .me) h ReadFinaliseAnswer (h .tag) (some element)) bs r → Finalised cfg s h store answer bs r
+  unfolding readAnswer answerTo reply
+  finalised-element element e bs r p = replied (some element) (rw e) bs r p
+
+  module _ (missing : elementOf key (h .tag) (view cfg s store .stored) ≡ none) where
+    pub finalised-none : atOrBelowFloor key (h .tag) (floorOf (s .floor)) ≡ false → (bs : List ℕ) (r : Stepped)
+        → Replied cfg after (reply (after .me) h ReadFinaliseAnswer (h .tag) none) bs r → Finalised cfg s h store answer bs r
+    unfolding readAnswer answerTo reply view
+    finalised-none b bs r p = replied none (rw (missing, b)) bs r p
+
+    silent : atOrBelowFloor key (h .tag) (floorOf (s .floor)) ≡ true → readAnswered s h store cfg ≡ none
+    unfolding readAnswer reply view
+    silent b = rw (missing, b)
+
+    pub finalised-silent : atOrBelowFloor key (h .tag) (floorOf (s .floor)) ≡ true → (r : Stepped) → verdictNumber (r .verdict) ≡ 15 → r .state ≡ after
+        → Finalised cfg s h store answer answer r
+    finalised-silent b r v e = record { number = v ∙ rw (silent b); state = e ∙ is; answer = rw (silent b) }

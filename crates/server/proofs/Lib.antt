@@ -1,0 +1,13 @@
+pub mod Answering
+pub mod Asked
+pub mod Begin
+pub mod Each
+pub mod Handed
+pub mod Held
+pub mod Keep
+pub mod Keys
+pub mod Lending
+pub mod Lists
+pub mod Put
+pub mod Stepping
+pub mod Views

@@ -1,0 +1,28 @@
+use borrow.Author.Needs.{needs}
+use mathlib.Core.Path.{_≡_, sym, _∙_}
+use native.Mathlib.Omega.{arith}
+use Prim.Native.Nat.{_<_}
+use Rattle.tag.proofs.Order.{Small}
+use Rattle.server.proofs.Keys.{higher-first, higher-second}
+use Rattle.server.proofs.serve.higher.Statement.{statement}
+use Rattle.server.proofs.serve.higher.Tie as tie
+
+above-requires : tie.Need-above-requires
+above-requires c κs = search needs
+
+returns : tie.Need-returns
+returns c =
+    let a = c .before .before .args in
+    let st : Small (a .t) = omega arith in
+    let sh : Small (a .h) = omega arith in
+    higher-first (a .t) (a .h) st sh (sym (c .before .above .ensures) ∙ c .if1 .taken)
+
+returns-2 : tie.Need-returns-2
+returns-2 c =
+    let a = c .before .before .args in
+    let st : Small (a .t) = omega arith in
+    let sh : Small (a .h) = omega arith in
+    higher-second (a .t) (a .h) st sh (sym (c .before .above .ensures) ∙ c .if1 .left)
+
+pub higher-spec : {M : Type 1} → statement M
+higher-spec = tie.close (tie.spec above-requires returns returns-2)

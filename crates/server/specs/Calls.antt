@@ -1,0 +1,126 @@
+-- A server's calls: what each asks, and what it answers.
+use Prim.Native.Nat.{ℕ, _+_, _*_}
+use mathlib.Core.Bool.{Bool, true, false, cond, _&&_, _||_}
+use mathlib.Core.Path.{_≡_}
+use mathlib.Core.List.{List, [], _∷_, _++_}
+use mathlib.Core.Option.{Option, none, some}
+use lib.Dec.{eqb}
+use lib.ListN.{length, drop, replicate}
+use Rattle.config.specs.declared.Config.{Config}
+use Rattle.config.specs.declared.Server.{Server as ServerNumber}
+use Rattle.config.specs.declared.Verdict.{Verdict}
+use Rattle.config.specs.Config.{questions}
+use Rattle.config.specs.Number.{serverNumber}
+use Rattle.config.specs.Questions.{Question, ask, firstNo, within}
+use Rattle.config.specs.Refusal.{verdictNumber}
+use Rattle.tag.specs.declared.Tag.{Tag}
+use Rattle.tag.specs.Tag.{key, start}
+use Rattle.record.specs.declared.Kind.{Kind}
+use Rattle.record.specs.declared.Kind.the-variants.{Query, QueryAnswer, PreWrite, PreWriteAnswer, WriteFinalise, WriteFinaliseAnswer, ReadFinalise, ReadFinaliseAnswer}
+use Rattle.record.specs.Message.{Message}
+use Rattle.record.specs.Record.{messageOf, recordOf, wellFormed}
+use Rattle.history.specs.Server.{Served, elementOf, serverStep}
+use Rattle.history.specs.Tags.{higher}
+use Rattle.server.specs.declared.Floor.{Floor}
+use Rattle.server.specs.declared.State.{State}
+use Rattle.server.specs.declared.Stepped.{Stepped}
+use Rattle.server.specs.Kept.{stateKept}
+use Rattle.server.specs.View.{view}
+
+-- "(D + 1) × E for each server's store"
+abbrev pub storeLength : Config → ℕ
+storeLength cfg = (cfg .d + 1) * cfg .e
+
+-- Fresh: questions 1 to 5; 6, the lengths of element and store, and the server's number.
+unfoldable pub freshQuestions : Config → ServerNumber → List ℕ → List ℕ → List Question
+freshQuestions cfg me element store =
+    questions cfg
+    ++ ask 6 (eqb (length element) (cfg .e) && eqb (length store) (storeLength cfg) && within 1 (cfg .n) (serverNumber me)) ∷ []
+
+-- "Fresh: H = (0, 0), with the starting board's element stored at (0, 0)": the one place in use is the first.
+unfoldable pub freshState : ServerNumber → State
+freshState me = record { me = me; highest = start; floor = Floor.None; count = 1; tags = replicate 8 start }
+
+pub record FreshPost (cfg : Config) (me : ServerNumber) (element before after : List ℕ) (r : Stepped) : Type 0 where
+  pub number : verdictNumber (r .verdict) ≡ firstNo (freshQuestions cfg me element before)
+  pub state : r .state ≡ freshState me
+  pub store : after ≡ cond (eqb (firstNo (freshQuestions cfg me element before)) 0) (element ++ drop (cfg .e) before) before
+
+-- the kinds that a server receives
+abbrev pub receives : Kind → Bool
+receives Query = true
+receives QueryAnswer = false
+receives PreWrite = true
+receives PreWriteAnswer = false
+receives WriteFinalise = true
+receives WriteFinaliseAnswer = false
+receives ReadFinalise = true
+receives ReadFinaliseAnswer = false
+
+-- "16. .. is the record for this party, in a kind it receives?"
+abbrev pub forServer : ℕ → Message (List ℕ) → Bool
+forServer me m = eqb (m .server) me && receives (m .kind)
+
+-- the protocol's step of this server on a message: its server afterwards, and its answer
+abbrev pub outcome : Config → State → List ℕ → Message (List ℕ) → Served (List ℕ)
+outcome cfg s store m = serverStep key (cfg .d) (serverNumber (s .me)) (view cfg s store) m
+
+-- "15. Server step, read finalise: may it answer?"
+abbrev pub answers : Option (Message (List ℕ)) → Bool
+answers none = false
+answers (some m) = true
+
+-- Step: questions 1 to 5; 6, the lengths of record, store and answer, and the state; 12; 16; 15.
+unfoldable pub stepQuestions : Config → State → List ℕ → List ℕ → List ℕ → List Question
+stepQuestions cfg s handed store answer =
+    questions cfg
+    ++ ask 6 (eqb (length handed) 80 && eqb (length store) (storeLength cfg) && eqb (length answer) 80 && stateKept cfg s)
+    ∷ ask 12 (wellFormed cfg handed)
+    ∷ ask 16 (forServer (serverNumber (s .me)) (messageOf cfg handed))
+    ∷ ask 15 (answers (outcome cfg s store (messageOf cfg handed) .answer))
+    ∷ []
+
+-- the record of an answer; without one the record holds what it held
+abbrev pub answerBytes : Config → Option (Message (List ℕ)) → List ℕ → List ℕ
+answerBytes cfg none held = held
+answerBytes cfg (some m) held = recordOf cfg m
+
+-- "H becomes the higher of H and t", and all else holds
+unfoldable pub raised : State → Tag → State
+raised s t = record { me = s .me; highest = higher key (s .highest) t; floor = s .floor; count = s .count; tags = s .tags }
+
+-- what stays of the state on a refusal: all, but for H at 15
+abbrev pub stays : ℕ → State → Tag → State
+stays number s t = cond (eqb number 15) (raised s t) s
+
+-- What a step leaves, where `first` is the number of the first question that is answered no, or 0, and m is the message: the
+-- protocol's step, or what was there.
+pub record Steps (cfg : Config) (s : State) (first : ℕ) (m : Message (List ℕ)) (storeBefore answerBefore storeAfter answerAfter : List ℕ) (r : Stepped) : Type 0 where
+  pub number : verdictNumber (r .verdict) ≡ first
+  pub me : r .state .me ≡ s .me
+  -- accepted: the protocol's step
+  pub view : first ≡ 0 → view cfg (r .state) storeAfter ≡ outcome cfg s storeBefore m .server
+  -- refused: all holds, but for H at 15
+  pub state : (first ≡ 0 → ⊥) → r .state ≡ stays first s (m .tag)
+  pub store : (first ≡ 0 → ⊥) → storeAfter ≡ storeBefore
+  -- the answer's record, or what it held
+  pub answer : answerAfter ≡ cond (eqb first 0) (answerBytes cfg (outcome cfg s storeBefore m .answer) answerBefore) answerBefore
+
+abbrev pub StepPost : Config → State → List ℕ → List ℕ → List ℕ → List ℕ → List ℕ → Stepped → Type 0
+StepPost cfg s handed store answer storeAfter answerAfter r =
+    Steps cfg s (firstNo (stepQuestions cfg s handed store answer)) (messageOf cfg handed) store answer storeAfter answerAfter r
+
+-- Lending: questions 1 to 5; 6, the length of the store, and the state.
+unfoldable pub lendQuestions : Config → State → List ℕ → List Question
+lendQuestions cfg s store = questions cfg ++ ask 6 (eqb (length store) (storeLength cfg) && stateKept cfg s) ∷ []
+
+-- an element's bytes; "an empty part if there is none"
+abbrev pub lentBytes : Option (List ℕ) → List ℕ
+lentBytes none = []
+lentBytes (some e) = e
+
+-- the part that is lent, and the lent number afterwards
+pub record LendPost (cfg : Config) (s : State) (t : Tag) (store lent : List ℕ) (told : ℕ) : Type 0 where
+  pub number : told ≡ firstNo (lendQuestions cfg s store)
+  pub part : lent
+      ≡ cond (eqb (firstNo (lendQuestions cfg s store)) 0) (lentBytes (elementOf key t (view cfg s store .stored))) []

@@ -1,0 +1,4 @@
+pub mod Calls
+pub mod Inner
+pub mod Kept
+pub mod View

@@ -1,0 +1,146 @@
+// A server: its state by value, its store lent by the host. Every function is proved, nothing is assumed, and no public function
+// has a `requires`.
+mod kept;
+mod places;
+mod serve;
+
+use config::Config;
+use config::Refusal;
+use config::Server;
+use config::Verdict;
+use record::Reading;
+use tag::Tag;
+ghost use mathlib.Core.Path.{_≡_};
+ghost use Rattle.config.specs.Config.{Valid};
+ghost use Rattle.config.specs.Questions.{firstNo};
+ghost use Rattle.server.specs.Calls.{FreshPost, LendPost, StepPost};
+
+// No floor, or the highest tag that was dropped.
+pub enum Floor {
+    None,
+    At(Tag),
+}
+
+// What a server keeps: its number, the highest finalised tag, the floor, and the first `count` of the tags as the stored ones.
+// The element of tag i stands in the store at i × E.
+pub struct State {
+    pub me: Server,
+    pub highest: Tag,
+    pub floor: Floor,
+    pub count: usize,
+    pub tags: [Tag; 8],
+}
+
+// What a call leaves: its verdict and the state.
+pub struct Stepped {
+    pub verdict: Verdict,
+    pub state: State,
+}
+
+// A fresh server, with the starting board's element in the store: questions 1 to 5 and 6.
+pub fn fresh(cfg: Config, me: Server, element: &[u8], store: &mut [u8]) -> Stepped
+    ensures { λ r. ⌜ FreshPost cfg me (now (element .entry)) (now (store .entry)) (now (store .exit)) r ⌝ }
+{
+    let start = Tag {
+        number: 0,
+        client: 0,
+    };
+    let state = State {
+        me,
+        highest: start,
+        floor: Floor::None,
+        count: 1,
+        tags: [start; 8],
+    };
+    let no = cfg.ask();
+    if no != 0 {
+        return Stepped {
+            verdict: Verdict::of(no),
+            state,
+        };
+    }
+    if element.len() != cfg.e {
+        return Stepped {
+            verdict: Verdict::No(Refusal::Shape),
+            state,
+        };
+    }
+    if store.len() != kept::store_length(cfg) {
+        return Stepped {
+            verdict: Verdict::No(Refusal::Shape),
+            state,
+        };
+    }
+    if !kept::server_within(cfg, me) {
+        return Stepped {
+            verdict: Verdict::No(Refusal::Shape),
+            state,
+        };
+    }
+    bytes::copy(element, store);
+    Stepped {
+        verdict: Verdict::Accepted,
+        state,
+    }
+}
+
+// One step on a record: questions 1 to 5, 6, 12, 16 and 15. The answer is written to a lent record.
+pub fn step(cfg: Config, state: State, handed: &[u8], store: &mut [u8], answer: &mut [u8]) -> Stepped
+    ensures { λ r. ⌜ StepPost cfg state (now (handed .entry)) (now (store .entry)) (now (answer .entry)) (now (store .exit)) (now (answer .exit)) r ⌝ }
+{
+    let no = kept::ask(cfg, state, store.len());
+    if no != 0 {
+        return Stepped {
+            verdict: Verdict::of(no),
+            state,
+        };
+    }
+    if handed.len() != 80 {
+        return Stepped {
+            verdict: Verdict::No(Refusal::Shape),
+            state,
+        };
+    }
+    if answer.len() != 80 {
+        return Stepped {
+            verdict: Verdict::No(Refusal::Shape),
+            state,
+        };
+    }
+    let Reading::Message(h) = record::read(cfg, handed) else {
+        return Stepped {
+            verdict: Verdict::No(Refusal::IllFormed),
+            state,
+        };
+    };
+    let server = h.server;
+    let me = state.me;
+    if server.number() != me.number() {
+        return Stepped {
+            verdict: Verdict::No(Refusal::Misdirected),
+            state,
+        };
+    }
+    serve::request(cfg, state, h, handed, store, answer)
+}
+
+// The stored element of a tag, as that part of the store: empty if there is none or the call is refused. The refusal's number, or
+// 0, goes into the lent number. Questions 1 to 5 and 6.
+pub fn lend<'a>(cfg: Config, state: State, tag: Tag, store: &'a [u8], no: &mut u8) -> &'a [u8]
+    ensures { λ r. ⌜ LendPost cfg state tag (now (store .entry)) (now r) (now (no .exit)) ⌝ }
+{
+    let asked = kept::ask(cfg, state, store.len());
+    *no = asked;
+    if asked != 0 {
+        return &store[0..0];
+    }
+    let count = state.count;
+    let tags = state.tags;
+    let place = places::place_of(tag, 0, count, tags);
+    if count <= place {
+        return &store[0..0];
+    }
+    let from = place * cfg.e;
+    let end = from + cfg.e;
+    &store[from..end]
+}

@@ -1,0 +1,218 @@
+// A server's part in each kind of request.
+use crate::places;
+use crate::Floor;
+use crate::State;
+use crate::Stepped;
+use config::Config;
+use config::Refusal;
+use config::Verdict;
+use record::Header;
+use record::Kind;
+use tag::Tag;
+ghost use mathlib.Core.Path.{_≡_};
+ghost use Prim.Native.Nat.{_+_};
+ghost use Rattle.tag.specs.Tag.{key};
+ghost use Rattle.record.specs.Calls.{withElement};
+ghost use Rattle.history.specs.Server.{atOrBelowFloor};
+ghost use Rattle.history.specs.Tags.{higher as higherOf};
+ghost use Rattle.server.specs.Calls.{Steps, raised};
+ghost use Rattle.server.specs.Inner.{Appended, Dropped, Finalised, Finalising, Keeping, Keeps, Misdirected, Replied, Replying, Request, Room, present, reply, requestNumber};
+ghost use Rattle.server.specs.View.{floorOf};
+
+// The higher of two tags.
+fn higher(h: Tag, t: Tag) -> Tag
+    ensures { λ r. ⌜ r ≡ higherOf key h t ⌝ }
+{
+    if t.above(h) {
+        return t;
+    }
+    h
+}
+
+// H becomes the higher of H and the tag.
+fn raise(s: State, t: Tag) -> State
+    ensures { λ r. ⌜ r ≡ raised s t ⌝ }
+{
+    let me = s.me;
+    let h = s.highest;
+    let floor = s.floor;
+    let tags = s.tags;
+    State {
+        me,
+        highest: higher(h, t),
+        floor,
+        count: s.count,
+        tags,
+    }
+}
+
+// The tag is at or below the floor.
+fn at_or_below(t: Tag, floor: Floor) -> bool
+    ensures { λ r. ⌜ r ≡ atOrBelowFloor key t (floorOf floor) ⌝ }
+{
+    let Floor::At(f) = floor else {
+        return false;
+    };
+    !t.above(f)
+}
+
+// Writes an answer: it names the server and repeats client and operation number.
+fn respond(cfg: Config, s: State, h: Header, kind: Kind, tag: Tag, there: bool, answer: &mut [u8]) -> Stepped
+    requires { ⌜ Replying cfg (reply (s .me) h kind tag (present cfg there (now answer))) (now answer) ⌝ }
+    ensures { λ r. ⌜ Replied cfg s (reply (s .me) h kind tag (present cfg there (now (answer .entry)))) (now (answer .exit)) r ⌝ }
+{
+    let client = h.client;
+    let server = s.me;
+    let out = Header {
+        kind,
+        client,
+        server,
+        operation: h.operation,
+        tag,
+        present: there,
+    };
+    record::write(cfg, out, answer);
+    Stepped {
+        verdict: Verdict::Accepted,
+        state: s,
+    }
+}
+
+// Stores a tag and its element at the first free place.
+fn append(cfg: Config, s: State, t: Tag, element: &[u8], store: &mut [u8]) -> State
+    requires { ⌜ Room cfg (s .count + 1) (now element) (now store) ⌝ }
+    ensures { λ r. ⌜ Appended cfg s t (now (element .entry)) (now (store .entry)) (now (store .exit)) r ⌝ }
+{
+    let me = s.me;
+    let highest = s.highest;
+    let floor = s.floor;
+    let count = s.count;
+    let mut tags = s.tags;
+    places::put(cfg, count, element, store);
+    tags[count] = t;
+    State {
+        me,
+        highest,
+        floor,
+        count: count + 1,
+        tags,
+    }
+}
+
+// Of the stored tags and this one, the smallest is dropped and becomes the floor; the others are stored.
+fn drop_smallest(cfg: Config, s: State, t: Tag, element: &[u8], store: &mut [u8]) -> State
+    requires { ⌜ Room cfg (s .count) (now element) (now store) ⌝ }
+    ensures { λ r. ⌜ Dropped cfg s t (now (element .entry)) (now (store .entry)) (now (store .exit)) r ⌝ }
+{
+    let me = s.me;
+    let highest = s.highest;
+    let count = s.count;
+    let mut tags = s.tags;
+    let low = places::lowest(t, count, tags);
+    let smallest = low.tag;
+    let place = low.place;
+    let floor = Floor::At(smallest);
+    if count <= place {
+        return State {
+            me,
+            highest,
+            floor,
+            count,
+            tags,
+        };
+    }
+    places::put(cfg, place, element, store);
+    tags[place] = t;
+    State {
+        me,
+        highest,
+        floor,
+        count,
+        tags,
+    }
+}
+
+// A pre-write's tag and element: nothing is stored if the tag is stored or at or below the floor.
+fn keep(cfg: Config, s: State, t: Tag, element: &[u8], store: &mut [u8]) -> State
+    requires { ⌜ Keeping cfg s t (now element) (now store) ⌝ }
+    ensures { λ r. ⌜ Keeps cfg s t (now (element .entry)) (now (store .entry)) (now (store .exit)) r ⌝ }
+{
+    let count = s.count;
+    let tags = s.tags;
+    if places::place_of(t, 0, count, tags) < count {
+        return s;
+    }
+    let floor = s.floor;
+    if at_or_below(t, floor) {
+        return s;
+    }
+    if count <= cfg.d {
+        return append(cfg, s, t, element, store);
+    }
+    drop_smallest(cfg, s, t, element, store)
+}
+
+// Read finalise: the stored element of the tag, or an answer without one, or 15 where the tag is at or below the floor.
+fn read_finalise(cfg: Config, s: State, h: Header, store: &[u8], answer: &mut [u8]) -> Stepped
+    requires { ⌜ Finalising cfg s h (now store) (now answer) ⌝ }
+    ensures { λ r. ⌜ Finalised cfg s h (now (store .entry)) (now (answer .entry)) (now (answer .exit)) r ⌝ }
+{
+    let t = h.tag;
+    let floor = s.floor;
+    let count = s.count;
+    let tags = s.tags;
+    let after = raise(s, t);
+    let place = places::place_of(t, 0, count, tags);
+    if place < count {
+        let from = place * cfg.e;
+        let end = from + cfg.e;
+        bytes::copy(&store[from..end], &mut answer[16..]);
+        return respond(cfg, after, h, Kind::ReadFinaliseAnswer, t, true, answer);
+    }
+    if at_or_below(t, floor) {
+        return Stepped {
+            verdict: Verdict::No(Refusal::Cleared),
+            state: after,
+        };
+    }
+    respond(cfg, after, h, Kind::ReadFinaliseAnswer, t, false, answer)
+}
+
+// 16, with all as it was.
+fn misdirected(s: State) -> Stepped
+    ensures { λ r. ⌜ Misdirected s r ⌝ }
+{
+    Stepped {
+        verdict: Verdict::No(Refusal::Misdirected),
+        state: s,
+    }
+}
+
+// A request of any kind; 16 if it is none that a server receives.
+pub(crate) fn request(cfg: Config, s: State, h: Header, handed: &[u8], store: &mut [u8], answer: &mut [u8]) -> Stepped
+    requires { ⌜ Request cfg s h (now handed) (now store) (now answer) ⌝ }
+    ensures { λ r. ⌜ Steps cfg s (requestNumber cfg s (now (store .entry)) (withElement cfg h (now (handed .entry)))) (withElement cfg h (now (handed .entry))) (now (store .entry)) (now (answer .entry)) (now (store .exit)) (now (answer .exit)) r ⌝ }
+{
+    let kind = h.kind;
+    let t = h.tag;
+    match kind {
+        Kind::Query => {
+            let highest = s.highest;
+            respond(cfg, s, h, Kind::QueryAnswer, highest, false, answer)
+        }
+        Kind::PreWrite => {
+            let end = 16 + cfg.e;
+            let after = keep(cfg, s, t, &handed[16..end], store);
+            respond(cfg, after, h, Kind::PreWriteAnswer, t, false, answer)
+        }
+        Kind::WriteFinalise => {
+            let after = raise(s, t);
+            respond(cfg, after, h, Kind::WriteFinaliseAnswer, t, false, answer)
+        }
+        Kind::ReadFinalise => read_finalise(cfg, s, h, store, answer),
+        Kind::QueryAnswer => misdirected(s),
+        Kind::PreWriteAnswer => misdirected(s),
+        Kind::WriteFinaliseAnswer => misdirected(s),
+        Kind::ReadFinaliseAnswer => misdirected(s),
+    }
+}

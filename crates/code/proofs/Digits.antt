@@ -1,22 +1,34 @@
--- A product, digit by digit of its second factor.
+-- A product, digit by digit of one factor.
 use Prim.Native.Nat.{ℕ, zero, suc, _+_, _*_, _/_, _%_, _^_, _<_, _≤_}
 use mathlib.Core.Path.{_≡_, refl, sym, ap, ap₂, _∙_}
 use native.Mathlib.Omega.{arith}
-use lib.Bits.{bitAnd, and-zero-r, and-mask, xor-shifted, xor-zero-r}
-use Rattle.field.specs.Field.{plus, times, double, bit}
+use native.Mathlib.Nat.{zero-mul, one-mul, div-one}
+use lib.Bits.{bitAnd, and-zero-r, and-mask, xor-shifted, xor-zero-r, xor-zero-l}
+use Rattle.field.specs.Field.{plus, times, double, doubled, bit, sum}
 use Rattle.field.proofs.Laws.{
   times-plus-right,
   times-double,
   times-comm,
   times-one,
   times-zero-right,
-  double-plus,
   double-lt,
-  plus-assoc,
-  plus-comm,
 }
 use Rattle.field.proofs.Linear.{double-byte}
-use Rattle.laws.proofs.Xor.{by-digit, xor-swap}
+use Rattle.laws.proofs.Xor.{by-digit}
+use Rattle.code.specs.Multiples.{Multiples}
+
+-- ---- a digit
+
+-- a mask of a digit's ones keeps a byte or nothing
+pub masked : (x d : ℕ) → x < 256 → d < 2 → bitAnd x (d * 255) ≡ d * x
+masked x d lx ld =
+    by-digit (λ n. bitAnd x (n * 255) ≡ n * x) (and-zero-r x ∙ sym (zero-mul x)) (and-mask x 8 ∙ omega arith) d ld
+
+digit-times : (x d : ℕ) → x < 256 → d < 2 → d * x ≡ times x d
+digit-times x d lx ld =
+    by-digit (λ n. n * x ≡ times x n) (zero-mul x ∙ sym (times-zero-right x)) (one-mul x ∙ sym (times-one x lx)) d ld
+
+-- ---- the last digit of a factor: a product from that by the factor without it
 
 -- below 128 doubling is twice the number
 double-small : (h : ℕ) → h < 128 → double h ≡ h * 2
@@ -26,48 +38,84 @@ double-small h l =
     double-byte h ∙ ap₂ plus low high ∙ xor-zero-r (h * 2)
 
 digits : (c : ℕ) → c < 256 → c ≡ plus (double (c / 2)) (c % 2)
-digits c l = sym (ap (λ n. plus n (c % 2)) (double-small (c / 2) (omega arith)) ∙ xor-shifted (c / 2) 1 (c % 2) (omega arith) ∙ omega arith)
+digits c l =
+    sym
+    (ap (λ n. plus n (c % 2)) (double-small (c / 2) (omega arith))
+    ∙ xor-shifted (c / 2) 1 (c % 2) (omega arith)
+    ∙ omega arith)
 
 times-double-right : (x h : ℕ) → x < 256 → h < 256 → times x (double h) ≡ double (times x h)
 times-double-right x h lx lh =
     times-comm x (double h) lx (double-lt h) ∙ times-double h x ∙ ap double (times-comm h x lh lx)
 
--- a product from that by the factor without its last digit
-pub last-digit : (x c : ℕ) → x < 256 → c < 256 → plus (double (times x (c / 2))) (times x (c % 2)) ≡ times x c
+pub last-digit : (x c : ℕ) → x < 256 → c < 256 → plus (double (times x (c / 2))) (c % 2 * x) ≡ times x c
 last-digit x c lx lc =
-    ap (λ n. plus n (times x (c % 2))) (sym (times-double-right x (c / 2) lx (omega arith)))
+    ap₂ plus (sym (times-double-right x (c / 2) lx (omega arith))) (digit-times x (c % 2) lx (omega arith))
     ∙ sym (times-plus-right x (double (c / 2)) (c % 2))
     ∙ ap (times x) (sym (digits c lc))
 
--- a product by a digit, by a mask
-pub masked : (x d : ℕ) → x < 256 → d < 2 → bitAnd x (d * 255) ≡ times x d
-masked x d lx ld =
-    by-digit (λ n. bitAnd x (n * 255) ≡ times x n)
-    (and-zero-r x ∙ sym (times-zero-right x))
-    (and-mask x 8 ∙ omega arith ∙ sym (times-one x lx))
-    d ld
-
--- the same of two products at once
-pub last-digits : (x c y d : ℕ) → x < 256 → c < 256 → y < 256 → d < 256
-    → plus (plus (double (plus (times x (c / 2)) (times y (d / 2)))) (times x (c % 2))) (times y (d % 2)) ≡ plus (times x c) (times y d)
-last-digits x c y d lx lc ly ld =
-    ap (λ n. plus (plus n (times x (c % 2))) (times y (d % 2))) (double-plus (times x (c / 2)) (times y (d / 2)))
-    ∙ plus-assoc (plus (double (times x (c / 2))) (double (times y (d / 2)))) (times x (c % 2)) (times y (d % 2))
-    ∙ xor-swap (double (times x (c / 2))) (double (times y (d / 2))) (times x (c % 2)) (times y (d % 2))
-    ∙ ap₂ plus (last-digit x c lx lc) (last-digit y d ly ld)
-
--- the first digits: 1, and none
+-- the first digit is 1
 pub by-one : (x h : ℕ) → x < 256 → h ≡ 1 → x ≡ times x h
 by-one x h lx e = sym (times-one x lx) ∙ ap (times x) (sym e)
 
-pub by-none : (x h : ℕ) → h ≡ 0 → 0 ≡ times x h
-by-none x h e = sym (times-zero-right x) ∙ ap (times x) (sym e)
+pub swapped : (x s r : ℕ) → x < 256 → s < 256 → r ≡ times x s → r ≡ times s x
+swapped x s r lx ls e = e ∙ times-comm x s lx ls
 
-pub by-server : (x s r : ℕ) → x < 256 → s < 256 → r ≡ times x s → r ≡ times s x
-by-server x s r lx ls e = e ∙ times-comm x s lx ls
+-- ---- all digits of a factor: the sum of the other doubled as often as each says
 
-pub by-both : (c x d y r : ℕ) → c < 256 → x < 256 → d < 256 → y < 256 → r ≡ plus (times x c) (times y d) → r ≡ plus (times c x) (times d y)
-by-both c x d y r lc lx ld ly e = e ∙ ap₂ plus (times-comm x c lx lc) (times-comm y d ly ld)
+first : (c x : ℕ) → x % 2 * c ≡ sum 1 c x
+unfolding sum doubled
+first c x = ap (λ n. n % 2 * c) (sym (div-one x)) ∙ sym (xor-zero-l (x / 1 % 2 * c))
 
-pub by-both-none : (x h y l : ℕ) → h ≡ 0 → l ≡ 0 → 0 ≡ plus (times x h) (times y l)
-by-both-none x h y l e f = sym (ap₂ plus (sym (by-none x h e)) (sym (by-none y l f)))
+pub eight : (x c c1 c2 c3 c4 c5 c6 c7 : ℕ) → Multiples c c1 c2 c3 c4 c5 c6 c7
+    → plus (plus (plus (plus (plus (plus (plus (x % 2 * c) (x / 2 % 2 * c1)) (x / 4 % 2 * c2)) (x / 8 % 2 * c3)) (x / 16 % 2 * c4)) (x / 32 % 2 * c5)) (x / 64 % 2 * c6)) (x / 128 % 2 * c7)
+    ≡ times c x
+unfolding times sum doubled
+eight x c c1 c2 c3 c4 c5 c6 c7 m =
+    term (x / 128) (term (x / 64) (term (x / 32) (term (x / 16) (term (x / 8) (term (x / 4) (term (x / 2) (first c x) d1) d2) d3) d4) d5) d6) d7
+  where
+    term : (y : ℕ) {a b p q : ℕ} → a ≡ b → p ≡ q → plus a (y % 2 * p) ≡ plus b (y % 2 * q)
+    term y e f = ap₂ plus e (ap (λ n. y % 2 * n) f)
+
+    d1 : c1 ≡ double c
+    d1 = m .one
+
+    d2 : c2 ≡ double (double c)
+    d2 = m .two ∙ ap double d1
+
+    d3 : c3 ≡ double (double (double c))
+    d3 = m .three ∙ ap double d2
+
+    d4 : c4 ≡ double (double (double (double c)))
+    d4 = m .four ∙ ap double d3
+
+    d5 : c5 ≡ double (double (double (double (double c))))
+    d5 = m .five ∙ ap double d4
+
+    d6 : c6 ≡ double (double (double (double (double (double c)))))
+    d6 = m .six ∙ ap double d5
+
+    d7 : c7 ≡ double (double (double (double (double (double (double c))))))
+    d7 = m .seven ∙ ap double d6
+
+-- the sum over the digits below 5 is that over all where the factor is below 32
+five-digits : (x s : ℕ) → s < 32 → sum 5 x s ≡ times x s
+unfolding times sum
+five-digits x s h =
+    sym
+    (none 7 (sum 7 x s) (omega arith) ∙ none 6 (sum 6 x s) (omega arith) ∙ none 5 (sum 5 x s) (omega arith))
+  where
+    none : (n a : ℕ) → bit n s ≡ 0 → plus a (bit n s * doubled n x) ≡ a
+    none n a e = ap (λ d. plus a (d * doubled n x)) e ∙ ap (plus a) (zero-mul (doubled n x)) ∙ xor-zero-r a
+
+pub five : (s x x1 x2 x3 x4 : ℕ) → s < 32 → x < 256 → x1 ≡ double x → x2 ≡ double x1 → x3 ≡ double x2 → x4 ≡ double x3
+    → plus (plus (plus (plus (s % 2 * x) (s / 2 % 2 * x1)) (s / 4 % 2 * x2)) (s / 8 % 2 * x3)) (s / 16 % 2 * x4) ≡ times s x
+unfolding sum doubled
+five s x x1 x2 x3 x4 h lx e1 e2 e3 e4 =
+    term (s / 16) (term (s / 8) (term (s / 4) (term (s / 2) (first x s) e1) (e2 ∙ ap double e1)) (e3 ∙ ap double (e2 ∙ ap double e1)))
+    (e4 ∙ ap double (e3 ∙ ap double (e2 ∙ ap double e1)))
+    ∙ five-digits x s h
+    ∙ times-comm x s lx (omega arith)
+  where
+    term : (y : ℕ) {a b p q : ℕ} → a ≡ b → p ≡ q → plus a (y % 2 * p) ≡ plus b (y % 2 * q)
+    term y e f = ap₂ plus e (ap (λ n. y % 2 * n) f)

@@ -2,10 +2,24 @@
 use Prim.Native.Nat.{ℕ, zero, suc, _+_, _<_, _≤_}
 use mathlib.Core.Path.{_≡_, refl, sym, ap, ap₂, _∙_}
 use mathlib.Core.List.{List, [], _∷_, _++_, append-nil, append-assoc}
+use native.Mathlib.Decide.{decLt}
 use native.Mathlib.Omega.{arith}
 use native.Mathlib.Numerals.{add-one}
-use lib.ListN.{length, getD, take, drop, set, length-append, length-drop, length-set, drop-of-length-le, List·getD-append}
-use lib.Seq.{take-at, drop-at, drop-drop}
+use lib.ListN.{
+  length,
+  getD,
+  take,
+  drop,
+  set,
+  replicate,
+  length-append,
+  length-drop,
+  length-replicate,
+  getD-replicate,
+  drop-of-length-le,
+  List·getD-append,
+}
+use lib.Seq.{ext-getD, take-at, drop-at, drop-drop}
 use Rattle.code.specs.Lists.{listOf}
 use Rattle.code.proofs.Listed.{length-listOf, getD-listOf, listOf-append}
 
@@ -68,3 +82,17 @@ module _ {A : Type 0} where
       (ap₂ (λ a b. drop a (drop n b)) me h ∙ ap (drop e) (drop-at (listOf n f) (drop n l) n (length-listOf n f)) ∙ drop-drop e n l))
       ∙ sym (append-assoc (listOf n f) (listOf e (λ j. f (n + j))) (drop (n + e) l))
       ∙ ap (λ k. k ++ drop (n + e) l) (listOf-append n e f)
+
+-- zeros that are filled as far as f is not 0
+pub filled-zeros : (f : ℕ → ℕ) (n m : ℕ) → n ≤ m → ((i : ℕ) → n ≤ i → f i ≡ 0) → filled f n (replicate m 0) ≡ listOf m f
+filled-zeros f n m h z =
+    ext-getD 0 (filled f n (replicate m 0)) (listOf m f) (size ∙ sym (length-listOf m f)) (λ i l. at i (rw size at l) (decLt i n))
+  where
+    size : length (filled f n (replicate m 0)) ≡ m
+    size = length-filled f n (replicate m 0) (rw length-replicate h) ∙ length-replicate m 0
+
+    at : (i : ℕ) → i < m → Dec (i < n) → getD (filled f n (replicate m 0)) i 0 ≡ getD (listOf m f) i 0
+    at i l (yes a) = filled-at f n i (replicate m 0) 0 a ∙ sym (getD-listOf m f i 0 l)
+    at i l (no a) =
+        filled-rest f n i (replicate m 0) 0 (omega arith) (rw length-replicate l)
+        ∙ getD-replicate m i 0 0 l ∙ sym (z i (omega arith)) ∙ sym (getD-listOf m f i 0 l)

@@ -5,10 +5,11 @@ use mathlib.Core.List.{List, [], _∷_, _++_}
 use native.Mathlib.Omega.{arith}
 use native.Mathlib.Nat.{zero-add}
 use native.Mathlib.Numerals.{add-one}
+use lib.Bits.{xor-zero-l}
 use lib.ListN.{length, getD, take, replicate, getD-replicate, List·getD-eq-default}
 use lib.Seq.{take-suc}
 use Rattle.field.specs.Field.{plus, times}
-use Rattle.field.proofs.Laws.{times-zero-right, plus-zero}
+use Rattle.field.proofs.Laws.{times-zero-right, times-one, plus-zero}
 use Rattle.code.specs.Lists.{listOf}
 use Rattle.code.specs.Polynomial.{Operations, carried, rooted, roots}
 use Rattle.code.specs.Element.{bytes}
@@ -62,7 +63,7 @@ shifted p below s h =
     (λ i. plus (getD (0 ∷ p) i 0) (times s (getD p i 0)))
     (λ i l. ap₂ plus (h i l) (ap (λ x. times x (getD p i 0)) (getD-replicate 16 i s 0 l)))
 
-pub roots-none : (servers : List ℕ) → 1 ∷ 0 ∷ 0 ∷ 0 ∷ 0 ∷ 0 ∷ 0 ∷ 0 ∷ 0 ∷ 0 ∷ 0 ∷ 0 ∷ 0 ∷ 0 ∷ 0 ∷ 0 ∷ [] ≡ firstRoots 0 servers
+roots-none : (servers : List ℕ) → 1 ∷ 0 ∷ 0 ∷ 0 ∷ 0 ∷ 0 ∷ 0 ∷ 0 ∷ 0 ∷ 0 ∷ 0 ∷ 0 ∷ 0 ∷ 0 ∷ 0 ∷ 0 ∷ [] ≡ firstRoots 0 servers
 unfolding firstRoots roots rooted listOf
 roots-none servers = refl
 
@@ -74,6 +75,24 @@ roots-more r servers h =
     ∙ ap first
     (sym (ap (rooted bytes (1 ∷ [])) (ap (λ n. take n servers) (add-one r) ∙ take-suc servers r 0 h)
     ∙ rooted-last bytes (1 ∷ []) (take r servers) (getD servers r 0)))
+
+-- (x + s), of s times 1 and s times 0
+linear : ℕ → ℕ → List ℕ
+linear a b =
+    plus 0 a ∷ plus 1 b ∷ plus 0 b ∷ plus 0 b ∷ plus 0 b ∷ plus 0 b ∷ plus 0 b ∷ plus 0 b ∷ plus 0 b ∷ plus 0 b ∷ plus 0 b ∷ plus 0 b
+    ∷ plus 0 b ∷ plus 0 b ∷ plus 0 b ∷ plus 0 b ∷ []
+
+pub roots-one : (servers : List ℕ) → 0 < length servers → getD servers 0 0 < 256
+    → getD servers 0 0 ∷ 1 ∷ 0 ∷ 0 ∷ 0 ∷ 0 ∷ 0 ∷ 0 ∷ 0 ∷ 0 ∷ 0 ∷ 0 ∷ 0 ∷ 0 ∷ 0 ∷ 0 ∷ [] ≡ firstRoots 1 servers
+unfolding linear rootedOnce listOf
+roots-one servers h l =
+    ap (λ x. x ∷ 1 ∷ 0 ∷ 0 ∷ 0 ∷ 0 ∷ 0 ∷ 0 ∷ 0 ∷ 0 ∷ 0 ∷ 0 ∷ 0 ∷ 0 ∷ 0 ∷ 0 ∷ []) (sym (xor-zero-l s))
+    ∙ ap₂ linear (sym (times-one s l)) (sym (times-zero-right s))
+    ∙ ap (λ p. rootedOnce p s) (roots-none servers)
+    ∙ roots-more 0 servers h
+  where
+    s : ℕ
+    s = getD servers 0 0
 
 top : (p ss : List ℕ) (n : ℕ) → length p ≡ suc n → getD (rooted bytes p ss) (n + length ss) 0 ≡ getD p n 0
 unfolding rooted

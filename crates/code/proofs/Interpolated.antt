@@ -7,18 +7,20 @@ use native.Mathlib.Omega.{arith}
 use native.Mathlib.Nat.{mul-le-mul-right}
 use lib.Arith.{digits-div, digits-mod}
 use lib.ListN.{length, getD, take, drop}
+use lib.Seq.{ext-getD}
 use Rattle.config.specs.declared.Config.{Config}
 use Rattle.config.specs.Config.{boardLength, Valid}
 use Rattle.code.specs.Lists.{listOf}
 use Rattle.code.specs.Decode.{Decodable}
 use Rattle.code.specs.Decoded.{decoded, decodedByte}
 use Rattle.code.specs.Lanes.{Inverse, Usable}
-use Rattle.code.specs.Row.{Combinable, combined}
+use Rattle.code.specs.Row.{Combinable, combined, zeros}
 use Rattle.code.proofs.Asked.{board-small}
 use Rattle.code.proofs.Combined.{combined-decoded}
-use Rattle.code.proofs.Filled.{filled, filled-none, filled-all, length-filled, turn-part}
-use Rattle.code.proofs.Listed.{listOf-cong}
-use Rattle.code.proofs.Parts.{row-inside}
+use Rattle.code.proofs.Filled.{filled, filled-none, filled-all, filled-rest, length-filled, turn-part}
+use Rattle.code.proofs.Listed.{length-listOf, getD-listOf, listOf-cong}
+use Rattle.code.proofs.Parts.{part, part-at, part-length, row-inside}
+use Rattle.code.proofs.Rising as rise
 
 -- byte m of the board
 abbrev pub each : ℕ → ℕ → List ℕ → List ℕ → ℕ → ℕ
@@ -26,15 +28,22 @@ each k e servers elements m = decodedByte k e servers elements (m / e) (m % e)
 
 module _ (cfg : Config) (servers : List ℕ) (elements buffer : ℕ) (d : Decodable cfg servers elements buffer) where
   pub usable : Usable (cfg .k) servers
-  usable = record { low = d .valid .k-low; high = omega (arith, d .valid .k-high, d .valid .n-high); enough = d .enough }
+  usable =
+      record {
+        low = d .valid .k-low;
+        high = omega (arith, d .valid .k-high, d .valid .n-high);
+        enough = d .enough;
+        server-high = λ r h.
+            omega (arith, rise.rising-high (cfg .n) 0 servers (d .rises) r (omega (arith, d .enough)), d .valid .n-high);
+      }
 
-  pub combinable : (row : ℕ) → row ≡ cfg .e → Combinable (cfg .k) (cfg .e) elements row
+  pub combinable : (row : List ℕ) → row ≡ zeros (cfg .e) → Combinable (cfg .k) (cfg .e) elements row
   combinable row h =
       record {
         k-high = omega (arith, d .valid .k-high, d .valid .n-high);
         e-high = d .valid .e-high;
         enough = omega (arith, d .elements-length, mul-le-mul-right (cfg .e) (d .enough));
-        row-length = h;
+        clear = h;
       }
 
   pub row-fits : (i : ℕ) → i < cfg .k → (i * cfg .e + cfg .e ≤ buffer) × (buffer ≤ 1024)
@@ -46,9 +55,32 @@ module _ (cfg : Config) (servers elements : List ℕ) where
       listOf-cong (cfg .e) (decodedByte (cfg .k) (cfg .e) servers elements i) (λ j. each (cfg .k) (cfg .e) servers elements (i * cfg .e + j))
       (λ j h. sym (ap₂ (decodedByte (cfg .k) (cfg .e) servers elements) (digits-div i h) (digits-mod i h)))
 
-  pub rows-none : (buffer : List ℕ) → buffer ≡ filled (each (cfg .k) (cfg .e) servers elements) (0 * cfg .e) buffer
-  rows-none buffer =
-      filled-none (each (cfg .k) (cfg .e) servers elements) buffer ∙ ap (λ n. filled (each (cfg .k) (cfg .e) servers elements) n buffer) (omega arith)
+  pub rows-none : (buffer : List ℕ) (m : ℕ) → m ≡ boardLength cfg → buffer ≡ zeros m
+      → buffer ≡ filled (each (cfg .k) (cfg .e) servers elements) (0 * cfg .e) (zeros (boardLength cfg))
+  rows-none buffer m h e =
+      e ∙ ap zeros h ∙ filled-none (each (cfg .k) (cfg .e) servers elements) (zeros (boardLength cfg))
+      ∙ ap (λ n. filled (each (cfg .k) (cfg .e) servers elements) n (zeros (boardLength cfg))) (omega arith)
+
+  -- a row that is not yet filled is clear
+  pub row-clear : (i : ℕ) (now : List ℕ) → i < cfg .k → length now ≡ boardLength cfg
+      → now ≡ filled (each (cfg .k) (cfg .e) servers elements) (i * cfg .e) (zeros (boardLength cfg)) → part (cfg .e) now i ≡ zeros (cfg .e)
+  unfolding zeros
+  row-clear i now h ln hn =
+      ext-getD 0 (part (cfg .e) now i) (zeros (cfg .e)) (size ∙ sym (length-listOf (cfg .e) (λ j. 0)))
+      (λ j l. at j (omega (arith, size)))
+    where
+      size : length (part (cfg .e) now i) ≡ cfg .e
+      size = part-length (cfg .k) (cfg .e) i now h (omega arith)
+
+      at : (j : ℕ) → j < cfg .e → getD (part (cfg .e) now i) j 0 ≡ getD (zeros (cfg .e)) j 0
+      at j l =
+          let inside : i * cfg .e + j < boardLength cfg = omega (arith, row-inside (cfg .k) (cfg .e) i h) in
+          part-at (cfg .e) i j now l
+          ∙ ap (λ k. getD k (i * cfg .e + j) 0) hn
+          ∙ filled-rest (each (cfg .k) (cfg .e) servers elements) (i * cfg .e) (i * cfg .e + j) (zeros (boardLength cfg)) 0
+          (omega arith) (rw length-listOf inside)
+          ∙ getD-listOf (boardLength cfg) (λ m. 0) (i * cfg .e + j) 0 inside
+          ∙ sym (getD-listOf (cfg .e) (λ m. 0) j 0 l)
 
   pub rows-more : (i m : ℕ) (rows : List (List ℕ)) (before now row : List ℕ) → cfg .k ≤ length servers → Inverse (cfg .k) servers rows
       → i < cfg .k → length before ≡ boardLength cfg → m ≡ cfg .e
@@ -72,3 +104,7 @@ module _ (cfg : Config) (servers elements : List ℕ) where
   rows-all i before now h lb hn =
       hn ∙ ap (λ n. filled (each (cfg .k) (cfg .e) servers elements) (n * cfg .e) before) h
       ∙ filled-all (each (cfg .k) (cfg .e) servers elements) (boardLength cfg) before (omega arith)
+
+pub zeros-length : (m : ℕ) → length (zeros m) ≡ m
+unfolding zeros
+zeros-length m = length-listOf m (λ j. 0)

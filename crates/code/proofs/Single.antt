@@ -4,7 +4,7 @@ use mathlib.Core.Path.{_≡_, refl, sym, ap, ap₂, _∙_}
 use mathlib.Core.Bool.{true}
 use mathlib.Core.List.{List, _++_}
 use native.Mathlib.Omega.{arith}
-use native.Mathlib.Nat.{mul-le-mul-right, zero-mul}
+use native.Mathlib.Nat.{mul-le-mul-right, one-mul, zero-mul}
 use lib.Bits.{xor-zero-l}
 use lib.ListN.{length, getD, take, drop, length-take}
 use lib.Seq.{ext-getD, length-take-le}
@@ -15,6 +15,7 @@ use Rattle.field.proofs.Laws.{times-one}
 use Rattle.code.specs.Lists.{Bytes}
 use Rattle.code.specs.Polynomial.{sum}
 use Rattle.code.specs.Element.{bytes, element, elementByte}
+use Rattle.code.specs.Encode.{Encodable}
 use Rattle.code.specs.Decode.{Decodable}
 use Rattle.code.specs.Decoded.{decoded, rising}
 use Rattle.code.proofs.Decoding.{length-element, element-at, length-decoded, bytes-decoded, encode-decoded}
@@ -24,7 +25,7 @@ one-term : (f : ℕ → ℕ) (k : ℕ) → k ≡ 1 → sum bytes k f ≡ f 0
 unfolding sum
 one-term f k e = ap (λ n. sum bytes n f) e ∙ xor-zero-l (f 0)
 
-element-one : (cfg : Config) (board : List ℕ) (s : ℕ) → cfg .k ≡ 1 → length board ≡ cfg .e → Bytes board → element cfg board s ≡ board
+pub element-one : (cfg : Config) (board : List ℕ) (s : ℕ) → cfg .k ≡ 1 → length board ≡ cfg .e → Bytes board → element cfg board s ≡ board
 unfolding elementByte power
 element-one cfg board s one lb b =
     ext-getD 0 (element cfg board s) board (length-element cfg board s ∙ sym lb)
@@ -32,6 +33,17 @@ element-one cfg board s one lb b =
     ∙ one-term (λ i. times (getD board (i * cfg .e + j) 0) (power s i)) (cfg .k) one
     ∙ ap (λ n. times (getD board n 0) 1) (omega arith)
     ∙ times-one (getD board j 0) (b j))
+
+-- an encoder's buffer has the board's length
+pub same-size : (cfg : Config) (board s buffer : ℕ) → Encodable cfg board s buffer → cfg .k ≡ 1 → buffer ≡ board
+same-size cfg board s buffer h one =
+    h .buffer-length ∙ sym (h .board-length ∙ ap (λ n. n * cfg .e) one ∙ one-mul (cfg .e))
+
+pub copied-board : (cfg : Config) (board buffer : List ℕ) (s n : ℕ) → Encodable cfg (length board) s (length buffer) → cfg .k ≡ 1 → Bytes board
+    → n ≡ length board → take n board ++ drop n buffer ≡ element cfg board s
+copied-board cfg board buffer s n h one b ln =
+    copied board buffer n ln (same-size cfg (length board) s (length buffer) h one)
+    ∙ sym (element-one cfg board s one (sym (same-size cfg (length board) s (length buffer) h one) ∙ h .buffer-length) b)
 
 module _ (cfg : Config) (servers elements buffer : List ℕ) (d : Decodable cfg servers (length elements) (length buffer)) (one : cfg .k ≡ 1) where
   size : boardLength cfg ≡ cfg .e

@@ -8,15 +8,28 @@ use Rattle.code.specs.Element.{bytes}
 use Rattle.code.specs.Lists.{listOf}
 use Rattle.code.specs.Polynomial.{roots, lagrange}
 
--- there are k servers, at most 16
+-- there are k servers, at most 16, none above 16
 pub record Usable (k : ℕ) (servers : List ℕ) : Type 0 where
   pub low : 1 ≤ k
   pub high : k ≤ 16
   pub enough : k ≤ length servers
+  pub server-high : (r : ℕ) → r < k → getD servers r 0 ≤ 16
+
+-- no lane is above 31
+abbrev pub Small : List ℕ → Type 0
+Small s = (t : ℕ) → getD s t 0 < 32
 
 -- in each lane s times x, plus c
 unfoldable pub advanced : List ℕ → List ℕ → List ℕ → List ℕ
 advanced x s c = listOf 16 (λ t. plus (getD c t 0) (times (getD s t 0) (getD x t 0)))
+
+-- in each lane d times x
+unfoldable pub scaledLanes : List ℕ → List ℕ → List ℕ
+scaledLanes x d = listOf 16 (λ t. times (getD d t 0) (getD x t 0))
+
+-- the numbers of the first k servers, and 0 in the other lanes
+unfoldable pub numbers : ℕ → List ℕ → List ℕ
+numbers k servers = listOf 16 (λ r. getD (take k servers) r 0)
 
 -- the first 16 coefficients of (x + s) p, of the first 16 of p
 unfoldable pub rootedOnce : List ℕ → ℕ → List ℕ
@@ -30,3 +43,8 @@ firstRoots k servers = listOf 16 (λ i. getD (roots bytes (take k servers)) i 0)
 abbrev pub Inverse : ℕ → List ℕ → List (List ℕ) → Type 0
 Inverse k servers rows = (i r : ℕ) → i < k → r < k
     → getD (getD rows i []) r 0 ≡ getD (lagrange bytes (take k servers) (getD servers r 0)) i 0
+
+-- the first k rows, each lane scaled by its own
+abbrev pub Scaled : ℕ → List ℕ → List (List ℕ) → List (List ℕ) → Type 0
+Scaled k d before after = (i t : ℕ) → i < k → t < 16
+    → getD (getD after i []) t 0 ≡ times (getD d t 0) (getD (getD before i []) t 0)

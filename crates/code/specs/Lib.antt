@@ -4,5 +4,6 @@ pub mod Element
 pub mod Encode
 pub mod Lanes
 pub mod Lists
+pub mod Multiples
 pub mod Polynomial
 pub mod Row

@@ -12,9 +12,9 @@ use Rattle.code.specs.Polynomial.{sum}
 unfoldable pub stepped : List ℕ → ℕ → List ℕ → List ℕ
 stepped row s more = listOf (length row) (λ j. plus (getD more j 0) (times s (getD row j 0)))
 
--- the row, plus c times x and d times y
-unfoldable pub added : List ℕ → ℕ → List ℕ → ℕ → List ℕ → List ℕ
-added row c x d y = listOf (length row) (λ j. plus (getD row j 0) (plus (times c (getD x j 0)) (times d (getD y j 0))))
+-- the row, plus c times x
+unfoldable pub added : List ℕ → ℕ → List ℕ → List ℕ
+added row c x = listOf (length row) (λ j. plus (getD row j 0) (times c (getD x j 0)))
 
 -- a row of zeros
 unfoldable pub zeros : ℕ → List ℕ
@@ -24,9 +24,9 @@ zeros e = listOf e (λ j. 0)
 unfoldable pub combined : ℕ → ℕ → List ℕ → List ℕ → List ℕ
 combined k e c elements = listOf e (λ j. sum bytes k (λ r. times (getD c r 0) (getD elements (r * e + j) 0)))
 
--- there are k elements of e bytes, and a row
-pub record Combinable (k e elements row : ℕ) : Type 0 where
+-- there are k elements of e bytes, and a row of zeros
+pub record Combinable (k e elements : ℕ) (row : List ℕ) : Type 0 where
   pub k-high : k ≤ 16
   pub e-high : e ≤ 64
   pub enough : k * e ≤ elements
-  pub row-length : row ≡ e
+  pub clear : row ≡ zeros e

@@ -26,6 +26,7 @@ fn interpolate(cfg: Config, servers: &[u8], elements: &[u8], buffer: &mut [u8])
     let k = cfg.k;
     let e = cfg.e;
     let inverse = crate::inverse::invert(k, servers);
+    crate::row::clear(buffer);
     let mut i = 0;
     while i < k {
         let at = i * e;
@@ -34,28 +35,15 @@ fn interpolate(cfg: Config, servers: &[u8], elements: &[u8], buffer: &mut [u8])
     }
 }
 
-// A row: the sum over the first k elements of coefficient times element, two at a time.
+// A row: the sum over the first k elements of coefficient times element.
 fn combine(k: usize, e: usize, c: [u8; 16], elements: &[u8], row: &mut [u8])
-    requires { ⌜ Combinable k e (length (now elements)) (length (now row)) ⌝ }
+    requires { ⌜ Combinable k e (length (now elements)) (now row) ⌝ }
     ensures { λ _. ⌜ now (row .exit) ≡ combined k e c (now (elements .entry)) ⌝ }
 {
-    crate::row::clear(row);
     let mut r = 0;
-    while r + 1 < k {
+    while r < k {
         let at = r * e;
-        let q = r + 1;
-        let next = q * e;
-        crate::row::add(
-            row,
-            c[r],
-            &elements[at..at + e],
-            c[q],
-            &elements[next..next + e],
-        );
-        r += 2;
-    }
-    if r < k {
-        let at = r * e;
-        crate::row::add(row, c[r], &elements[at..at + e], 0, &elements[at..at + e]);
+        crate::row::add(row, c[r], &elements[at..at + e]);
+        r += 1;
     }
 }

@@ -5,7 +5,19 @@ ghost use Rattle.code.specs.Element.{element};
 ghost use Rattle.code.specs.Encode.{Encodable};
 use config::Config;
 
-pub(crate) fn evaluate(cfg: Config, board: &[u8], s: u8, buffer: &mut [u8])
+// Of one row, the element is the board.
+pub(crate) fn encode(cfg: Config, board: &[u8], s: u8, buffer: &mut [u8])
+    requires { ⌜ Encodable cfg (length (now board)) s (length (now buffer)) ⌝ }
+    ensures { λ _. ⌜ now (buffer .exit) ≡ element cfg (now (board .entry)) s ⌝ }
+{
+    if cfg.k == 1 {
+        bytes::copy(board, buffer);
+        return;
+    }
+    evaluate(cfg, board, s, buffer);
+}
+
+fn evaluate(cfg: Config, board: &[u8], s: u8, buffer: &mut [u8])
     requires { ⌜ Encodable cfg (length (now board)) s (length (now buffer)) ⌝ }
     ensures { λ _. ⌜ now (buffer .exit) ≡ element cfg (now (board .entry)) s ⌝ }
 {

@@ -3,19 +3,32 @@
 // scaled.
 ghost use mathlib.Core.Path.{_≡_};
 ghost use Prim.Native.Nat.{ℕ, _<_, _≤_};
-ghost use mathlib.Core.List.{[]};
 ghost use lib.ListN.{getD, length};
-ghost use Rattle.field.specs.Field.{inverseOf, times};
-ghost use Rattle.code.specs.Lanes.{Inverse, Usable, advanced, firstRoots, rootedOnce};
+ghost use Rattle.field.specs.Field.{inverseOf};
+ghost use Rattle.code.specs.Lanes.{Inverse, Scaled, Small, Usable, advanced, firstRoots, numbers, rootedOnce, scaledLanes};
 
 // in each lane s times x, plus c
 fn advance(x: [u8; 16], s: [u8; 16], c: [u8; 16]) -> [u8; 16]
+    requires { ⌜ Small s ⌝ }
     ensures { λ r. ⌜ r ≡ advanced x s c ⌝ }
 {
     let mut r = [0u8; 16];
     let mut t = 0;
     while t < 16 {
-        r[t] = c[t] ^ crate::digit::one(s[t], x[t]);
+        r[t] = c[t] ^ crate::digit::small(s[t], x[t]);
+        t += 1;
+    }
+    r
+}
+
+// in each lane d times x
+fn multiply(x: [u8; 16], d: [u8; 16]) -> [u8; 16]
+    ensures { λ r. ⌜ r ≡ scaledLanes x d ⌝ }
+{
+    let mut r = [0u8; 16];
+    let mut t = 0;
+    while t < 16 {
+        r[t] = crate::digit::product(d[t], x[t]);
         t += 1;
     }
     r
@@ -23,6 +36,7 @@ fn advance(x: [u8; 16], s: [u8; 16], c: [u8; 16]) -> [u8; 16]
 
 // the first 16 coefficients of (x + s) p
 fn root(p: [u8; 16], s: u8) -> [u8; 16]
+    requires { ⌜ s ≤ 16 ⌝ }
     ensures { λ r. ⌜ r ≡ rootedOnce p s ⌝ }
 {
     let mut below = [0u8; 16];
@@ -41,8 +55,9 @@ fn roots(k: usize, servers: &[u8]) -> [u8; 16]
     ensures { λ r. ⌜ r ≡ firstRoots k (now (servers .entry)) ⌝ }
 {
     let mut p = [0u8; 16];
-    p[0] = 1;
-    let mut r = 0;
+    p[0] = servers[0];
+    p[1] = 1;
+    let mut r = 1;
     while r < k {
         let q = root(p, servers[r]);
         p = q;
@@ -54,7 +69,7 @@ fn roots(k: usize, servers: &[u8]) -> [u8; 16]
 // the numbers of the servers used, one in a lane
 fn lanes(k: usize, servers: &[u8]) -> [u8; 16]
     requires { ⌜ Usable k (now servers) ⌝ }
-    ensures { λ r. ⌜ ((i : ℕ) → i < k → getD r i 0 ≡ getD (now (servers .entry)) i 0) ⌝ }
+    ensures { λ r. ⌜ r ≡ numbers k (now (servers .entry)) ⌝ }
 {
     let mut s = [0u8; 16];
     let mut r = 0;
@@ -87,31 +102,31 @@ pub(crate) fn invert(k: usize, servers: &[u8]) -> [[u8; 16]; 16]
     let p = roots(k, servers);
     let mut inverse = [[0u8; 16]; 16];
     let mut q = [1u8; 16];
-    let mut v = [0u8; 16];
-    let mut i = k;
+    let mut v = [1u8; 16];
+    let mut i = k - 1;
+    inverse[i] = q;
     while 0 < i {
+        let c = [p[i]; 16];
+        let w = advance(q, s, c);
+        q = w;
         i -= 1;
         inverse[i] = q;
         let w = advance(v, s, q);
         v = w;
-        let c = [p[i]; 16];
-        let w = advance(q, s, c);
-        q = w;
     }
-    scaled(k, inverse, inverted(k, v))
+    scale(k, inverted(k, v), &mut inverse);
+    inverse
 }
 
 // the first k rows, each lane scaled by its own
-fn scaled(k: usize, mut rows: [[u8; 16]; 16], d: [u8; 16]) -> [[u8; 16]; 16]
-    requires { ⌜ (k ≤ 16) × (length rows ≡ 16) ⌝ }
-    ensures { λ r. ⌜ ((i t : ℕ) → i < k → t < 16 → getD (getD r i []) t 0 ≡ times (getD d t 0) (getD (getD rows i []) t 0)) ⌝ }
+fn scale(k: usize, d: [u8; 16], rows: &mut [[u8; 16]; 16])
+    requires { ⌜ (k ≤ 16) × (length (now rows) ≡ 16) ⌝ }
+    ensures { λ _. ⌜ Scaled k d (now (rows .entry)) (now (rows .exit)) ⌝ }
 {
-    let nought = [0u8; 16];
     let mut i = 0;
     while i < k {
-        let row = advance(rows[i], d, nought);
+        let row = multiply(rows[i], d);
         rows[i] = row;
         i += 1;
     }
-    rows
 }

@@ -20,7 +20,7 @@ pub fn encode(cfg: Config, board: &[u8], s: u8, buffer: &mut [u8]) -> Verdict
     if no != 0 {
         return Verdict::of(no);
     }
-    element::evaluate(cfg, board, s, buffer);
+    element::encode(cfg, board, s, buffer);
     Verdict::Accepted
 }
 

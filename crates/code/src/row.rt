@@ -16,14 +16,21 @@ pub(crate) fn step(row: &mut [u8], s: u8, more: &[u8])
     }
 }
 
-// adds c times x and d times y to a row
-pub(crate) fn add(row: &mut [u8], c: u8, x: &[u8], d: u8, y: &[u8])
-    requires { ⌜ (length (now row) ≡ length (now x)) × (length (now x) ≡ length (now y)) ⌝ }
-    ensures { λ _. ⌜ now (row .exit) ≡ added (now (row .entry)) c (now (x .entry)) d (now (y .entry)) ⌝ }
+// adds c times x to a row
+pub(crate) fn add(row: &mut [u8], c: u8, x: &[u8])
+    requires { ⌜ length (now row) ≡ length (now x) ⌝ }
+    ensures { λ _. ⌜ now (row .exit) ≡ added (now (row .entry)) c (now (x .entry)) ⌝ }
 {
+    let c1 = field::double(c);
+    let c2 = field::double(c1);
+    let c3 = field::double(c2);
+    let c4 = field::double(c3);
+    let c5 = field::double(c4);
+    let c6 = field::double(c5);
+    let c7 = field::double(c6);
     let mut j = 0;
     while j < x.len() {
-        row[j] = row[j] ^ crate::digit::two(c, x[j], d, y[j]);
+        row[j] = row[j] ^ crate::digit::sum(x[j], c, c1, c2, c3, c4, c5, c6, c7);
         j += 1;
     }
 }

@@ -24,8 +24,8 @@ returns c =
     (c .before .before .encode .result) (c .of .result) (c .before .before .encode .ensures) (c .before .if1 .taken) (c .of .ensures) in
     record { number = a .0; buffer = a .1 }
 
-evaluate-requires : tie.Need-evaluate-requires
-evaluate-requires c κs =
+encode-requires-2 : tie.Need-encode-requires-2
+encode-requires-2 c κs =
     let x = c .before .before .before .before .before .args in
     encodable (x .cfg) (length (x .board .now)) (x .s) (length (x .buffer .now)) (sym (c .before .before .encode .ensures) ∙ c .before .if1 .left)
 
@@ -37,10 +37,10 @@ returns-2 c =
     let x = c .before .before .before .before .before .before .before .before .args in
     let a =
     accepted (firstNo (encodeQuestions (x .cfg) (length (x .board .now)) (x .s) (length (x .buffer .now)))) (element (x .cfg) (x .board .now) (x .s)) (x .buffer .now) _
-    (sym (c .before .before .before .before .before .encode .ensures) ∙ c .before .before .before .before .if1 .left) (c .before .before .evaluate .ensures) in
+    (sym (c .before .before .before .before .before .encode .ensures) ∙ c .before .before .before .before .if1 .left) (c .before .before .encode2 .ensures) in
     record { number = a .0; buffer = a .1 }
 
 pub encode-spec : {M : Type 1} → statement M
 encode-spec =
     tie.close
-    (tie.spec encode-requires of-requires returns evaluate-requires same-length returns-2)
+    (tie.spec encode-requires of-requires returns encode-requires-2 same-length returns-2)

@@ -9,7 +9,7 @@ mul-result : tie.Need-mul-result
 mul-result c = search needs
 
 returns : tie.Need-returns
-returns c = masked (c .args .x) (c .args .c % 2) (search needs) (search needs)
+returns c = masked (c .args .x) (c .args .d % 2) (search needs) (search needs)
 
 pub kept-spec : {M : Type 1} → statement M
 kept-spec = tie.close (tie.spec mul-result returns)

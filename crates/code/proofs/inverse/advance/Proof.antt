@@ -28,14 +28,14 @@ loop-holds c = (omega arith, refl, filled-none _ _)
 array-read-r : tie.Need-array-read-r Inv-loop μ-loop
 array-read-r c = search needs
 
-array-read-one : tie.Need-array-read-one Inv-loop μ-loop
-array-read-one c = search needs
+array-read-small : tie.Need-array-read-small Inv-loop μ-loop
+array-read-small c = search needs
 
-array-read-one-2 : tie.Need-array-read-one-2 Inv-loop μ-loop
-array-read-one-2 c = search needs
+array-read-small-2 : tie.Need-array-read-small-2 Inv-loop μ-loop
+array-read-small-2 c = search needs
 
-one-requires : tie.Need-one-requires Inv-loop μ-loop
-one-requires c κs = search needs
+small-requires : tie.Need-small-requires Inv-loop μ-loop
+small-requires c κs = c .before .before .pre (c .before .loop .t)
 
 array-write-r : tie.Need-array-write-r Inv-loop μ-loop
 array-write-r c = search needs
@@ -54,7 +54,7 @@ loop-again c =
       omega arith,
       length-set (at .r) (at .t) _ ∙ at .inv .1,
       turn (each (a .t1) (a .t2) (a .t3)) (at .t) (replicate 16 0) (at .r) _ (at .inv .2) (omega arith)
-          (ap (bitXor (getD (a .t3) (at .t) 0)) (c .one .ensures)),
+          (ap (bitXor (getD (a .t3) (at .t) 0)) (c .small .ensures)),
     )
 
 returns : tie.Need-returns Inv-loop μ-loop
@@ -72,9 +72,9 @@ advance-spec =
     μ-loop
     loop-holds
     array-read-r
-    array-read-one
-    array-read-one-2
-    one-requires
+    array-read-small
+    array-read-small-2
+    small-requires
     array-write-r
     add-t
     loop-less

@@ -6,6 +6,7 @@ use borrow.Author.Needs.{needs}
 use native.Mathlib.Omega.{arith}
 use lib.ListN.{length, getD, length-set, replicate}
 use Rattle.code.specs.Lists.{listOf}
+use Rattle.code.proofs.Advanced.{same-small}
 use Rattle.code.proofs.Filled.{filled, filled-at, turn}
 use Rattle.code.proofs.FirstRoots.{below-at, shifted}
 use Rattle.code.proofs.inverse.root.Statement.{statement}
@@ -48,7 +49,7 @@ loop-again c =
     )
 
 advance-requires : tie.Need-advance-requires Inv-loop μ-loop
-advance-requires c κs = search needs
+advance-requires c κs = same-small (c .before .before .args .s) (c .before .before .pre)
 
 returns : tie.Need-returns Inv-loop μ-loop
 returns c =

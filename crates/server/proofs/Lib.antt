@@ -4,10 +4,13 @@ pub mod Begin
 pub mod Each
 pub mod Handed
 pub mod Held
+pub mod Invariant
 pub mod Keep
 pub mod Keys
 pub mod Lending
 pub mod Lists
 pub mod Put
+pub mod Received
 pub mod Stepping
+pub mod Tags
 pub mod Views

@@ -1,4 +1,5 @@
 pub mod Calls
 pub mod Inner
 pub mod Kept
+pub mod Received
 pub mod View

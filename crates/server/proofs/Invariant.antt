@@ -258,11 +258,11 @@ module _ {Element : Type 0} (cfg : Config) (high : cfg .c ≤ 16) (s : ℕ) (v :
   step-kept = by-kind (m .kind)
 
 -- H never falls
-module _ {Element : Type 0} (d s : ℕ) (v : Server Element) (m : Message Element) where
-  rises-by : (b : Bool) (h t : Tag) → ltb (key h) (key t) ≡ b → key h ≤ key (cond b t h)
-  rises-by true h t e = omega (arith, ltb-true (key h) (key t) e)
-  rises-by false h t e = omega arith
+pub rises-by : (b : Bool) (h t : Tag) → ltb (key h) (key t) ≡ b → key h ≤ key (cond b t h)
+rises-by true h t e = omega (arith, ltb-true (key h) (key t) e)
+rises-by false h t e = omega arith
 
+module _ {Element : Type 0} (d s : ℕ) (v : Server Element) (m : Message Element) where
   finalised-rises : key (v .highest) ≤ key (finalised key v (m .tag) .highest)
   unfolding finalised higher
   finalised-rises = rises-by (ltb (key (v .highest)) (key (m .tag))) (v .highest) (m .tag) refl

@@ -7,8 +7,10 @@ pub mod Held
 pub mod Invariant
 pub mod Keep
 pub mod Keys
+pub mod Laws
 pub mod Lending
 pub mod Lists
+pub mod Order
 pub mod Put
 pub mod Received
 pub mod Stepping

@@ -84,9 +84,12 @@ module _ (cfg : Config) (high : cfg .c ≤ 16) (highest : Tag) (floor : Option T
   unfolding floorKept
   floor-room none h lt us = refl
   floor-room (some f) h lt us =
-      absurd (omega (arith, eqb-true (length ts) (cfg .d + 1)
-      (and-right (allowed (cfg .c) f) (eqb (length ts) (cfg .d + 1))
-      (and-left (allowed (cfg .c) f && eqb (length ts) (cfg .d + 1)) (every (λ (x : Tag). above x f) ts) h))))
+      absurd (omega (
+        arith,
+        eqb-true (length ts) (cfg .d + 1)
+            (and-right (allowed (cfg .c) f) (eqb (length ts) (cfg .d + 1))
+            (and-left (allowed (cfg .c) f && eqb (length ts) (cfg .d + 1)) (every (λ (x : Tag). above x f) ts) h)),
+      ))
 
   pub kept-last : length ts < cfg .d + 1 → kept cfg highest floor (ts ++ t ∷ []) ≡ true
   kept-last lt =
@@ -123,10 +126,10 @@ module _ (cfg : Config) (high : cfg .c ≤ 16) (highest : Tag) (floor : Option T
         make-kept cfg highest (some u) ts (kept-highest cfg highest floor ts k) (omega arith) all-allowed (kept-once cfg highest floor ts k)
         (floor-full ts full
         (λ x i.
-          let differ : key x ≡ key u → ⊥ =
-          λ z. true≢false (sym i ∙ ap (λ (y : Tag). among y ts) (key-one x t (x-small x i) st (z ∙ e)) ∙ apart) in
-          let le : key u ≤ key x = low-of x i in
-          key-above x u (x-small x i) su (omega arith)))
+        let differ : key x ≡ key u → ⊥ =
+        λ z. true≢false (sym i ∙ ap (λ (y : Tag). among y ts) (key-one x t (x-small x i) st (z ∙ e)) ∙ apart) in
+        let le : key u ≤ key x = low-of x i in
+        key-above x u (x-small x i) su (omega arith)))
 
     -- another is, and t has its place
     pub kept-replaced : (key u ≡ key t → ⊥) → kept cfg highest (some u) (replaced u t ts) ≡ true
@@ -134,15 +137,15 @@ module _ (cfg : Config) (high : cfg .c ≤ 16) (highest : Tag) (floor : Option T
         let once-ts = kept-once cfg highest floor ts k in
         let of : (x : Tag) → among x (replaced u t ts) ≡ true → (allowed (cfg .c) x ≡ true) × (key u ≤ key x) =
         λ x i.
-          ⊎-elim (λ w. (every-in (allowed (cfg .c)) ts x all-allowed w, low-of x w))
-          (λ w. (ap (allowed (cfg .c)) (sym w) ∙ ok, omega (arith, lowest-first t ts, ap key w))) (replaced-in u t x ts i) in
+        ⊎-elim (λ w. (every-in (allowed (cfg .c)) ts x all-allowed w, low-of x w))
+        (λ w. (ap (allowed (cfg .c)) (sym w) ∙ ok, omega (arith, lowest-first t ts, ap key w))) (replaced-in u t x ts i) in
         make-kept cfg highest (some u) (replaced u t ts) (kept-highest cfg highest floor ts k) (omega (arith, replaced-long u t ts))
         (in-every (allowed (cfg .c)) (replaced u t ts) (λ x i. of x i .0)) (once-replaced u t ts once-ts apart)
         (floor-full (replaced u t ts) (replaced-long u t ts ∙ full)
         (λ x i.
-          let differ : key x ≡ key u → ⊥ = replaced-gone (cfg .c) high u t (λ z. ne (sym z)) x ts all-allowed once-ts i in
-          let le : key u ≤ key x = of x i .1 in
-          key-above x u (small (cfg .c) x high (of x i .0)) su (omega arith)))
+        let differ : key x ≡ key u → ⊥ = replaced-gone (cfg .c) high u t (λ z. ne (sym z)) x ts all-allowed once-ts i in
+        let le : key u ≤ key x = of x i .1 in
+        key-above x u (small (cfg .c) x high (of x i .0)) su (omega arith)))
 
 -- Storing, by cases: nothing changes, there is room, t itself is the lowest, another is.
 module _ {Element : Type 0} (cfg : Config) (high : cfg .c ≤ 16) (v : Server Element) (k : serverKept cfg v ≡ true) (y : Stored Element)

@@ -97,8 +97,8 @@ module _ (cfg : Config) (s : State) (t : Tag) (element store : List ℕ) (k : Ke
           record {
             me = ap (λ (x : State). x .me) (a .state);
             view =
-              rw (a .state, a .store, not-stored, above-floor, many, lt-ltb (s .count) (cfg .d + 1) (omega arith))
-              (append-view cfg s store t element (k .sized) (a .eight) eights fits);
+                rw (a .state, a .store, not-stored, above-floor, many, lt-ltb (s .count) (cfg .d + 1) (omega arith))
+                (append-view cfg s store t element (k .sized) (a .eight) eights fits);
             long = ap length (a .store) ∙ put-long (s .count * cfg .e) (cfg .e) element store (k .sized) fits;
           }
 

@@ -110,12 +110,12 @@ module _ (cfg : Config) (me : ServerNumber) (element before after : List ℕ) (r
       record {
         valid = v;
         kept =
-          kept-state cfg (r .state) after
-          (ap (λ (x : State). within 1 (cfg .n) (serverNumber (x .me))) (post .state) ∙ and-right (sized && long) here (answered .1))
-          (ap (serverKept cfg) fresh-view ∙ fresh-kept cfg element);
+            kept-state cfg (r .state) after
+            (ap (λ (x : State). within 1 (cfg .n) (serverNumber (x .me))) (post .state) ∙ and-right (sized && long) here (answered .1))
+            (ap (serverKept cfg) fresh-view ∙ fresh-kept cfg element);
         long =
-          ap length after-is ∙ length-append element (drop (cfg .e) before)
-          ∙ omega (arith, its-size, length-drop (cfg .e) before, l);
+            ap length after-is ∙ length-append element (drop (cfg .e) before)
+            ∙ omega (arith, its-size, length-drop (cfg .e) before, l);
       }
 
 -- Step: whatever record is handed over, question 6 is kept and H never falls.
@@ -177,8 +177,8 @@ module _ (cfg : Config) (s : State) (handed store answer storeAfter answerAfter 
       record {
         valid = held .valid;
         kept =
-          kept-state cfg (r .state) storeAfter
-          (ap (λ (x : ServerNumber). within 1 (cfg .n) (serverNumber x)) (post .me) ∙ state-me cfg s (held .kept)) after-kept;
+            kept-state cfg (r .state) storeAfter
+            (ap (λ (x : ServerNumber). within 1 (cfg .n) (serverNumber x)) (post .me) ∙ state-me cfg s (held .kept)) after-kept;
         long = post .long ∙ held .long;
       }
 
@@ -258,11 +258,12 @@ module _ (cfg : Config) (s : State) (m : Message (List ℕ)) (store answer store
   by-answer none e =
       let p : Steps cfg s 15 m store answer storeAfter answerAfter r =
       subst (λ (x : Option (Message (List ℕ))). Steps cfg s (cond (answers x) 0 15) m store answer storeAfter answerAfter r) e steps in
-      let some-number : _≡_ {A = ℕ} 15 0 → ⊥ = λ z. omega arith in
-      (ap₂ {A = State} (λ (x : State) (l : List ℕ). view cfg x l) (p .state some-number) (p .store some-number)
-      ∙ raised-view cfg s (recordOf cfg m) store answer storeAfter answerAfter r held post (m .tag)
-      ∙ sym (silent-server (cfg .d) (serverNumber (s .me)) (view cfg s store) m (and-right (eqb (m .server) (serverNumber (s .me))) (receives (m .kind)) mine) e),
-      p .answer)
+      let some-number : _≡_ {A = ℕ} 15 0 → ⊥ = λ z. omega arith in (
+        ap₂ {A = State} (λ (x : State) (l : List ℕ). view cfg x l) (p .state some-number) (p .store some-number)
+            ∙ raised-view cfg s (recordOf cfg m) store answer storeAfter answerAfter r held post (m .tag)
+            ∙ sym (silent-server (cfg .d) (serverNumber (s .me)) (view cfg s store) m (and-right (eqb (m .server) (serverNumber (s .me))) (receives (m .kind)) mine) e),
+        p .answer,
+      )
   by-answer (some a) e =
       let p : Steps cfg s 0 m store answer storeAfter answerAfter r =
       subst (λ (x : Option (Message (List ℕ))). Steps cfg s (cond (answers x) 0 15) m store answer storeAfter answerAfter r) e steps in
@@ -349,7 +350,7 @@ module _ (cfg : Config) (s z : State) (handed answer storeS storeZ storeA storeB
         number = postA .number ∙ first-one ∙ sym (postB .number);
         answer = answer-one;
         view =
-          λ n.
+            λ n.
             let e : firstS ≡ 0 = sym (postA .number) ∙ n in
             subst₂ SameButOrder (sym (postA .view e)) (sym (postB .view (sym first-one ∙ e))) (servers-one (tag-of e));
       }

@@ -2,6 +2,7 @@ pub mod Answering
 pub mod Asked
 pub mod Begin
 pub mod Each
+pub mod Figures
 pub mod Handed
 pub mod Held
 pub mod Invariant

@@ -266,8 +266,8 @@ module _ {Element : Type 0} (cfg : Config) (high : cfg .c ≤ 16) (v w : Server 
           highest = r .highest;
           floor = ap {B = Option Tag} some smallest-same;
           stored =
-            rw (← smallest-same)
-            (others-by (eqb (key (smallest key (y .tag) (v .stored))) (key (y .tag))) (smallest key (y .tag) (v .stored)));
+              rw (← smallest-same)
+              (others-by (eqb (key (smallest key (y .tag) (v .stored))) (key (y .tag))) (smallest key (y .tag) (v .stored)));
         }
 
     by-tests : (a b : Bool) → SameButOrder (cond a v (cond b (addLast v y) (dropSmallest key v y))) (cond a w (cond b (addLast w y) (dropSmallest key w y)))

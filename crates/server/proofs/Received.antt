@@ -116,7 +116,7 @@ module _ {Element : Type 0} (cfg : Config) (high : cfg .c ≤ 16) (received : Li
         allowed = now-allowed;
         stored = λ x h. further t x received (k .stored x h);
         known =
-          λ x h. ⊎-elim (λ w. ap (λ (z : Tag). among z ts || atOrBelowFloor key z (v .floor)) (sym w) ∙ e) (λ w. k .known x w) (at-front t x received h);
+            λ x h. ⊎-elim (λ w. ap (λ (z : Tag). among z ts || atOrBelowFloor key z (v .floor)) (sym w) ∙ e) (λ w. k .known x w) (at-front t x received h);
         floor = λ f h. further t f received (k .floor f h);
       }
 
@@ -134,18 +134,18 @@ module _ {Element : Type 0} (cfg : Config) (high : cfg .c ≤ 16) (received : Li
         kept = q;
         allowed = now-allowed;
         stored =
-          λ x h.
+            λ x h.
             ⊎-elim (λ w. further t x received (k .stored x w)) (λ w. ap (λ (z : Tag). among z (t ∷ received)) (sym (same-one t x w)) ∙ front t received)
             (or-true (among x ts) (same t x) (sym (last-holds x) ∙ h));
         known =
-          λ x h.
+            λ x h.
             let b = atOrBelowFloor key x (addLast v y .floor) in
             ⊎-elim
             (λ w. or-first (holds (addLast v y) x) b (last-holds x ∙ or-second (among x ts) (same t x) (ap (same t) (sym w) ∙ same-self t)))
             (λ w.
-              ⊎-elim (λ i. or-first (holds (addLast v y) x) b (last-holds x ∙ or-first (among x ts) (same t x) i))
-              (λ i. or-second (holds (addLast v y) x) b (ap (atOrBelowFloor key x) last-floor ∙ i))
-              (or-true (among x ts) (atOrBelowFloor key x (v .floor)) (k .known x w)))
+            ⊎-elim (λ i. or-first (holds (addLast v y) x) b (last-holds x ∙ or-first (among x ts) (same t x) i))
+            (λ i. or-second (holds (addLast v y) x) b (ap (atOrBelowFloor key x) last-floor ∙ i))
+            (or-true (among x ts) (atOrBelowFloor key x (v .floor)) (k .known x w)))
             (at-front t x received h);
         floor = λ f h. further t f received (k .floor f (sym last-floor ∙ h));
       }
@@ -170,13 +170,13 @@ module _ {Element : Type 0} (cfg : Config) (high : cfg .c ≤ 16) (received : Li
         allowed = now-allowed;
         stored = λ x h. further t x received (k .stored x h);
         known =
-          λ x h.
+            λ x h.
             let b = atOrBelowFloor key x (some u) in
             ⊎-elim (λ w. or-second (among x ts) b (below-some x (omega (arith, ap key w))))
             (λ w.
-              ⊎-elim (λ i. or-first (among x ts) b i)
-              (λ i. or-second (among x ts) b (below-some x (below-low (v .floor) (kept-floor cfg (v .highest) (v .floor) ts its-kept) x i f)))
-              (or-true (among x ts) (atOrBelowFloor key x (v .floor)) (k .known x w)))
+            ⊎-elim (λ i. or-first (among x ts) b i)
+            (λ i. or-second (among x ts) b (below-some x (below-low (v .floor) (kept-floor cfg (v .highest) (v .floor) ts its-kept) x i f)))
+            (or-true (among x ts) (atOrBelowFloor key x (v .floor)) (k .known x w)))
             (at-front t x received h);
         floor = low-floor;
       }
@@ -204,18 +204,18 @@ module _ {Element : Type 0} (cfg : Config) (high : cfg .c ≤ 16) (received : Li
           kept = q;
           allowed = now-allowed;
           stored =
-            λ x h.
+              λ x h.
               ⊎-elim (λ w. further t x received (k .stored x w)) (λ w. ap (λ (z : Tag). among z (t ∷ received)) (sym w) ∙ front t received)
               (replaced-in u t x ts (sym (taken-holds x) ∙ h));
           known =
-            λ x h.
+              λ x h.
               let b = atOrBelowFloor key x (some u) in
               ⊎-elim
               (λ w. or-first (among x (tagsOf xs)) b (taken-holds x ∙ ap (λ (z : Tag). among z (replaced u t ts)) (sym w) ∙ replaced-new u t ts low-stored))
               (λ w.
-                ⊎-elim (λ i. still x i)
-                (λ i. or-second (among x (tagsOf xs)) b (below-some x (below-low (v .floor) (kept-floor cfg (v .highest) (v .floor) ts its-kept) x i f)))
-                (or-true (among x ts) (atOrBelowFloor key x (v .floor)) (k .known x w)))
+              ⊎-elim (λ i. still x i)
+              (λ i. or-second (among x (tagsOf xs)) b (below-some x (below-low (v .floor) (kept-floor cfg (v .highest) (v .floor) ts its-kept) x i f)))
+              (or-true (among x ts) (atOrBelowFloor key x (v .floor)) (k .known x w)))
               (at-front t x received h);
           floor = low-floor;
         }
@@ -320,12 +320,13 @@ module _ {Element : Type 0} (cfg : Config) (high : cfg .c ≤ 16) (received : Li
         all = all-by;
         count = λ f e. sym (tags-long (v .stored)) ∙ floor-count cfg high f held allowed-of (floor-of f e);
         dropped =
-          λ f e.
-            (k .floor f e,
-            not-in (holds v f)
-            (λ i. above-not-self f (small-of f (k .floor f e)) (floor-above cfg high f held allowed-of (floor-of f e) f i)));
+            λ f e. (
+              k .floor f e,
+              not-in (holds v f)
+                  (λ i. above-not-self f (small-of f (k .floor f e)) (floor-above cfg high f held allowed-of (floor-of f e) f i)),
+            );
         highest =
-          λ f t e h n.
+            λ f t e h n.
             not-in (above t f) (λ a. omega (arith, key-of t f e h n, above-key t f (small-of t h) (small-of f (k .floor f e)) a));
       }
 

@@ -184,8 +184,8 @@ module _ (cfg : Config) (s : State) (h : Header) (handed store answer : List ℕ
             valid = q .held .valid;
             eighty = e;
             ofConfig =
-              reply-of-config cfg me h QueryAnswer (s .highest) none operation-in (le-leb (s .highest .number) highestNumber n) refl refl refl refl
-              client-in within-me (state-highest cfg s (q .held .kept));
+                reply-of-config cfg me h QueryAnswer (s .highest) none operation-in (le-leb (s .highest .number) highestNumber n) refl refl refl refl
+                client-in within-me (state-highest cfg s (q .held .kept));
           }
 
       pub pre-write-reply : h .kind ≡ PreWrite → (after : List ℕ) → length after ≡ 80 → Replying cfg (reply me h PreWriteAnswer (h .tag) none) after
@@ -194,7 +194,7 @@ module _ (cfg : Config) (s : State) (h : Header) (handed store answer : List ℕ
             valid = q .held .valid;
             eighty = e;
             ofConfig =
-              reply-of-config cfg me h PreWriteAnswer (h .tag) none operation-in number-in refl refl (own-in PreWrite k) refl client-in within-me tag-in;
+                reply-of-config cfg me h PreWriteAnswer (h .tag) none operation-in number-in refl refl (own-in PreWrite k) refl client-in within-me tag-in;
           }
 
       pub write-reply : h .kind ≡ WriteFinalise → (after : List ℕ) → length after ≡ 80
@@ -204,8 +204,8 @@ module _ (cfg : Config) (s : State) (h : Header) (handed store answer : List ℕ
             valid = q .held .valid;
             eighty = e;
             ofConfig =
-              reply-of-config cfg me h WriteFinaliseAnswer (h .tag) none operation-in number-in refl refl (own-in WriteFinalise k) refl client-in within-me
-              tag-in;
+                reply-of-config cfg me h WriteFinaliseAnswer (h .tag) none operation-in number-in refl refl (own-in WriteFinalise k) refl client-in within-me
+                tag-in;
           }
 
     pub finalising : Finalising cfg s h store answer

@@ -226,9 +226,9 @@ module _ (clients : ℕ) (high : clients ≤ 16) (u t : Tag) (differ : key t ≡
   gone-by true x y ys zs e ay ays apart f h k =
       ⊎-elim (λ w. differ (ap key (same-one t x w) ∙ k))
       (λ w.
-        let sx : Small x = small clients x high (every-in (allowed clients) ys x ays w) in
-        let one : x ≡ y = key-one x y sx (small clients y high ay) (k ∙ sym (eqb-true (key y) (key u) e)) in
-        true≢false (sym w ∙ ap (λ (z : Tag). among z ys) one ∙ apart))
+      let sx : Small x = small clients x high (every-in (allowed clients) ys x ays w) in
+      let one : x ≡ y = key-one x y sx (small clients y high ay) (k ∙ sym (eqb-true (key y) (key u) e)) in
+      true≢false (sym w ∙ ap (λ (z : Tag). among z ys) one ∙ apart))
       (or-true (same t x) (among x ys) h)
   gone-by false x y ys zs e ay ays apart f h k =
       ⊎-elim (λ w. eqb-false (key y) (key u) e (ap key (same-one y x w) ∙ k)) (λ w. f w k) (or-true (same y x) (among x zs) h)

@@ -66,8 +66,14 @@ module _ (e : ℕ) (high : e ≤ 64) (answer src part : List ℕ) (eighty : leng
       ap (λ (l : List ℕ). length (take 16 answer ++ (part ++ l))) nothing-after ∙ ap (λ (l : List ℕ). length (take 16 answer ++ l)) (append-nil part)
       ∙ ap (λ (l : List ℕ). length (take 16 answer ++ l)) part-is
       ∙ length-append (take 16 answer) (src ++ drop (length src) (take (length answer - 16) (drop 16 answer)))
-      ∙ omega (arith, front, length-append src (drop (length src) (take (length answer - 16) (drop 16 answer))),
-      length-drop (length src) (take (length answer - 16) (drop 16 answer)), length-take (length answer - 16) (drop 16 answer), length-drop 16 answer)
+      ∙ omega (
+        arith,
+        front,
+        length-append src (drop (length src) (take (length answer - 16) (drop 16 answer))),
+        length-drop (length src) (take (length answer - 16) (drop 16 answer)),
+        length-take (length answer - 16) (drop 16 answer),
+        length-drop 16 answer,
+      )
 
   pub copied-element : take e (drop 16 copied) ≡ src
   copied-element =

@@ -57,7 +57,7 @@ module _ (cfg : Config) (me : ServerNumber) (element before : List ℕ) where
               number = v ∙ sym none;
               state = s;
               store =
-                e ∙ ap (λ (l : List ℕ). l ++ drop (length element) before) (take-length element)
-                ∙ ap (λ (n : ℕ). element ++ drop n before) sized
-                ∙ rw (eq-eqb (firstNo (freshQuestions cfg me element before)) 0 none);
+                  e ∙ ap (λ (l : List ℕ). l ++ drop (length element) before) (take-length element)
+                  ∙ ap (λ (n : ℕ). element ++ drop n before) sized
+                  ∙ rw (eq-eqb (firstNo (freshQuestions cfg me element before)) 0 none);
             }

@@ -131,11 +131,11 @@ unfolding placeIn among
 place-not-among t [] h = refl
 place-not-among t (x ∷ xs) h = past-by (same x t) (placeIn t xs) (length xs) (among t xs) (place-not-among t xs) h
 
-or-left : (a b : Bool) → (a || b) ≡ false → a ≡ false
+pub or-left : (a b : Bool) → (a || b) ≡ false → a ≡ false
 or-left true b h = h
 or-left false b h = refl
 
-or-right : (a b : Bool) → (a || b) ≡ false → b ≡ false
+pub or-right : (a b : Bool) → (a || b) ≡ false → b ≡ false
 or-right true b h = absurd (true≢false h)
 or-right false b h = h
 

@@ -22,6 +22,7 @@ use Rattle.server.proofs.Each.{length-each, place-among, place-not-amon
 use Rattle.server.proofs.Held.{state-allowed, state-count, state-eight, state-once}
 use Rattle.server.proofs.Keys.{small}
 use Rattle.server.proofs.Lists.{stored-among}
+use Rattle.server.proofs.Put.{place-below, put-long}
 use Rattle.server.proofs.Views.{another-view, append-view, itself-view}
 
 -- the place that a walk from 0 gives
@@ -59,7 +60,7 @@ module _ (cfg : Config) (s : State) (t : Tag) (element store : List ℕ) (k : Ke
 
   pub keep-stored : (p : ℕ) → p ≡ placeIn t (tagsUsed s) → p < s .count → Keeps cfg s t element store store s
   unfolding stores
-  keep-stored p e h = record { me = refl; view = rw (there p e h) }
+  keep-stored p e h = record { me = refl; view = rw (there p e h); long = refl }
 
   module _ (p : ℕ) (e : p ≡ placeIn t (tagsUsed s)) (h : s .count ≤ p) where
     not-stored : isStored key t (view cfg s store .stored) ≡ false
@@ -71,7 +72,7 @@ module _ (cfg : Config) (s : State) (t : Tag) (element store : List ℕ) (k : Ke
 
     pub keep-below : atOrBelowFloor key t (floorOf (s .floor)) ≡ true → Keeps cfg s t element store store s
     unfolding stores
-    keep-below b = record { me = refl; view = rw (not-stored, ap (atOrBelowFloor key t) floor-is ∙ b) }
+    keep-below b = record { me = refl; view = rw (not-stored, ap (atOrBelowFloor key t) floor-is ∙ b); long = refl }
 
     module _ (b : atOrBelowFloor key t (floorOf (s .floor)) ≡ false) where
       above-floor : atOrBelowFloor key t (view cfg s store .floor) ≡ false
@@ -96,8 +97,9 @@ module _ (cfg : Config) (s : State) (t : Tag) (element store : List ℕ) (k : Ke
           record {
             me = ap (λ (x : State). x .me) (a .state);
             view =
-              rw (a .state, a .store, not-stored, above-floor, many, lt-ltb (s .count) (cfg .d + 1) (omega arith))
-              (append-view cfg s store t element (k .sized) (a .eight) eights fits);
+                rw (a .state, a .store, not-stored, above-floor, many, lt-ltb (s .count) (cfg .d + 1) (omega arith))
+                (append-view cfg s store t element (k .sized) (a .eight) eights fits);
+            long = ap length (a .store) ∙ put-long (s .count * cfg .e) (cfg .e) element store (k .sized) fits;
           }
 
       pub room-drop : Room cfg (s .count) element store
@@ -126,10 +128,20 @@ module _ (cfg : Config) (s : State) (t : Tag) (element store : List ℕ) (k : Ke
             (state-once cfg s (k .held .kept)) (nowhere p e h) lt (room-drop .n-high) (room-drop .fits))
       ]
 
+      drop-long : (after : List ℕ) (r : State) → Dropped cfg s t element store after r → length after ≡ length store
+      drop-long after r d = ap length (d .store) ∙ elim (decLe (s .count) (lowest s t .place)) as (λ _. length (cond (leb (s .count) (lowest s t .place)) store (putAt (lowest s t .place * cfg .e) element store)) ≡ length store) [
+        | yes le ↦ rw (le-leb (s .count) (lowest s t .place) le)
+        | no gt ↦
+            let lt : lowest s t .place < s .count = omega arith in
+            let fits : lowest s t .place * cfg .e + cfg .e ≤ length store = omega (arith, place-below (lowest s t .place) (s .count) (cfg .e) lt, room-drop .fits) in
+            rw (lt-leb (s .count) (lowest s t .place) lt) (put-long (lowest s t .place * cfg .e) (cfg .e) element store (k .sized) fits)
+      ]
+
       pub keep-drop : cfg .d < s .count → (after : List ℕ) (r : State) → Dropped cfg s t element store after r → Keeps cfg s t element store after r
       unfolding stores dropped
       keep-drop c after r d =
           record {
             me = ap (λ (x : State). x .me) (d .state);
             view = drop-view after r d ∙ rw (not-stored, above-floor, many, le-ltb (s .count) (cfg .d + 1) (omega arith));
+            long = drop-long after r d;
           }

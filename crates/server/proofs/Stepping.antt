@@ -44,6 +44,7 @@ steps-refused cfg s n m store answer r refuses other v e =
       view = λ z. absurd (refuses z);
       state = λ _. e ∙ rw (ne-eqb n 15 other);
       store = λ _. refl;
+      long = refl;
       answer = rw (ne-eqb n 0 refuses);
     }
 
@@ -104,9 +105,9 @@ module _ (cfg : Config) (s : State) (h : Header) (handed store answer : List ℕ
 
     -- answered
     pub steps-answered : receives k ≡ true → (a : Message (List ℕ)) → stepOf k .answer ≡ some a → (storeAfter answerAfter : List ℕ) (r : Stepped)
-        → verdictNumber (r .verdict) ≡ 0 → r .state .me ≡ s .me → view cfg (r .state) storeAfter ≡ stepOf k .server → answerAfter ≡ recordOf cfg a
-        → Steps cfg s (requestNumber cfg s store m) m store answer storeAfter answerAfter r
-    steps-answered v a is storeAfter answerAfter r n me w b =
+        → verdictNumber (r .verdict) ≡ 0 → r .state .me ≡ s .me → view cfg (r .state) storeAfter ≡ stepOf k .server → length storeAfter ≡ length store
+        → answerAfter ≡ recordOf cfg a → Steps cfg s (requestNumber cfg s store m) m store answer storeAfter answerAfter r
+    steps-answered v a is storeAfter answerAfter r n me w l b =
         let zero-is : requestNumber cfg s store m ≡ 0 = number-of true v (some a) is in
         record {
           number = n ∙ sym zero-is;
@@ -114,6 +115,7 @@ module _ (cfg : Config) (s : State) (h : Header) (handed store answer : List ℕ
           view = λ _. w ∙ sym (ap (λ (x : Served (List ℕ)). x .server) (outcome-of k e));
           state = λ f. absurd (f zero-is);
           store = λ f. absurd (f zero-is);
+          long = l;
           answer = b ∙ rw (eq-eqb (requestNumber cfg s store m) 0 zero-is, answer-of (some a) is);
         }
 
@@ -130,6 +132,7 @@ module _ (cfg : Config) (s : State) (h : Header) (handed store answer : List ℕ
           view = λ z. absurd (some-number z);
           state = λ _. w ∙ ap (raised s) (sym tag-of) ∙ rw (eq-eqb (requestNumber cfg s store m) 15 fifteen);
           store = λ _. refl;
+          long = refl;
           answer = b ∙ rw (ne-eqb (requestNumber cfg s store m) 0 some-number);
         }
 
@@ -181,8 +184,8 @@ module _ (cfg : Config) (s : State) (h : Header) (handed store answer : List ℕ
             valid = q .held .valid;
             eighty = e;
             ofConfig =
-              reply-of-config cfg me h QueryAnswer (s .highest) none operation-in (le-leb (s .highest .number) highestNumber n) refl refl refl refl
-              client-in within-me (state-highest cfg s (q .held .kept));
+                reply-of-config cfg me h QueryAnswer (s .highest) none operation-in (le-leb (s .highest .number) highestNumber n) refl refl refl refl
+                client-in within-me (state-highest cfg s (q .held .kept));
           }
 
       pub pre-write-reply : h .kind ≡ PreWrite → (after : List ℕ) → length after ≡ 80 → Replying cfg (reply me h PreWriteAnswer (h .tag) none) after
@@ -191,7 +194,7 @@ module _ (cfg : Config) (s : State) (h : Header) (handed store answer : List ℕ
             valid = q .held .valid;
             eighty = e;
             ofConfig =
-              reply-of-config cfg me h PreWriteAnswer (h .tag) none operation-in number-in refl refl (own-in PreWrite k) refl client-in within-me tag-in;
+                reply-of-config cfg me h PreWriteAnswer (h .tag) none operation-in number-in refl refl (own-in PreWrite k) refl client-in within-me tag-in;
           }
 
       pub write-reply : h .kind ≡ WriteFinalise → (after : List ℕ) → length after ≡ 80
@@ -201,8 +204,8 @@ module _ (cfg : Config) (s : State) (h : Header) (handed store answer : List ℕ
             valid = q .held .valid;
             eighty = e;
             ofConfig =
-              reply-of-config cfg me h WriteFinaliseAnswer (h .tag) none operation-in number-in refl refl (own-in WriteFinalise k) refl client-in within-me
-              tag-in;
+                reply-of-config cfg me h WriteFinaliseAnswer (h .tag) none operation-in number-in refl refl (own-in WriteFinalise k) refl client-in within-me
+                tag-in;
           }
 
     pub finalising : Finalising cfg s h store answer
@@ -238,7 +241,7 @@ module _ (cfg : Config) (s : State) (h : Header) (handed store answer : List ℕ
     unfolding serverStepOf query answerTo withElement reply view
     serve-query k answerAfter r p =
         steps-answered Query k refl _ refl store answerAfter r (p .number) (ap (λ (x : State). x .me) (p .state))
-        (ap (λ (x : State). view cfg x store) (p .state)) (p .answer)
+        (ap (λ (x : State). view cfg x store) (p .state)) refl (p .answer)
 
     pub serve-write : h .kind ≡ WriteFinalise → (after : State) → after ≡ raised s (h .tag) → (answerAfter : List ℕ) (r : Stepped)
         → Replied cfg after (reply (after .me) h WriteFinaliseAnswer (h .tag) none) answerAfter r
@@ -247,7 +250,7 @@ module _ (cfg : Config) (s : State) (h : Header) (handed store answer : List ℕ
     serve-write k after is answerAfter r p =
         let me : after .me ≡ s .me = ap (λ (x : State). x .me) is in
         steps-answered WriteFinalise k refl _ refl store answerAfter r (p .number) (ap (λ (x : State). x .me) (p .state ∙ is))
-        (ap (λ (x : State). view cfg x store) (p .state ∙ is))
+        (ap (λ (x : State). view cfg x store) (p .state ∙ is)) refl
         (p .answer ∙ ap (λ (x : ServerNumber). recordOf cfg (reply x h WriteFinaliseAnswer (h .tag) none)) me)
 
     pub serve-pre-write : h .kind ≡ PreWrite → (after : State) (storeAfter : List ℕ) → Keeps cfg s (h .tag) (elementIn cfg handed) store storeAfter after
@@ -256,7 +259,7 @@ module _ (cfg : Config) (s : State) (h : Header) (handed store answer : List ℕ
     unfolding serverStepOf preWrite storeElement answerTo withElement reply
     serve-pre-write k after storeAfter kept answerAfter r p =
         steps-answered PreWrite k refl _ refl storeAfter answerAfter r (p .number) (ap (λ (x : State). x .me) (p .state) ∙ kept .me)
-        (ap (λ (x : State). view cfg x storeAfter) (p .state) ∙ kept .view ∙ rw (present-in k))
+        (ap (λ (x : State). view cfg x storeAfter) (p .state) ∙ kept .view ∙ rw (present-in k)) (kept .long)
         (p .answer ∙ ap (λ (x : ServerNumber). recordOf cfg (reply x h PreWriteAnswer (h .tag) none)) (kept .me))
 
     -- the answer of a read finalise, by the header or by the record's message
@@ -289,4 +292,4 @@ module _ (cfg : Config) (s : State) (h : Header) (handed store answer : List ℕ
         go (some a) e =
             steps-answered ReadFinalise k refl a (read-answer-of ∙ e) store answerAfter r
             (f .number ∙ ap (λ (o : Option (Message (List ℕ))). cond (answers o) 0 15) e) (me-of (f .state))
-            (ap (λ (x : State). view cfg x store) (f .state) ∙ read-server-of) (f .answer ∙ ap (λ (o : Option (Message (List ℕ))). answerBytes cfg o answer) e)
+            (ap (λ (x : State). view cfg x store) (f .state) ∙ read-server-of) refl (f .answer ∙ ap (λ (o : Option (Message (List ℕ))). answerBytes cfg o answer) e)

@@ -37,10 +37,10 @@ module _ (cfg : Config) (tags : List Tag) (store : List ℕ) (p : ℕ) (t : Tag)
   pub put-place : after p ≡ record { tag = t; element = element }
   put-place =
       λ i.
-        record {
-          tag = getD-set-same tags p t start within i;
-          element = put-here (p * cfg .e) (cfg .e) element store sized fits i;
-        }
+      record {
+        tag = getD-set-same tags p t start within i;
+        element = put-here (p * cfg .e) (cfg .e) element store sized fits i;
+      }
 
   other-element : (j : ℕ) → (j ≡ p → ⊥) → elementAt cfg (putAt (p * cfg .e) element store) j ≡ elementAt cfg store j
   other-element j ne = elim (decLt j p) as (λ _. elementAt cfg (putAt (p * cfg .e) element store) j ≡ elementAt cfg store j) [

@@ -103,6 +103,7 @@ pub record Steps (cfg : Config) (s : State) (first : ℕ) (m : Message (List ℕ
   -- refused: all holds, but for H at 15
   pub state : (first ≡ 0 → ⊥) → r .state ≡ stays first s (m .tag)
   pub store : (first ≡ 0 → ⊥) → storeAfter ≡ storeBefore
+  pub long : length storeAfter ≡ length storeBefore
   -- the answer's record, or what it held
   pub answer : answerAfter ≡ cond (eqb first 0) (answerBytes cfg (outcome cfg s storeBefore m .answer) answerBefore) answerBefore
 

@@ -97,6 +97,7 @@ pub record Keeping (cfg : Config) (s : State) (t : Tag) (element store : List �
 pub record Keeps (cfg : Config) (s : State) (t : Tag) (element store after : List ℕ) (r : State) : Type 0 where
   pub me : r .me ≡ s .me
   pub view : view cfg r after ≡ stores key (cfg .d) (view cfg s store) (record { tag = t; element = element })
+  pub long : length after ≡ length store
 
 -- the answer to a request
 unfoldable pub reply : ServerNumber → Header → Kind → Tag → Option (List ℕ) → Message (List ℕ)

@@ -1,7 +1,7 @@
 // Question 6 of a server.
-use crate::places;
 use crate::Floor;
 use crate::State;
+use crate::places;
 use config::Config;
 use config::Server;
 use tag::Tag;

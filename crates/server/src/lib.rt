@@ -85,7 +85,13 @@ pub fn fresh(cfg: Config, me: Server, element: &[u8], store: &mut [u8]) -> Stepp
 }
 
 // One step on a record: questions 1 to 5, 6, 12, 16 and 15. The answer is written to a lent record.
-pub fn step(cfg: Config, state: State, handed: &[u8], store: &mut [u8], answer: &mut [u8]) -> Stepped
+pub fn step(
+    cfg: Config,
+    state: State,
+    handed: &[u8],
+    store: &mut [u8],
+    answer: &mut [u8],
+) -> Stepped
     ensures { λ r. ⌜ StepPost cfg state (now (handed .entry)) (now (store .entry)) (now (answer .entry)) (now (store .exit)) (now (answer .exit)) r ⌝ }
 {
     let no = kept::ask(cfg, state, store.len());

@@ -1,8 +1,8 @@
 // A server's part in each kind of request.
-use crate::places;
 use crate::Floor;
 use crate::State;
 use crate::Stepped;
+use crate::places;
 use config::Config;
 use config::Refusal;
 use config::Verdict;
@@ -57,7 +57,15 @@ fn at_or_below(t: Tag, floor: Floor) -> bool
 }
 
 // Writes an answer: it names the server and repeats client and operation number.
-fn respond(cfg: Config, s: State, h: Header, kind: Kind, tag: Tag, there: bool, answer: &mut [u8]) -> Stepped
+fn respond(
+    cfg: Config,
+    s: State,
+    h: Header,
+    kind: Kind,
+    tag: Tag,
+    there: bool,
+    answer: &mut [u8],
+) -> Stepped
     requires { ⌜ Replying cfg (reply (s .me) h kind tag (present cfg there (now answer))) (now answer) ⌝ }
     ensures { λ r. ⌜ Replied cfg s (reply (s .me) h kind tag (present cfg there (now (answer .entry)))) (now (answer .exit)) r ⌝ }
 {
@@ -189,7 +197,14 @@ fn misdirected(s: State) -> Stepped
 }
 
 // A request of any kind; 16 if it is none that a server receives.
-pub(crate) fn request(cfg: Config, s: State, h: Header, handed: &[u8], store: &mut [u8], answer: &mut [u8]) -> Stepped
+pub(crate) fn request(
+    cfg: Config,
+    s: State,
+    h: Header,
+    handed: &[u8],
+    store: &mut [u8],
+    answer: &mut [u8],
+) -> Stepped
     requires { ⌜ Request cfg s h (now handed) (now store) (now answer) ⌝ }
     ensures { λ r. ⌜ Steps cfg s (requestNumber cfg s (now (store .entry)) (withElement cfg h (now (handed .entry)))) (withElement cfg h (now (handed .entry))) (now (store .entry)) (now (answer .entry)) (now (store .exit)) (now (answer .exit)) r ⌝ }
 {

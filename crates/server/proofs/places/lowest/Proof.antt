@@ -44,15 +44,16 @@ loop-again c =
     let l = c .before .before .before .before .loop in
     let a = c .before .before .before .before .before .args in
     let h = c .before .before .before .loop-test .taken in
-    let rest = each (tagAt (a .t3)) (l .i + 1) (a .count - (l .i + 1)) in
-    (search needs,
-    l .inv .1
-    ∙ ⊎-elim
-    (λ w. least-lower (tagAt (a .t3)) (l .i) (a .count) (l .tag) (l .place) h (sym (c .before .above .ensures) ∙ w .0 .taken)
-    ∙ ap₂ {A = Tag} (λ (u : Tag) (p : ℕ). leastFrom u p (l .i + 1) rest) (sym (w .1)) (sym (w .2)))
-    (λ w. least-other (tagAt (a .t3)) (l .i) (a .count) (l .tag) (l .place) h (sym (c .before .above .ensures) ∙ w .0 .left)
-    ∙ ap₂ {A = Tag} (λ (u : Tag) (p : ℕ). leastFrom u p (l .i + 1) rest) (sym (w .1)) (sym (w .2)))
-    (c .if1 .came))
+    let rest = each (tagAt (a .t3)) (l .i + 1) (a .count - (l .i + 1)) in (
+      search needs,
+      l .inv .1
+          ∙ ⊎-elim
+          (λ w. least-lower (tagAt (a .t3)) (l .i) (a .count) (l .tag) (l .place) h (sym (c .before .above .ensures) ∙ w .0 .taken)
+          ∙ ap₂ {A = Tag} (λ (u : Tag) (p : ℕ). leastFrom u p (l .i + 1) rest) (sym (w .1)) (sym (w .2)))
+          (λ w. least-other (tagAt (a .t3)) (l .i) (a .count) (l .tag) (l .place) h (sym (c .before .above .ensures) ∙ w .0 .left)
+          ∙ ap₂ {A = Tag} (λ (u : Tag) (p : ℕ). leastFrom u p (l .i + 1) rest) (sym (w .1)) (sym (w .2)))
+          (c .if1 .came),
+    )
 
 returns : tie.Need-returns Inv-loop μ-loop
 returns c =

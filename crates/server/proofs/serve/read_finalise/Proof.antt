@@ -74,8 +74,8 @@ respond-requires c κs =
       valid = s .pre .held .valid;
       eighty = long;
       ofConfig =
-        read-reply (s .args .cfg) (s .args .s) (s .args .h) (s .args .store .now) (s .args .answer .now) (s .pre) _
-        (me-kept (s .args .s) (s .args .h .tag) (c .before .before .before .before .before .before .before .before .before .before .raise .ensures)) (some _) (eq-eqb _ (s .args .cfg .e) (ap length is ∙ sized-src));
+          read-reply (s .args .cfg) (s .args .s) (s .args .h) (s .args .store .now) (s .args .answer .now) (s .pre) _
+          (me-kept (s .args .s) (s .args .h .tag) (c .before .before .before .before .before .before .before .before .before .before .raise .ensures)) (some _) (eq-eqb _ (s .args .cfg .e) (ap length is ∙ sized-src));
     }
 
 same-length : tie.Need-same-length
@@ -109,7 +109,7 @@ respond-requires-2 c κs =
       valid = s .pre .held .valid;
       eighty = s .pre .eighty;
       ofConfig =
-        read-reply (s .args .cfg) (s .args .s) (s .args .h) (s .args .store .now) (s .args .answer .now) (s .pre) _ (me-kept (s .args .s) (s .args .h .tag) (c .before .before .before .before .before .raise .ensures)) none refl;
+          read-reply (s .args .cfg) (s .args .s) (s .args .h) (s .args .store .now) (s .args .answer .now) (s .pre) _ (me-kept (s .args .s) (s .args .h .tag) (c .before .before .before .before .before .raise .ensures)) none refl;
     }
 
 same-length-2 : tie.Need-same-length-2

@@ -1,0 +1,307 @@
+-- What a server keeps stays within question 6: the protocol's step leads from such a server to such a server. Assumes nothing.
+use mathlib.Core.Path.{_≡_, refl, sym, _∙_, ap, ap₂}
+use mathlib.Core.Bool.{Bool, true, false, cond, not, _&&_, _||_, true≢false}
+use mathlib.Core.List.{List, [], _∷_, _++_}
+use mathlib.Core.Logic.{_⊎_, inl, inr, ⊎-elim}
+use mathlib.Core.Option.{Option, none, some}
+use Prim.Native.Nat.{ℕ, zero, suc, _+_, _≤_, _<_}
+use native.Mathlib.Omega.{arith}
+use borrow.Author.Tests.{eq-eqb, eqb-false, eqb-true, le-leb, leb-true, ltb-false, ltb-true}
+use lib.Dec.{eqb, leb, ltb}
+use lib.ListN.{length, length-append}
+use Rattle.config.specs.declared.Config.{Config}
+use Rattle.laws.proofs.Bools.{and-left, and-right}
+use Rattle.tag.specs.declared.Tag.{Tag}
+use Rattle.tag.specs.Tag.{above, allowed, key, same, start}
+use Rattle.tag.proofs.Order.{Small, above-key, key-above, key-one, same-self}
+use Rattle.record.specs.declared.Kind.{Kind}
+use Rattle.record.specs.declared.Kind.the-variants.{Query, QueryAnswer, PreWrite, PreWriteAnswer, WriteFinalise, WriteFinaliseAnswer, ReadFinalise, ReadFinaliseAnswer}
+use Rattle.record.specs.Message.{Message}
+use Rattle.record.specs.Record.{all}
+use Rattle.history.specs.Server.{Server, Stored, addLast, atOrBelowFloor, dropSmallest, finalised, freshServer, inPlaceOf, isStored, others, preWrite, query, readFinalise, serverStep, serverStepOf, smallest, store, storeElement, writeFinalise}
+use Rattle.history.specs.Tags.{higher, lower, startingTag}
+use Rattle.server.specs.Kept.{among, every, floorKept, kept, once, serverKept, tagsOf}
+use Rattle.server.proofs.Held.{kept-allowed, kept-count, kept-floor, kept-highest, kept-once}
+use Rattle.server.proofs.Each.{or-left, or-right}
+use Rattle.server.proofs.Keys.{same-eqb, small}
+use Rattle.server.proofs.Tags.{both, every-in, every-last, in-every, lowest-all, lowest-first, lowest-in, lowestOf, once-last, once-replaced, or-true, replaced, replaced-gone, replaced-in, replaced-long}
+
+-- the clauses together
+pub make-kept : (cfg : Config) (highest : Tag) (floor : Option Tag) (ts : List Tag) → allowed (cfg .c) highest ≡ true → length ts ≤ cfg .d + 1
+    → every (allowed (cfg .c)) ts ≡ true → once ts ≡ true → floorKept cfg floor ts ≡ true → kept cfg highest floor ts ≡ true
+unfolding kept all
+make-kept cfg highest floor ts h c a o f = rw (h, le-leb (length ts) (cfg .d + 1) c, a, o, f)
+
+module _ {Element : Type 0} where
+  -- the tags of the protocol's lists
+  pub tags-last : (xs : List (Stored Element)) (y : Stored Element) → tagsOf (xs ++ y ∷ []) ≡ tagsOf xs ++ y .tag ∷ []
+  unfolding tagsOf
+  tags-last [] y = refl
+  tags-last (x ∷ xs) y = ap {B = List Tag} (λ ts. x .tag ∷ ts) (tags-last xs y)
+
+  pub tags-long : (xs : List (Stored Element)) → length (tagsOf xs) ≡ length xs
+  unfolding tagsOf
+  tags-long [] = refl
+  tags-long (x ∷ xs) = ap suc (tags-long xs)
+
+  pub tags-smallest : (t : Tag) (xs : List (Stored Element)) → smallest key t xs ≡ lowestOf t (tagsOf xs)
+  unfolding smallest lowestOf tagsOf
+  tags-smallest t [] = refl
+  tags-smallest t (x ∷ xs) = tags-smallest (lower key t (x .tag)) xs
+
+  tags-by : (b : Bool) (y x : Stored Element) (xs zs : List (Stored Element)) (ts : List Tag) → tagsOf zs ≡ ts
+      → tagsOf (cond b (y ∷ xs) (x ∷ zs)) ≡ cond b (y .tag ∷ tagsOf xs) (x .tag ∷ ts)
+  unfolding tagsOf
+  tags-by true y x xs zs ts e = refl
+  tags-by false y x xs zs ts e = ap {B = List Tag} (λ l. x .tag ∷ l) e
+
+  pub tags-replaced : (u : Tag) (y : Stored Element) (xs : List (Stored Element)) → tagsOf (inPlaceOf key u y xs) ≡ replaced u (y .tag) (tagsOf xs)
+  unfolding inPlaceOf replaced tagsOf
+  tags-replaced u y [] = refl
+  tags-replaced u y (x ∷ xs) =
+      tags-by (eqb (key (x .tag)) (key u)) y x xs (inPlaceOf key u y xs) (replaced u (y .tag) (tagsOf xs)) (tags-replaced u y xs)
+
+  pub tags-stored : (clients : ℕ) → clients ≤ 16 → (t : Tag) → Small t → (xs : List (Stored Element)) → every (allowed clients) (tagsOf xs) ≡ true
+      → isStored key t xs ≡ among t (tagsOf xs)
+  unfolding isStored among tagsOf every
+  tags-stored clients high t st [] h = refl
+  tags-stored clients high t st (x ∷ xs) h =
+      ap₂ {A = Bool} (λ (a b : Bool). a || b)
+      (sym (same-eqb (x .tag) t (small clients (x .tag) high (and-left (allowed clients (x .tag)) (every (allowed clients) (tagsOf xs)) h)) st))
+      (tags-stored clients high t st xs (and-right (allowed clients (x .tag)) (every (allowed clients) (tagsOf xs)) h))
+
+-- Storing a tag that is neither stored nor at or below the floor. `ts` are the stored tags.
+module _ (cfg : Config) (high : cfg .c ≤ 16) (highest : Tag) (floor : Option Tag) (ts : List Tag) (k : kept cfg highest floor ts ≡ true) (t : Tag)
+    (ok : allowed (cfg .c) t ≡ true) (apart : among t ts ≡ false) where
+  st : Small t
+  st = small (cfg .c) t high ok
+
+  all-allowed : every (allowed (cfg .c)) ts ≡ true
+  all-allowed = kept-allowed cfg highest floor ts k
+
+  -- a floor is there only where D + 1 are stored
+  floor-room : (f : Option Tag) → floorKept cfg f ts ≡ true → length ts < cfg .d + 1 → (us : List Tag) → floorKept cfg f us ≡ true
+  unfolding floorKept
+  floor-room none h lt us = refl
+  floor-room (some f) h lt us =
+      absurd (omega (
+        arith,
+        eqb-true (length ts) (cfg .d + 1)
+            (and-right (allowed (cfg .c) f) (eqb (length ts) (cfg .d + 1))
+            (and-left (allowed (cfg .c) f && eqb (length ts) (cfg .d + 1)) (every (λ (x : Tag). above x f) ts) h)),
+      ))
+
+  pub kept-last : length ts < cfg .d + 1 → kept cfg highest floor (ts ++ t ∷ []) ≡ true
+  kept-last lt =
+      make-kept cfg highest floor (ts ++ t ∷ []) (kept-highest cfg highest floor ts k) (omega (arith, length-append ts (t ∷ [])))
+      (every-last (allowed (cfg .c)) t ts all-allowed ok) (once-last t ts (kept-once cfg highest floor ts k) apart)
+      (floor-room floor (kept-floor cfg highest floor ts k) lt (ts ++ t ∷ []))
+
+  -- the lowest of t and the stored tags
+  abbrev u : Tag
+  u = lowestOf t ts
+
+  pub low-allowed : allowed (cfg .c) u ≡ true
+  low-allowed =
+      ⊎-elim (λ e. ap (allowed (cfg .c)) e ∙ ok) (λ i. every-in (allowed (cfg .c)) ts u all-allowed i) (lowest-in t ts)
+
+  su : Small u
+  su = small (cfg .c) u high low-allowed
+
+  pub low-of : (x : Tag) → among x ts ≡ true → key u ≤ key x
+  low-of x i = leb-true (key u) (key x) (every-in (λ (y : Tag). leb (key u) (key y)) ts x (lowest-all t ts) i)
+
+  x-small : (x : Tag) → among x ts ≡ true → Small x
+  x-small x i = small (cfg .c) x high (every-in (allowed (cfg .c)) ts x all-allowed i)
+
+  -- with the floor u, D + 1 tags us above it
+  floor-full : (us : List Tag) → length us ≡ cfg .d + 1 → ((x : Tag) → among x us ≡ true → above x u ≡ true) → floorKept cfg (some u) us ≡ true
+  unfolding floorKept
+  floor-full us n h = rw (low-allowed, eq-eqb (length us) (cfg .d + 1) n) (in-every (λ (x : Tag). above x u) us h)
+
+  module _ (full : length ts ≡ cfg .d + 1) where
+    -- t itself is the lowest
+    pub kept-itself : key u ≡ key t → kept cfg highest (some u) ts ≡ true
+    kept-itself e =
+        make-kept cfg highest (some u) ts (kept-highest cfg highest floor ts k) (omega arith) all-allowed (kept-once cfg highest floor ts k)
+        (floor-full ts full
+        (λ x i.
+        let differ : key x ≡ key u → ⊥ =
+        λ z. true≢false (sym i ∙ ap (λ (y : Tag). among y ts) (key-one x t (x-small x i) st (z ∙ e)) ∙ apart) in
+        let le : key u ≤ key x = low-of x i in
+        key-above x u (x-small x i) su (omega arith)))
+
+    -- another is, and t has its place
+    pub kept-replaced : (key u ≡ key t → ⊥) → kept cfg highest (some u) (replaced u t ts) ≡ true
+    kept-replaced ne =
+        let once-ts = kept-once cfg highest floor ts k in
+        let of : (x : Tag) → among x (replaced u t ts) ≡ true → (allowed (cfg .c) x ≡ true) × (key u ≤ key x) =
+        λ x i.
+        ⊎-elim (λ w. (every-in (allowed (cfg .c)) ts x all-allowed w, low-of x w))
+        (λ w. (ap (allowed (cfg .c)) (sym w) ∙ ok, omega (arith, lowest-first t ts, ap key w))) (replaced-in u t x ts i) in
+        make-kept cfg highest (some u) (replaced u t ts) (kept-highest cfg highest floor ts k) (omega (arith, replaced-long u t ts))
+        (in-every (allowed (cfg .c)) (replaced u t ts) (λ x i. of x i .0)) (once-replaced u t ts once-ts apart)
+        (floor-full (replaced u t ts) (replaced-long u t ts ∙ full)
+        (λ x i.
+        let differ : key x ≡ key u → ⊥ = replaced-gone (cfg .c) high u t (λ z. ne (sym z)) x ts all-allowed once-ts i in
+        let le : key u ≤ key x = of x i .1 in
+        key-above x u (small (cfg .c) x high (of x i .0)) su (omega arith)))
+
+-- Storing, by cases: nothing changes, there is room, t itself is the lowest, another is.
+module _ {Element : Type 0} (cfg : Config) (high : cfg .c ≤ 16) (v : Server Element) (k : serverKept cfg v ≡ true) (y : Stored Element)
+    (ok : allowed (cfg .c) (y .tag) ≡ true) where
+  abbrev ts : List Tag
+  ts = tagsOf (v .stored)
+
+  abbrev t : Tag
+  t = y .tag
+
+  its-kept : kept cfg (v .highest) (v .floor) ts ≡ true
+  unfolding serverKept
+  its-kept = k
+
+  stored-test : isStored key t (v .stored) ≡ among t ts
+  stored-test =
+      tags-stored (cfg .c) high t (small (cfg .c) t high ok) (v .stored) (kept-allowed cfg (v .highest) (v .floor) ts its-kept)
+
+  count-test : length (v .stored) ≡ length ts
+  count-test = sym (tags-long (v .stored))
+
+  -- with a floor, and other stored tags
+  abbrev pub floored : Tag → List (Stored Element) → Server Element
+  floored f xs = record { highest = v .highest; floor = some f; stored = xs }
+
+  module _ (P : Server Element → Type 0) (unchanged : (among t ts || atOrBelowFloor key t (v .floor)) ≡ true → P v)
+      (room : among t ts ≡ false → atOrBelowFloor key t (v .floor) ≡ false → length ts < cfg .d + 1 → P (addLast v y))
+      (itself : among t ts ≡ false → atOrBelowFloor key t (v .floor) ≡ false → length ts ≡ cfg .d + 1 → key (lowestOf t ts) ≡ key t → P (floored (lowestOf t ts) (v .stored)))
+      (another : among t ts ≡ false → atOrBelowFloor key t (v .floor) ≡ false → length ts ≡ cfg .d + 1 → (key (lowestOf t ts) ≡ key t → ⊥)
+      → P (floored (lowestOf t ts) (inPlaceOf key (lowestOf t ts) y (v .stored)))) where
+    by-others : (b : Bool) → eqb (key (lowestOf t ts)) (key t) ≡ b → among t ts ≡ false → atOrBelowFloor key t (v .floor) ≡ false → length ts ≡ cfg .d + 1
+        → P (floored (lowestOf t ts) (cond b (v .stored) (inPlaceOf key (lowestOf t ts) y (v .stored))))
+    by-others true e a f n = itself a f n (eqb-true (key (lowestOf t ts)) (key t) e)
+    by-others false e a f n = another a f n (eqb-false (key (lowestOf t ts)) (key t) e)
+
+    by-room : (b : Bool) → ltb (length ts) (cfg .d + 1) ≡ b → among t ts ≡ false → atOrBelowFloor key t (v .floor) ≡ false
+        → P (cond b (addLast v y) (dropSmallest key v y))
+    unfolding dropSmallest others
+    by-room true e a f = room a f (ltb-true (length ts) (cfg .d + 1) e)
+    by-room false e a f =
+        rw (tags-smallest t (v .stored))
+        (by-others (eqb (key (lowestOf t ts)) (key t)) refl a f
+        (omega (arith, ltb-false (length ts) (cfg .d + 1) e, kept-count cfg (v .highest) (v .floor) ts its-kept)))
+
+    by-test : (b : Bool) → (among t ts || atOrBelowFloor key t (v .floor)) ≡ b → P (cond b v (cond (ltb (length ts) (cfg .d + 1)) (addLast v y) (dropSmallest key v y)))
+    by-test true e = unchanged e
+    by-test false e =
+        by-room (ltb (length ts) (cfg .d + 1)) refl (or-left (among t ts) (atOrBelowFloor key t (v .floor)) e)
+        (or-right (among t ts) (atOrBelowFloor key t (v .floor)) e)
+
+    pub store-cases : P (store key (cfg .d) v y)
+    unfolding store
+    store-cases = rw (stored-test, count-test) (by-test (among t ts || atOrBelowFloor key t (v .floor)) refl)
+
+  kept-addLast : kept cfg (v .highest) (v .floor) (ts ++ t ∷ []) ≡ true → serverKept cfg (addLast v y) ≡ true
+  unfolding serverKept addLast
+  kept-addLast h = rw (tags-last (v .stored) y) h
+
+  kept-floored : (xs : List (Stored Element)) → kept cfg (v .highest) (some (lowestOf t ts)) (tagsOf xs) ≡ true → serverKept cfg (floored (lowestOf t ts) xs) ≡ true
+  unfolding serverKept
+  kept-floored xs h = h
+
+  pub store-kept : serverKept cfg (store key (cfg .d) v y) ≡ true
+  store-kept =
+      store-cases (λ w. serverKept cfg w ≡ true) (λ _. k) with-room with-itself with-another
+    where
+      with-room : among t ts ≡ false → atOrBelowFloor key t (v .floor) ≡ false → length ts < cfg .d + 1 → serverKept cfg (addLast v y) ≡ true
+      with-room a f lt = kept-addLast (kept-last cfg high (v .highest) (v .floor) ts its-kept t ok a lt)
+
+      with-itself : among t ts ≡ false → atOrBelowFloor key t (v .floor) ≡ false → length ts ≡ cfg .d + 1 → key (lowestOf t ts) ≡ key t
+          → serverKept cfg (floored (lowestOf t ts) (v .stored)) ≡ true
+      with-itself a f n e = kept-floored (v .stored) (kept-itself cfg high (v .highest) (v .floor) ts its-kept t ok a n e)
+
+      with-another : among t ts ≡ false → atOrBelowFloor key t (v .floor) ≡ false → length ts ≡ cfg .d + 1 → (key (lowestOf t ts) ≡ key t → ⊥)
+          → serverKept cfg (floored (lowestOf t ts) (inPlaceOf key (lowestOf t ts) y (v .stored))) ≡ true
+      with-another a f n e =
+          kept-floored (inPlaceOf key (lowestOf t ts) y (v .stored))
+          (rw (tags-replaced (lowestOf t ts) y (v .stored)) (kept-replaced cfg high (v .highest) (v .floor) ts its-kept t ok a n e))
+
+-- a step keeps question 6
+module _ {Element : Type 0} (cfg : Config) (high : cfg .c ≤ 16) (s : ℕ) (v : Server Element) (k : serverKept cfg v ≡ true) (m : Message Element)
+    (ok : allowed (cfg .c) (m .tag) ≡ true) where
+  higher-by : (b : Bool) (h t : Tag) → allowed (cfg .c) h ≡ true → allowed (cfg .c) t ≡ true → allowed (cfg .c) (cond b t h) ≡ true
+  higher-by true h t p q = q
+  higher-by false h t p q = p
+
+  pub finalised-kept : serverKept cfg (finalised key v (m .tag)) ≡ true
+  unfolding serverKept finalised higher
+  finalised-kept =
+      make-kept cfg _ (v .floor) (tagsOf (v .stored))
+      (higher-by (ltb (key (v .highest)) (key (m .tag))) (v .highest) (m .tag) (kept-highest cfg (v .highest) (v .floor) (tagsOf (v .stored)) k) ok)
+      (kept-count cfg (v .highest) (v .floor) (tagsOf (v .stored)) k) (kept-allowed cfg (v .highest) (v .floor) (tagsOf (v .stored)) k)
+      (kept-once cfg (v .highest) (v .floor) (tagsOf (v .stored)) k) (kept-floor cfg (v .highest) (v .floor) (tagsOf (v .stored)) k)
+
+  pub element-kept : (e : Option Element) → serverKept cfg (storeElement key (cfg .d) v (m .tag) e) ≡ true
+  unfolding storeElement
+  element-kept none = k
+  element-kept (some e) = store-kept cfg high v k (record { tag = m .tag; element = e }) ok
+
+  by-kind : (kind : Kind) → serverKept cfg (serverStepOf kind key (cfg .d) s v m .server) ≡ true
+  unfolding serverStepOf query preWrite writeFinalise readFinalise
+  by-kind Query = k
+  by-kind QueryAnswer = k
+  by-kind PreWrite = element-kept (m .element)
+  by-kind PreWriteAnswer = k
+  by-kind WriteFinalise = finalised-kept
+  by-kind WriteFinaliseAnswer = k
+  by-kind ReadFinalise = finalised-kept
+  by-kind ReadFinaliseAnswer = k
+
+  pub step-kept : serverKept cfg (serverStep key (cfg .d) s v m .server) ≡ true
+  unfolding serverStep
+  step-kept = by-kind (m .kind)
+
+-- H never falls
+pub rises-by : (b : Bool) (h t : Tag) → ltb (key h) (key t) ≡ b → key h ≤ key (cond b t h)
+rises-by true h t e = omega (arith, ltb-true (key h) (key t) e)
+rises-by false h t e = omega arith
+
+module _ {Element : Type 0} (d s : ℕ) (v : Server Element) (m : Message Element) where
+  finalised-rises : key (v .highest) ≤ key (finalised key v (m .tag) .highest)
+  unfolding finalised higher
+  finalised-rises = rises-by (ltb (key (v .highest)) (key (m .tag))) (v .highest) (m .tag) refl
+
+  store-by : (b c : Bool) (y : Stored Element) → key (v .highest) ≤ key (cond b v (cond c (addLast v y) (dropSmallest key v y)) .highest)
+  unfolding addLast dropSmallest
+  store-by true c y = omega arith
+  store-by false true y = omega arith
+  store-by false false y = omega arith
+
+  store-rises : (y : Stored Element) → key (v .highest) ≤ key (store key d v y .highest)
+  unfolding store
+  store-rises y = store-by (isStored key (y .tag) (v .stored) || atOrBelowFloor key (y .tag) (v .floor)) (ltb (length (v .stored)) (d + 1)) y
+
+  stored-rises : (e : Option Element) → key (v .highest) ≤ key (storeElement key d v (m .tag) e .highest)
+  unfolding storeElement
+  stored-rises none = omega arith
+  stored-rises (some e) = store-rises (record { tag = m .tag; element = e })
+
+  rises-of : (kind : Kind) → key (v .highest) ≤ key (serverStepOf kind key d s v m .server .highest)
+  unfolding serverStepOf query preWrite writeFinalise readFinalise
+  rises-of Query = omega arith
+  rises-of QueryAnswer = omega arith
+  rises-of PreWrite = stored-rises (m .element)
+  rises-of PreWriteAnswer = omega arith
+  rises-of WriteFinalise = finalised-rises
+  rises-of WriteFinaliseAnswer = omega arith
+  rises-of ReadFinalise = finalised-rises
+  rises-of ReadFinaliseAnswer = omega arith
+
+  pub highest-rises : key (v .highest) ≤ key (serverStep key d s v m .server .highest)
+  unfolding serverStep
+  highest-rises = rises-of (m .kind)
+
+-- a fresh server is within question 6
+pub fresh-kept : {Element : Type 0} (cfg : Config) (e : Element) → serverKept cfg (freshServer e) ≡ true
+unfolding serverKept freshServer tagsOf startingTag every once among floorKept
+fresh-kept cfg e =
+    make-kept cfg start none (start ∷ []) refl (omega arith) refl refl refl

@@ -1,0 +1,356 @@
+-- A server's theorems, of its calls. A fresh server passes question 6 and every step keeps that; a step on a message of the
+-- configuration is the protocol's; H never falls; no answer depends on the store's order or on places that are not in use.
+-- Assumes nothing.
+use mathlib.Core.Path.{_≡_, refl, sym, _∙_, ap, ap₂, subst, subst₂}
+use mathlib.Core.Bool.{Bool, true, false, cond, _&&_}
+use mathlib.Core.List.{List, [], _∷_, _++_}
+use mathlib.Core.Logic.{_⊎_, inl, inr}
+use mathlib.Core.Option.{Option, none, some}
+use Prim.Native.Nat.{ℕ, zero, suc, _+_, _-_, _*_, _≤_}
+use native.Mathlib.Decide.{ℕ-discrete}
+use native.Mathlib.Nat.{mul-le-mul-right, zero-mul}
+use native.Mathlib.Omega.{arith}
+use borrow.Author.Tests.{eq-eqb, eqb-true, ne-eqb}
+use lib.Dec.{eqb, ltb}
+use lib.ListN.{length, drop, length-append, length-drop, replicate, take}
+use lib.Seq.{take-at}
+use Rattle.config.specs.declared.Config.{Config}
+use Rattle.config.specs.declared.Server.{Server as ServerNumber}
+use Rattle.config.specs.Config.{Valid, questions}
+use Rattle.config.specs.Number.{serverNumber}
+use Rattle.config.specs.Questions.{ask, firstNo, within}
+use Rattle.config.specs.Refusal.{verdictNumber}
+use Rattle.config.proofs.Questions.{last-all, questions-numbered}
+use Rattle.config.proofs.Valid.{valid}
+use Rattle.laws.proofs.Bools.{and-left, and-right}
+use Rattle.tag.specs.declared.Tag.{Tag}
+use Rattle.tag.specs.Tag.{allowed, key, start}
+use Rattle.record.specs.declared.Kind.{Kind}
+use Rattle.record.specs.declared.Kind.the-variants.{Query, QueryAnswer, PreWrite, PreWriteAnswer, WriteFinalise, WriteFinaliseAnswer, ReadFinalise, ReadFinaliseAnswer}
+use Rattle.record.specs.Message.{Message}
+use Rattle.record.specs.Record.{messageOf, ofConfig, recordOf, tagAt as tagIn, wellFormed}
+use Rattle.record.proofs.Clauses.{its-tag}
+use Rattle.record.proofs.Laws.{reads-back, record-long, written-well-formed}
+use Rattle.history.specs.Server.{Server, Served, Stored, finalised, freshServer, preWrite, query, readFinalise, serverStep, serverStepOf, writeFinalise}
+use Rattle.history.specs.Tags.{higher, startingTag}
+use Rattle.server.specs.declared.Floor.{Floor}
+use Rattle.server.specs.declared.State.{State}
+use Rattle.server.specs.declared.Stepped.{Stepped}
+use Rattle.server.specs.Calls.{FreshPost, StepPost, Steps, answerBytes, answers, forServer, freshQuestions, freshState, outcome, raised, receives, stays, stepQuestions, storeLength}
+use Rattle.server.specs.Inner.{Held}
+use Rattle.server.specs.Kept.{kept, serverKept, stateKept, tagsOf}
+use Rattle.server.specs.Order.{Reordered, SameButOrder}
+use Rattle.server.specs.View.{each, elementAt, floorOf, placeAt, tagAt, tagsUsed, view}
+use Rattle.server.proofs.Asked.{step-answer, step-handed, step-later}
+use Rattle.server.proofs.Held.{state-kept, state-me}
+use Rattle.server.proofs.Invariant.{finalised-kept, fresh-kept, highest-rises, rises-by, step-kept}
+use Rattle.server.proofs.Order.{answer-same, server-same}
+use Rattle.server.proofs.Stepping.{steps-same}
+
+-- the stored tags of the view are the state's
+tags-used : (cfg : Config) (tags : List Tag) (store : List ℕ) (i n : ℕ) → tagsOf (each (placeAt cfg tags store) i n) ≡ each (tagAt tags) i n
+unfolding tagsOf each
+tags-used cfg tags store i zero = refl
+tags-used cfg tags store i (suc n) = ap {B = List Tag} (λ ts. tagAt tags i ∷ ts) (tags-used cfg tags store (suc i) n)
+
+module _ (cfg : Config) (s : State) (store : List ℕ) where
+  view-kept : serverKept cfg (view cfg s store) ≡ kept cfg (s .highest) (floorOf (s .floor)) (tagsUsed s)
+  unfolding serverKept view
+  view-kept = ap (kept cfg (s .highest) (floorOf (s .floor))) (tags-used cfg (s .tags) store 0 (s .count))
+
+  pub server-kept : stateKept cfg s ≡ true → serverKept cfg (view cfg s store) ≡ true
+  server-kept h = view-kept ∙ state-kept cfg s h
+
+  pub kept-state : within 1 (cfg .n) (serverNumber (s .me)) ≡ true → serverKept cfg (view cfg s store) ≡ true → stateKept cfg s ≡ true
+  unfolding stateKept
+  kept-state w h = rw (w, sym view-kept ∙ h)
+
+-- Fresh: an accepted call leaves the protocol's fresh server, and it passes questions 1 to 6.
+module _ (cfg : Config) (me : ServerNumber) (element before after : List ℕ) (r : Stepped) (post : FreshPost cfg me element before after r)
+    (accepted : verdictNumber (r .verdict) ≡ 0) where
+  asked : firstNo (freshQuestions cfg me element before) ≡ 0
+  asked = sym (post .number) ∙ accepted
+
+  abbrev sized : Bool
+  sized = eqb (length element) (cfg .e)
+
+  abbrev long : Bool
+  long = eqb (length before) (storeLength cfg)
+
+  abbrev here : Bool
+  here = within 1 (cfg .n) (serverNumber me)
+
+  answered : (firstNo (questions cfg) ≡ 0) × (sized && long && here ≡ true)
+  unfolding freshQuestions
+  answered = last-all (questions cfg) 6 (sized && long && here) (questions-numbered cfg) (omega arith) asked
+
+  its-size : length element ≡ cfg .e
+  its-size = eqb-true (length element) (cfg .e) (and-left sized long (and-left (sized && long) here (answered .1)))
+
+  after-is : after ≡ element ++ drop (cfg .e) before
+  after-is = post .store ∙ rw (eq-eqb (firstNo (freshQuestions cfg me element before)) 0 asked)
+
+  first-element : elementAt cfg after 0 ≡ element
+  first-element =
+      ap (λ (n : ℕ). take (cfg .e) (drop n after)) (zero-mul (cfg .e)) ∙ ap (take (cfg .e)) after-is
+      ∙ take-at element (drop (cfg .e) before) (cfg .e) its-size
+
+  pub fresh-view : view cfg (r .state) after ≡ freshServer element
+  unfolding view freshState freshServer each startingTag
+  fresh-view =
+      ap (λ (x : State). view cfg x after) (post .state)
+      ∙ ap (λ (e : List ℕ). record { highest = start; floor = none; stored = record { tag = start; element = e } ∷ [] }) first-element
+
+  pub fresh-held : Held cfg (r .state) after
+  unfolding freshState
+  fresh-held =
+      let v = valid cfg (answered .0) in
+      let l : length before ≡ storeLength cfg = eqb-true (length before) (storeLength cfg) (and-right sized long (and-left (sized && long) here (answered .1))) in
+      let m : 1 * cfg .e ≤ (cfg .d + 1) * cfg .e = mul-le-mul-right (cfg .e) (omega arith) in
+      record {
+        valid = v;
+        kept =
+            kept-state cfg (r .state) after
+            (ap (λ (x : State). within 1 (cfg .n) (serverNumber (x .me))) (post .state) ∙ and-right (sized && long) here (answered .1))
+            (ap (serverKept cfg) fresh-view ∙ fresh-kept cfg element);
+        long =
+            ap length after-is ∙ length-append element (drop (cfg .e) before)
+            ∙ omega (arith, its-size, length-drop (cfg .e) before, l);
+      }
+
+-- Step: whatever record is handed over, question 6 is kept and H never falls.
+module _ (cfg : Config) (s : State) (handed store answer storeAfter answerAfter : List ℕ) (r : Stepped) (held : Held cfg s store)
+    (post : StepPost cfg s handed store answer storeAfter answerAfter r) where
+  abbrev first : ℕ
+  first = firstNo (stepQuestions cfg s handed store answer)
+
+  abbrev m : Message (List ℕ)
+  m = messageOf cfg handed
+
+  abbrev v : Server (List ℕ)
+  v = view cfg s store
+
+  well-by : (b : Bool) (x n : ℕ) → n ≡ cond b x 12 → (n ≡ 12 → ⊥) → b ≡ true
+  well-by true x n e h = refl
+  well-by false x n e h = absurd (h e)
+
+  -- past questions 6 and 12 the record is well formed
+  well : (first ≡ 6 → ⊥) → (first ≡ 12 → ⊥) → wellFormed cfg handed ≡ true
+  well six twelve = elim (ℕ-discrete (length handed) 80) as (λ _. wellFormed cfg handed ≡ true) [
+    | yes e ↦ elim (ℕ-discrete (length answer) 80) as (λ _. wellFormed cfg handed ≡ true) [
+      | yes f ↦ well-by (wellFormed cfg handed) _ first (step-later cfg s handed store answer held e f) twelve
+      | no nf ↦ absurd (six (step-answer cfg s handed store answer held e nf))
+    ]
+    | no ne ↦ absurd (six (step-handed cfg s handed store answer held ne))
+  ]
+
+  tag-ok : (first ≡ 6 → ⊥) → (first ≡ 12 → ⊥) → allowed (cfg .c) (m .tag) ≡ true
+  unfolding messageOf
+  tag-ok six twelve = its-tag cfg handed (well six twelve)
+
+  -- the protocol's server stays within question 6
+  v-kept : serverKept cfg v ≡ true
+  v-kept = server-kept cfg s store (held .kept)
+
+  raised-view : (t : Tag) → view cfg (raised s t) store ≡ finalised key v t
+  unfolding view raised finalised
+  raised-view t = refl
+
+  after-kept : serverKept cfg (view cfg (r .state) storeAfter) ≡ true
+  after-kept = elim (ℕ-discrete first 0) as (λ _. serverKept cfg (view cfg (r .state) storeAfter) ≡ true) [
+    | yes z ↦
+        ap (serverKept cfg) (post .view z)
+        ∙ step-kept cfg (held .valid .c-high) (serverNumber (s .me)) v v-kept m (tag-ok (λ x. omega arith) (λ x. omega arith))
+    | no nz ↦ elim (ℕ-discrete first 15) as (λ _. serverKept cfg (view cfg (r .state) storeAfter) ≡ true) [
+      | yes f ↦
+          let e : r .state ≡ raised s (m .tag) = post .state nz ∙ ap (λ (b : Bool). cond b (raised s (m .tag)) s) (eq-eqb first 15 f) in
+          ap₂ {A = State} (λ (x : State) (l : List ℕ). serverKept cfg (view cfg x l)) e (post .store nz) ∙ ap (serverKept cfg) (raised-view (m .tag))
+          ∙ finalised-kept cfg (held .valid .c-high) (serverNumber (s .me)) v v-kept m (tag-ok (λ x. omega arith) (λ x. omega arith))
+      | no nf ↦
+          let e : r .state ≡ s = post .state nz ∙ ap (λ (b : Bool). cond b (raised s (m .tag)) s) (ne-eqb first 15 nf) in
+          ap₂ {A = State} (λ (x : State) (l : List ℕ). serverKept cfg (view cfg x l)) e (post .store nz) ∙ v-kept
+    ]
+  ]
+
+  pub step-held : Held cfg (r .state) storeAfter
+  step-held =
+      record {
+        valid = held .valid;
+        kept =
+            kept-state cfg (r .state) storeAfter
+            (ap (λ (x : ServerNumber). within 1 (cfg .n) (serverNumber x)) (post .me) ∙ state-me cfg s (held .kept)) after-kept;
+        long = post .long ∙ held .long;
+      }
+
+  view-highest : (x : State) (l : List ℕ) → view cfg x l .highest ≡ x .highest
+  unfolding view
+  view-highest x l = refl
+
+  raised-highest : (t : Tag) → key (s .highest) ≤ key (raised s t .highest)
+  unfolding raised higher
+  raised-highest t = rises-by (ltb (key (s .highest)) (key t)) (s .highest) t refl
+
+  pub never-falls : key (s .highest) ≤ key (r .state .highest)
+  never-falls = elim (ℕ-discrete first 0) as (λ _. key (s .highest) ≤ key (r .state .highest)) [
+    | yes z ↦
+        let e : view cfg (r .state) storeAfter .highest ≡ outcome cfg s store m .server .highest = ap (λ (x : Server (List ℕ)). x .highest) (post .view z) in
+        omega (arith, highest-rises (cfg .d) (serverNumber (s .me)) v m, ap key e, ap key (view-highest (r .state) storeAfter), ap key (view-highest s store))
+    | no nz ↦ elim (ℕ-discrete first 15) as (λ _. key (s .highest) ≤ key (r .state .highest)) [
+      | yes f ↦
+          let e : r .state ≡ raised s (m .tag) = post .state nz ∙ ap (λ (b : Bool). cond b (raised s (m .tag)) s) (eq-eqb first 15 f) in
+          omega (arith, raised-highest (m .tag), ap (λ (x : State). key (x .highest)) e)
+      | no nf ↦
+          let e : r .state ≡ s = post .state nz ∙ ap (λ (b : Bool). cond b (raised s (m .tag)) s) (ne-eqb first 15 nf) in
+          omega (arith, ap (λ (x : State). key (x .highest)) e)
+    ]
+  ]
+
+-- A step on the record of a message of the configuration, for this server and of a kind that it receives: it is the protocol's.
+pub record OnMessage (cfg : Config) (s : State) (m : Message (List ℕ)) (storeBefore answerBefore storeAfter answerAfter : List ℕ) (r : Stepped) : Type 0 where
+  pub number : verdictNumber (r .verdict) ≡ cond (answers (outcome cfg s storeBefore m .answer)) 0 15
+  pub me : r .state .me ≡ s .me
+  pub view : view cfg (r .state) storeAfter ≡ outcome cfg s storeBefore m .server
+  pub answer : answerAfter ≡ answerBytes cfg (outcome cfg s storeBefore m .answer) answerBefore
+  pub held : Held cfg (r .state) storeAfter
+
+-- without an answer H is raised, and nothing else
+module _ {Element : Type 0} (d s : ℕ) (v : Server Element) (m : Message Element) where
+  silent-by : (kind : Kind) → receives kind ≡ true → serverStepOf kind key d s v m .answer ≡ none → serverStepOf kind key d s v m .server ≡ finalised key v (m .tag)
+  unfolding serverStepOf query preWrite writeFinalise readFinalise
+  silent-by Query k e = cc
+  silent-by QueryAnswer k e = cc
+  silent-by PreWrite k e = cc
+  silent-by PreWriteAnswer k e = cc
+  silent-by WriteFinalise k e = refl
+  silent-by WriteFinaliseAnswer k e = cc
+  silent-by ReadFinalise k e = refl
+  silent-by ReadFinaliseAnswer k e = cc
+
+  pub silent-server : receives (m .kind) ≡ true → serverStep key d s v m .answer ≡ none → serverStep key d s v m .server ≡ finalised key v (m .tag)
+  unfolding serverStep
+  silent-server = silent-by (m .kind)
+
+module _ (cfg : Config) (s : State) (m : Message (List ℕ)) (store answer storeAfter answerAfter : List ℕ) (r : Stepped) (held : Held cfg s store)
+    (ok : ofConfig cfg m ≡ true) (mine : forServer (serverNumber (s .me)) m ≡ true) (eighty : length answer ≡ 80)
+    (post : StepPost cfg s (recordOf cfg m) store answer storeAfter answerAfter r) where
+  abbrev o : Served (List ℕ)
+  o = outcome cfg s store m
+
+  back : messageOf cfg (recordOf cfg m) ≡ m
+  back = reads-back cfg (held .valid .e-high) m ok
+
+  number-is : firstNo (stepQuestions cfg s (recordOf cfg m) store answer) ≡ cond (answers (o .answer)) 0 15
+  number-is =
+      step-later cfg s (recordOf cfg m) store answer held (record-long cfg (held .valid .e-high) m ok) eighty
+      ∙ ap (λ (b : Bool). cond b (cond (forServer (serverNumber (s .me)) (messageOf cfg (recordOf cfg m))) (cond (answers (outcome cfg s store (messageOf cfg (recordOf cfg m)) .answer)) 0 15) 16) 12)
+      (written-well-formed cfg (held .valid .e-high) m ok)
+      ∙ ap (λ (x : Message (List ℕ)). cond (forServer (serverNumber (s .me)) x) (cond (answers (outcome cfg s store x .answer)) 0 15) 16) back
+      ∙ ap (λ (b : Bool). cond b (cond (answers (o .answer)) 0 15) 16) mine
+
+  steps : Steps cfg s (cond (answers (o .answer)) 0 15) m store answer storeAfter answerAfter r
+  steps =
+      steps-same cfg s (firstNo (stepQuestions cfg s (recordOf cfg m) store answer)) (cond (answers (o .answer)) 0 15) (messageOf cfg (recordOf cfg m)) m store answer
+      storeAfter answerAfter r number-is back post
+
+  -- by whether there is an answer
+  by-answer : (x : Option (Message (List ℕ))) → o .answer ≡ x
+      → (view cfg (r .state) storeAfter ≡ o .server) × (answerAfter ≡ answerBytes cfg x answer)
+  by-answer none e =
+      let p : Steps cfg s 15 m store answer storeAfter answerAfter r =
+      subst (λ (x : Option (Message (List ℕ))). Steps cfg s (cond (answers x) 0 15) m store answer storeAfter answerAfter r) e steps in
+      let some-number : _≡_ {A = ℕ} 15 0 → ⊥ = λ z. omega arith in (
+        ap₂ {A = State} (λ (x : State) (l : List ℕ). view cfg x l) (p .state some-number) (p .store some-number)
+            ∙ raised-view cfg s (recordOf cfg m) store answer storeAfter answerAfter r held post (m .tag)
+            ∙ sym (silent-server (cfg .d) (serverNumber (s .me)) (view cfg s store) m (and-right (eqb (m .server) (serverNumber (s .me))) (receives (m .kind)) mine) e),
+        p .answer,
+      )
+  by-answer (some a) e =
+      let p : Steps cfg s 0 m store answer storeAfter answerAfter r =
+      subst (λ (x : Option (Message (List ℕ))). Steps cfg s (cond (answers x) 0 15) m store answer storeAfter answerAfter r) e steps in
+      (p .view refl, p .answer ∙ ap (λ (x : Option (Message (List ℕ))). answerBytes cfg x answer) e)
+
+  pub on-message : OnMessage cfg s m store answer storeAfter answerAfter r
+  on-message =
+      let b = by-answer (o .answer) refl in
+      record {
+        number = steps .number;
+        me = post .me;
+        view = b .0;
+        answer = b .1;
+        held = step-held cfg s (recordOf cfg m) store answer storeAfter answerAfter r held post;
+      }
+
+-- No answer depends on the store's order, or on places that are not in use: two states of one server whose views differ in the order
+-- alone get the same number and the same answer for the same record, and their views differ in the order alone afterwards.
+pub record Alike (cfg : Config) (a b : Stepped) (storeA storeB answerA answerB : List ℕ) : Type 0 where
+  pub number : verdictNumber (a .verdict) ≡ verdictNumber (b .verdict)
+  pub answer : answerA ≡ answerB
+  pub view : verdictNumber (a .verdict) ≡ 0 → SameButOrder (view cfg (a .state) storeA) (view cfg (b .state) storeB)
+
+module _ (cfg : Config) (s z : State) (handed answer storeS storeZ storeA storeB answerA answerB : List ℕ) (a b : Stepped) (heldS : Held cfg s storeS)
+    (heldZ : Held cfg z storeZ) (one : serverNumber (s .me) ≡ serverNumber (z .me)) (alike : SameButOrder (view cfg s storeS) (view cfg z storeZ))
+    (postA : StepPost cfg s handed storeS answer storeA answerA a) (postB : StepPost cfg z handed storeZ answer storeB answerB b) where
+  abbrev got : Message (List ℕ)
+  got = messageOf cfg handed
+
+  abbrev firstS : ℕ
+  firstS = firstNo (stepQuestions cfg s handed storeS answer)
+
+  abbrev firstZ : ℕ
+  firstZ = firstNo (stepQuestions cfg z handed storeZ answer)
+
+  -- once the tag is within its limit, the protocol's answers are one
+  module _ (ok : allowed (cfg .c) (got .tag) ≡ true) where
+    answers-one : outcome cfg s storeS got .answer ≡ outcome cfg z storeZ got .answer
+    answers-one =
+        answer-same cfg (heldS .valid .c-high) (view cfg s storeS) (view cfg z storeZ) (server-kept cfg s storeS (heldS .kept)) alike (serverNumber (s .me)) got ok
+        ∙ ap (λ (n : ℕ). serverStep key (cfg .d) n (view cfg z storeZ) got .answer) one
+
+    servers-one : SameButOrder (outcome cfg s storeS got .server) (outcome cfg z storeZ got .server)
+    servers-one =
+        subst (λ (n : ℕ). SameButOrder (outcome cfg s storeS got .server) (serverStep key (cfg .d) n (view cfg z storeZ) got .server)) one
+        (server-same cfg (heldS .valid .c-high) (view cfg s storeS) (view cfg z storeZ) (server-kept cfg s storeS (heldS .kept)) alike (serverNumber (s .me)) got ok)
+
+  -- the first question that is answered no is one
+  later-one : (w : Bool) → wellFormed cfg handed ≡ w
+      → cond {A = ℕ} w (cond (forServer (serverNumber (s .me)) got) (cond (answers (outcome cfg s storeS got .answer)) 0 15) 16) 12
+      ≡ cond w (cond (forServer (serverNumber (z .me)) got) (cond (answers (outcome cfg z storeZ got .answer)) 0 15) 16) 12
+  unfolding messageOf
+  later-one true w =
+      ap₂ {A = ℕ} (λ (n : ℕ) (x : Option (Message (List ℕ))). cond (forServer n got) (cond (answers x) 0 15) 16) one (answers-one (its-tag cfg handed w))
+  later-one false w = refl
+
+  first-one : firstS ≡ firstZ
+  first-one = elim (ℕ-discrete (length handed) 80) as (λ _. firstS ≡ firstZ) [
+    | yes e ↦ elim (ℕ-discrete (length answer) 80) as (λ _. firstS ≡ firstZ) [
+      | yes f ↦
+          step-later cfg s handed storeS answer heldS e f ∙ later-one (wellFormed cfg handed) refl ∙ sym (step-later cfg z handed storeZ answer heldZ e f)
+      | no nf ↦ step-answer cfg s handed storeS answer heldS e nf ∙ sym (step-answer cfg z handed storeZ answer heldZ e nf)
+    ]
+    | no ne ↦ step-handed cfg s handed storeS answer heldS ne ∙ sym (step-handed cfg z handed storeZ answer heldZ ne)
+  ]
+
+  tag-of : firstS ≡ 0 → allowed (cfg .c) (got .tag) ≡ true
+  tag-of e = tag-ok cfg s handed storeS answer storeA answerA a heldS postA (λ x. omega arith) (λ x. omega arith)
+
+  answer-one : answerA ≡ answerB
+  answer-one = elim (ℕ-discrete firstS 0) as (λ _. answerA ≡ answerB) [
+    | yes e ↦
+        postA .answer ∙ ap (λ (x : Bool). cond x (answerBytes cfg (outcome cfg s storeS got .answer) answer) answer) (eq-eqb firstS 0 e)
+        ∙ ap (λ (x : Option (Message (List ℕ))). answerBytes cfg x answer) (answers-one (tag-of e))
+        ∙ sym (postB .answer ∙ ap (λ (x : Bool). cond x (answerBytes cfg (outcome cfg z storeZ got .answer) answer) answer) (eq-eqb firstZ 0 (sym first-one ∙ e)))
+    | no ne ↦
+        postA .answer ∙ ap (λ (x : Bool). cond x (answerBytes cfg (outcome cfg s storeS got .answer) answer) answer) (ne-eqb firstS 0 ne)
+        ∙ sym (postB .answer ∙ ap (λ (x : Bool). cond x (answerBytes cfg (outcome cfg z storeZ got .answer) answer) answer) (ne-eqb firstZ 0 (λ x. ne (first-one ∙ x))))
+  ]
+
+  pub step-alike : Alike cfg a b storeA storeB answerA answerB
+  step-alike =
+      record {
+        number = postA .number ∙ first-one ∙ sym (postB .number);
+        answer = answer-one;
+        view =
+            λ n.
+            let e : firstS ≡ 0 = sym (postA .number) ∙ n in
+            subst₂ SameButOrder (sym (postA .view e)) (sym (postB .view (sym first-one ∙ e))) (servers-one (tag-of e));
+      }

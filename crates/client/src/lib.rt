@@ -2,6 +2,7 @@
 use config::Client;
 use tag::Tag;
 
+mod questions;
 mod servers;
 
 // Where a client stands in its operation. A set of servers is the bits of a number: bit s is server s.

@@ -15,7 +15,7 @@ use lib.ListN.{getD}
 use borrow.Author.Tests.{eqb-true, eqb-false, ne-eqb}
 use Rattle.laws.proofs.Xor.{xor-assoc}
 use Rattle.field.specs.Field.{plus, double, doubled, sum, times, power, inverseBelow, inverseOf}
-use Rattle.field.proofs.Tables.{powers, powers-doubled, log, log-lt, log-doubled}
+use Rattle.field.proofs.Generator.{generated, period}
 pub use Rattle.field.proofs.Linear.{
   double-plus,
   double-lt,
@@ -38,7 +38,7 @@ by-byte P p q a h = go (ℕ-discrete a 0)
   where
     go : Dec (a ≡ 0) → P a
     go (yes e) = subst P (sym e) p
-    go (no n) = subst P (log-doubled a h n) (q (log a))
+    go (no n) = let g = generated a h n in subst P (g .2) (q (g .0))
 
 one-lt : 1 < 256
 one-lt = lit< tt
@@ -94,24 +94,17 @@ times-one a h = times-comm a 1 h one-lt ∙ times-one-left a h
 
 -- ---- the inverse
 
-doubled-period : doubled 255 1 ≡ 1
-unfolding powers
-doubled-period = sym (powers-doubled 255 (lit< tt))
-
--- the power of 2 that a times is 1
-abbrev pub opposite : ℕ → ℕ
-opposite a = doubled (255 - log a) 1
-
-pub opposite-lt : (a : ℕ) → opposite a < 256
-opposite-lt a = doubled-lt (255 - log a) 1 one-lt
-
-times-opposite : (a : ℕ) → a < 256 → (a ≡ 0 → ⊥) → times a (opposite a) ≡ 1
-times-opposite a h n =
-    ap (λ (x : ℕ). times x (opposite a)) (sym (log-doubled a h n))
-    ∙ doubled-times (log a) (opposite a) (opposite-lt a)
-    ∙ sym (doubled-add (log a) (255 - log a) 1)
-    ∙ ap (λ (x : ℕ). doubled x 1) (omega (arith, log-lt a h))
-    ∙ doubled-period
+inverted : (a : ℕ) → a < 256 → (a ≡ 0 → ⊥) → (b : ℕ) × (b < 256) × (times a b ≡ 1)
+inverted a h n =
+    let g = generated a h n in (
+      doubled (255 - g .0) 1,
+      doubled-lt (255 - g .0) 1 one-lt,
+      ap (λ (x : ℕ). times x (doubled (255 - g .0) 1)) (sym (g .2))
+          ∙ doubled-times (g .0) (doubled (255 - g .0) 1) (doubled-lt (255 - g .0) 1 one-lt)
+          ∙ sym (doubled-add (g .0) (255 - g .0) 1)
+          ∙ ap (λ (x : ℕ). doubled x 1) (omega (arith, g .1))
+          ∙ period,
+    )
 
 -- no other byte is an inverse
 one-inverse : (a b c : ℕ) → a < 256 → b < 256 → c < 256 → times a b ≡ 1 → times a c ≡ 1 → c ≡ b
@@ -143,21 +136,26 @@ pub inverse-zero : inverseOf 0 ≡ 0
 unfolding inverseOf
 inverse-zero = below-none 256
 
-pub inverse-opposite : (a : ℕ) → a < 256 → (a ≡ 0 → ⊥) → inverseOf a ≡ opposite a
+-- the byte that a times is 1 is the inverse
+pub inverse-only : (a b : ℕ) → a < 256 → b < 256 → times a b ≡ 1 → inverseOf a ≡ b
 unfolding inverseOf
-inverse-opposite a h n =
-    below-only 256 a (opposite a) (opposite-lt a) (times-opposite a h n)
-    (λ b k e. one-inverse a (opposite a) b h (opposite-lt a) k (times-opposite a h n) e)
+inverse-only a b h k e = below-only 256 a b k e (λ c l f. one-inverse a b c h k l e f)
+
+inverse-other : (a : ℕ) → a < 256 → (a ≡ 0 → ⊥) → (inverseOf a < 256) × (times a (inverseOf a) ≡ 1)
+inverse-other a h n =
+    let v = inverted a h n in
+    let e = sym (inverse-only a (v .0) h (v .1) (v .2)) in
+    (subst (λ (x : ℕ). x < 256) e (v .1), subst (λ (x : ℕ). times a x ≡ 1) e (v .2))
 
 pub inverse-lt : (a : ℕ) → a < 256 → inverseOf a < 256
 inverse-lt a h = go (ℕ-discrete a 0)
   where
     go : Dec (a ≡ 0) → inverseOf a < 256
     go (yes e) = rw (e, inverse-zero) (lit< tt)
-    go (no n) = rw (inverse-opposite a h n) (opposite-lt a)
+    go (no n) = inverse-other a h n .0
 
 pub times-inverse : (a : ℕ) → a < 256 → (a ≡ 0 → ⊥) → times a (inverseOf a) ≡ 1
-times-inverse a h n = rw (inverse-opposite a h n) (times-opposite a h n)
+times-inverse a h n = inverse-other a h n .1
 
 pub no-zero-divisors : (a b : ℕ) → a < 256 → b < 256 → times a b ≡ 0 → (a ≡ 0 → ⊥) → b ≡ 0
 no-zero-divisors a b h k e n =
@@ -188,13 +186,12 @@ unfolding power doubled double
 power-two zero = refl
 power-two (suc i) = ap (times 2) (power-two i) ∙ doubled-times 1 (doubled i 1) (doubled-lt i 1 one-lt)
 
+pub power-period : power 2 255 ≡ 1
+power-period = power-two 255 ∙ period
+
 -- 2 generates the bytes other than 0
 pub generates : (a : ℕ) → a < 256 → (a ≡ 0 → ⊥) → (i : ℕ) × (i < 255) × (power 2 i ≡ a)
-generates a h n = (log a, log-lt a h, power-two (log a) ∙ log-doubled a h n)
-
--- the table has the powers of 2
-pub powers-two : (i : ℕ) → i < 510 → getD powers i 0 ≡ power 2 i
-powers-two i h = powers-doubled i h ∙ sym (power-two i)
+generates a h n = let g = generated a h n in (g .0, g .1, power-two (g .0) ∙ g .2)
 
 -- ---- document 01's figures
 

@@ -1,4 +1,5 @@
 pub mod Byte
+pub mod Generator
 pub mod Laws
 pub mod Linear
 pub mod Tables

@@ -1,6 +1,7 @@
 -- The field of 256 elements: document 01, "Field and code", up to the product. A field element is a byte. Its bit i is the
 -- coefficient of x^i of the polynomial that it stands for, so that 2 is x. Assumes nothing.
-use Prim.Native.Nat.{ℕ, zero, suc, _*_, _/_, _%_, _^_}
+use mathlib.Core.Path.{_≡_}
+use Prim.Native.Nat.{ℕ, zero, suc, _*_, _/_, _%_, _^_, _<_}
 use mathlib.Core.Bool.{cond}
 use lib.Bits.{bitXor}
 use lib.Dec.{eqb}
@@ -35,6 +36,11 @@ times a b = sum 8 a b
 unfoldable pub power : ℕ → ℕ → ℕ
 power a zero = 1
 power a (suc i) = times a (power a i)
+
+-- i is the exponent, below 255, of a as a power of 2; 0 is no power of 2
+pub record Logarithm (a i : ℕ) : Type 0 where
+  pub small : i < 255
+  pub exponent : (a ≡ 0 → ⊥) → power 2 i ≡ a
 
 -- the last number below n that a times is 1; 0 if there is none
 unfoldable pub inverseBelow : ℕ → ℕ → ℕ

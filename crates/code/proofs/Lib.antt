@@ -1,0 +1,12 @@
+pub mod Decoding
+pub mod Factor
+pub mod Joined
+pub mod Lagrange
+pub mod Listed
+pub mod Numbers
+pub mod Preserved
+pub mod Ring
+pub mod Rising
+pub mod Roots
+pub mod Sums
+pub mod Value

@@ -1,0 +1,6 @@
+pub mod Decode
+pub mod Decoded
+pub mod Element
+pub mod Encode
+pub mod Lists
+pub mod Polynomial

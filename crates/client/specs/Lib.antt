@@ -1,3 +1,5 @@
+pub mod Gather
+pub mod Place
+pub mod Questions
 pub mod Servers
 pub mod State
-pub mod Questions

@@ -2,6 +2,8 @@
 use config::Client;
 use tag::Tag;
 
+mod gather;
+mod place;
 mod questions;
 mod servers;
 

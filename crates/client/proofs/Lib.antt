@@ -1,6 +1,9 @@
 pub mod Asked
 pub mod Bounds
+pub mod Counting
+pub mod Elements
 pub mod Gathering
 pub mod Places
 pub mod Present
 pub mod Sets
+pub mod Tags

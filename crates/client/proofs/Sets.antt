@@ -184,3 +184,16 @@ count-ones (suc n) x e =
 -- the size of a set of servers 1 to n is the number of its bits
 pub size-ones : (n x : ℕ) → withinServers n x ≡ true → count (member x) n ≡ ones x
 size-ones n x w = count-ones n x (within-even n x w) ∙ ap ones (mod-eq-of-lt (within-lt n x w))
+
+-- ---- a set changed at one server of 1 to n
+
+put-member : (f : ℕ → Bool) (s : ℕ) (b : Bool) (t : ℕ) → upd f s b t ≡ true → (t ≡ s → ⊥) → f t ≡ true
+unfolding upd
+put-member f s b t h n = rw (ne-eqb t s n) at h
+
+pub put-within : (n x y s : ℕ) (b : Bool) → withinServers n x ≡ true → 1 ≤ s → s ≤ n → member y ≡ upd (member x) s b → withinServers n y ≡ true
+put-within n x y s b w low high e =
+    members-within n y (λ t h. elim (ℕ-discrete t s) as (λ _. (1 ≤ t) × (t ≤ n)) [
+      | yes p ↦ (omega arith, omega arith)
+      | no m ↦ within-members n x t w (put-member (member x) s b t (ap (λ (f : ℕ → Bool). f t) (sym e) ∙ h) m)
+    ])

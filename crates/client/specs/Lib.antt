@@ -1,3 +1,4 @@
+pub mod Count
 pub mod Gather
 pub mod Place
 pub mod Questions

@@ -2,6 +2,7 @@
 use config::Client;
 use tag::Tag;
 
+mod count;
 mod gather;
 mod place;
 mod questions;

@@ -1,1 +1,4 @@
+pub mod Calls
+pub mod Inner
 pub mod Message
+pub mod Record

@@ -1,0 +1,351 @@
+-- The record's theorems: what is written reads back as the same message; a record is well formed exactly if it is what writing some
+-- message of the configuration gives; it is zero past E, and where no element is present. Assumes nothing.
+use mathlib.Core.Path.{_≡_, refl, sym, _∙_, ap, ap₂, subst}
+use mathlib.Core.Bool.{Bool, true, false, cond, _&&_}
+use mathlib.Core.List.{List, [], _∷_, _++_, append-nil}
+use mathlib.Core.Logic.{_↔_}
+use mathlib.Core.Option.{Option, none, some}
+use Prim.Native.Nat.{ℕ, zero, suc, _+_, _-_, _*_, _/_, _%_, _≤_, _<_}
+use native.Mathlib.Nat.{add-zero, add-suc, div-add-mod', div-div-eq-div-mul, mod-eq-of-lt}
+use native.Mathlib.Omega.{arith}
+use borrow.Author.Tests.{eq-eqb, eqb-true, le-leb, leb-true}
+use lib.Arith.{digits-div, digits-mod}
+use lib.Dec.{eqb, leb}
+use lib.ListN.{length, getD, take, drop, replicate, length-append, length-drop, length-replicate, length-take, getD-replicate, take-append-drop}
+use lib.Seq.{drop-cons, drop-drop, getD-drop, getD-take, take-at, drop-at, take-length}
+use Rattle.config.specs.declared.Config.{Config}
+use Rattle.config.specs.Questions.{within}
+use Rattle.config.proofs.Questions.{within-low, within-high, within-true}
+use Rattle.laws.proofs.Bools.{and-left, and-right}
+use Rattle.tag.specs.declared.Tag.{Tag}
+use Rattle.record.specs.declared.Kind.{Kind}
+use Rattle.record.specs.declared.Kind.the-variants.{Query, QueryAnswer, PreWrite, PreWriteAnswer, WriteFinalise, WriteFinaliseAnswer, ReadFinalise, ReadFinaliseAnswer}
+use Rattle.record.specs.Message.{Message}
+use Rattle.record.specs.Record.{all, allZero, clauses, clientAt, elementAt, elementBytes, elementEnd, fourBytes, headerBytes, highestNumber, isPresent, kindAt, kindNumber, kindOf, messageClauses, messageOf, numberAt, numberOf, ofConfig, operationAt, presentAt, recordOf, serverAt, sized, tagAt, wellFormed}
+use Rattle.record.proofs.Clauses.{all-at, clause, its-length, kind-number}
+
+-- the number of a kind names it
+pub kind-of : (k : Kind) → kindOf (kindNumber k) ≡ k
+unfolding kindOf
+kind-of Query = refl
+kind-of QueryAnswer = refl
+kind-of PreWrite = refl
+kind-of PreWriteAnswer = refl
+kind-of WriteFinalise = refl
+kind-of WriteFinaliseAnswer = refl
+kind-of ReadFinalise = refl
+kind-of ReadFinaliseAnswer = refl
+
+kind-within : (k : Kind) → within 1 8 (kindNumber k) ≡ true
+kind-within Query = refl
+kind-within QueryAnswer = refl
+kind-within PreWrite = refl
+kind-within PreWriteAnswer = refl
+kind-within WriteFinalise = refl
+kind-within WriteFinaliseAnswer = refl
+kind-within ReadFinalise = refl
+kind-within ReadFinaliseAnswer = refl
+
+-- a number's four bytes give it back, and four bytes are those of their number
+joined : (n p q r a b c d : ℕ) → p * 256 + a ≡ n → q * 256 + b ≡ p → r * 256 + c ≡ q → d ≡ r → numberOf a b c d ≡ n
+joined n p q r a b c d e f g h = omega arith
+
+low-digit : (q r x : ℕ) → r < 256 → x ≡ q * 256 + r → (x % 256 ≡ r) × (x / 256 ≡ q)
+low-digit q r x h e = (ap (λ (y : ℕ). y % 256) e ∙ digits-mod q h, ap (λ (y : ℕ). y / 256) e ∙ digits-div q h)
+
+four-number : (n : ℕ) → n ≤ highestNumber → numberOf (n % 256) (n / 256 % 256) (n / 65536 % 256) (n / 16777216 % 256) ≡ n
+four-number n h =
+    let p = n / 256 in
+    let q = n / 65536 in
+    let r = n / 16777216 in
+    let eq : p / 256 ≡ q = div-div-eq-div-mul n 256 256 in
+    let er : q / 256 ≡ r = div-div-eq-div-mul n 65536 256 in
+    let high : r < 256 = omega arith in
+    joined n p q r (n % 256) (p % 256) (q % 256) (r % 256) (div-add-mod' n 256)
+    (ap (λ (x : ℕ). x * 256 + p % 256) (sym eq) ∙ div-add-mod' p 256)
+    (ap (λ (x : ℕ). x * 256 + q % 256) (sym er) ∙ div-add-mod' q 256)
+    (mod-eq-of-lt high)
+
+number-four : (a b c d : ℕ) → a < 256 → b < 256 → c < 256 → d < 256 → fourBytes (numberOf a b c d) ≡ a ∷ b ∷ c ∷ d ∷ []
+unfolding fourBytes
+number-four a b c d ha hb hc hd =
+    let n = numberOf a b c d in
+    let p = low-digit (b + 256 * c + 65536 * d) a n ha (omega arith) in
+    let q = low-digit (c + 256 * d) b (n / 256) hb (p .1 ∙ omega arith) in
+    let eq : n / 65536 ≡ c + 256 * d = sym (div-div-eq-div-mul n 256 256) ∙ q .1 in
+    let r = low-digit d c (n / 65536) hc (eq ∙ omega arith) in
+    let er : n / 16777216 ≡ d = sym (div-div-eq-div-mul n 65536 256) ∙ r .1 in
+    let e3 : n / 16777216 % 256 ≡ d = ap (λ (x : ℕ). x % 256) er ∙ mod-eq-of-lt hd in
+    λ i. p .0 i ∷ q .0 i ∷ r .0 i ∷ e3 i ∷ []
+
+number-high : (a b c d : ℕ) → a < 256 → b < 256 → c < 256 → d < 256 → numberOf a b c d ≤ highestNumber
+number-high a b c d ha hb hc hd = omega arith
+
+-- zeros
+all-zeros : (n : ℕ) → allZero (replicate n 0) ≡ true
+unfolding allZero
+all-zeros zero = refl
+all-zeros (suc n) = all-zeros n
+
+zero-at : (bs : List ℕ) → allZero bs ≡ true → (i : ℕ) → getD bs i 0 ≡ 0
+unfolding allZero
+zero-at [] h i = refl
+zero-at (b ∷ bs) h zero = eqb-true b 0 (and-left (eqb b 0) (allZero bs) h)
+zero-at (b ∷ bs) h (suc i) = zero-at bs (and-right (eqb b 0) (allZero bs) h) i
+
+zero-list : (bs : List ℕ) → allZero bs ≡ true → bs ≡ replicate (length bs) 0
+unfolding allZero
+zero-list [] h = refl
+zero-list (b ∷ bs) h =
+    ap₂ {A = ℕ} (λ (x : ℕ) (l : List ℕ). x ∷ l) (eqb-true b 0 (and-left (eqb b 0) (allZero bs) h)) (zero-list bs (and-right (eqb b 0) (allZero bs) h))
+
+-- whether an element is present, as offset 3 has it
+flag-back : (b : Bool) → eqb (cond b 1 0) 1 ≡ b
+flag-back true = refl
+flag-back false = refl
+
+flag-low : (b : Bool) → leb (cond b 1 0) 1 ≡ true
+flag-low true = refl
+flag-low false = refl
+
+flag-at : (n : ℕ) → n ≤ 1 → cond (eqb n 1) 1 0 ≡ n
+flag-at zero h = refl
+flag-at (suc zero) h = refl
+flag-at (suc (suc n)) h = absurd (omega arith)
+
+-- the element's 64 bytes
+module _ (cfg : Config) (high : cfg .e ≤ 64) where
+  element-long : (o : Option (List ℕ)) → sized cfg o ≡ true → length (elementBytes cfg o) ≡ 64
+  unfolding elementBytes
+  element-long none h = refl
+  element-long (some e) h =
+      length-append e (replicate (64 - cfg .e) 0) ∙ omega (arith, length-replicate {A = ℕ} (64 - cfg .e) 0, eqb-true (length e) (cfg .e) h)
+
+  element-back : (o : Option (List ℕ)) → sized cfg o ≡ true → cond (isPresent o) (some (take (cfg .e) (elementBytes cfg o))) none ≡ o
+  unfolding elementBytes
+  element-back none h = refl
+  element-back (some e) h =
+      ap {B = Option (List ℕ)} some (take-at e (replicate (64 - cfg .e) 0) (cfg .e) (eqb-true (length e) (cfg .e) h))
+
+  element-zero : (o : Option (List ℕ)) → sized cfg o ≡ true → allZero (drop (cond (isPresent o) (cfg .e) 0) (elementBytes cfg o)) ≡ true
+  unfolding elementBytes
+  element-zero none h = all-zeros 64
+  element-zero (some e) h =
+      ap allZero (drop-at e (replicate (64 - cfg .e) 0) (cfg .e) (eqb-true (length e) (cfg .e) h)) ∙ all-zeros (64 - cfg .e)
+
+-- what is written: it has 80 bytes, reads back as the message, and is well formed
+module _ (cfg : Config) (high : cfg .e ≤ 64) (m : Message (List ℕ)) (h : ofConfig cfg m ≡ true) where
+  -- a clause of the message
+  rule : (i : ℕ) → getD (messageClauses cfg m) i true ≡ true
+  unfolding ofConfig
+  rule i = all-at (messageClauses cfg m) h i
+
+  element-sized : sized cfg (m .element) ≡ true
+  unfolding messageClauses
+  element-sized = rule 2
+
+  pub record-long : length (recordOf cfg m) ≡ 80
+  unfolding recordOf headerBytes fourBytes
+  record-long = ap (λ (n : ℕ). suc (suc (suc (suc (suc (suc (suc (suc (suc (suc (suc (suc (suc (suc (suc (suc n)))))))))))))))) (element-long cfg high (m .element) element-sized)
+
+  kind-back : kindAt (recordOf cfg m) ≡ kindNumber (m .kind)
+  unfolding recordOf headerBytes fourBytes
+  kind-back = refl
+
+  client-back : clientAt (recordOf cfg m) ≡ m .client
+  unfolding recordOf headerBytes fourBytes
+  client-back = refl
+
+  server-back : serverAt (recordOf cfg m) ≡ m .server
+  unfolding recordOf headerBytes fourBytes
+  server-back = refl
+
+  three-back : getD (recordOf cfg m) 3 0 ≡ cond (isPresent (m .element)) 1 0
+  unfolding recordOf headerBytes fourBytes
+  three-back = refl
+
+  present-back : presentAt (recordOf cfg m) ≡ isPresent (m .element)
+  present-back = rw three-back (flag-back (isPresent (m .element)))
+
+  operation-back : operationAt (recordOf cfg m) ≡ m .operation
+  unfolding recordOf headerBytes fourBytes messageClauses
+  operation-back = four-number (m .operation) (within-high 1 highestNumber (m .operation) (rule 0))
+
+  number-back : numberAt 8 (recordOf cfg m) ≡ m .tag .number
+  unfolding recordOf headerBytes fourBytes messageClauses
+  number-back = four-number (m .tag .number) (leb-true (m .tag .number) highestNumber (rule 1))
+
+  tag-client-back : getD (recordOf cfg m) 12 0 ≡ m .tag .client
+  unfolding recordOf headerBytes fourBytes
+  tag-client-back = refl
+
+  tag-back : tagAt (recordOf cfg m) ≡ m .tag
+  tag-back = λ i. record { number = number-back i; client = tag-client-back i }
+
+  three-zero : allZero (take 3 (drop 13 (recordOf cfg m))) ≡ true
+  unfolding recordOf headerBytes fourBytes allZero
+  three-zero = refl
+
+  body-back : drop 16 (recordOf cfg m) ≡ elementBytes cfg (m .element)
+  unfolding recordOf headerBytes fourBytes
+  body-back = refl
+
+  past-zero : allZero (drop (16 + cond (isPresent (m .element)) (cfg .e) 0) (recordOf cfg m)) ≡ true
+  past-zero =
+      ap allZero (sym (drop-drop (cond (isPresent (m .element)) (cfg .e) 0) 16 (recordOf cfg m)) ∙ ap (λ (l : List ℕ). drop (cond (isPresent (m .element)) (cfg .e) 0) l) body-back)
+      ∙ element-zero cfg high (m .element) element-sized
+
+  pub reads-back : messageOf cfg (recordOf cfg m) ≡ m
+  unfolding messageOf
+  reads-back =
+      let e : cond (presentAt (recordOf cfg m)) (some (elementAt cfg (recordOf cfg m))) none ≡ m .element =
+      rw (present-back, body-back) (element-back cfg high (m .element) element-sized) in
+      let k : kindOf (kindAt (recordOf cfg m)) ≡ m .kind = rw kind-back (kind-of (m .kind)) in
+      λ i.
+      record {
+        kind = k i;
+        client = client-back i;
+        server = server-back i;
+        operation = operation-back i;
+        tag = tag-back i;
+        element = e i;
+      }
+
+  pub written-well-formed : wellFormed cfg (recordOf cfg m) ≡ true
+  unfolding wellFormed clauses all messageClauses
+  written-well-formed =
+      rw (
+        eq-eqb (length (recordOf cfg m)) 80 record-long,
+        kind-back,
+        kind-within (m .kind),
+        present-back,
+        three-back,
+        flag-low (isPresent (m .element)),
+        operation-back,
+        three-zero,
+        past-zero,
+        client-back,
+        server-back,
+        number-back,
+        tag-client-back,
+        and-left (leb 1 (m .operation)) (leb (m .operation) highestNumber) (rule 0),
+        rule 3,
+        rule 4,
+        rule 5,
+        rule 6,
+        rule 7,
+        rule 8,
+      )
+
+-- the bytes from j on, n of them
+unfoldable from : ℕ → ℕ → List ℕ → List ℕ
+from zero j bs = []
+from (suc n) j bs = getD bs j 0 ∷ from n (suc j) bs
+
+from-split : (n j : ℕ) (bs : List ℕ) → n + j ≤ length bs → drop j bs ≡ from n j bs ++ drop (n + j) bs
+unfolding from
+from-split zero j bs h = let e : j ≡ 0 + j = omega arith in ap (λ (i : ℕ). drop i bs) e
+from-split (suc n) j bs h =
+    let e : n + suc j ≡ suc n + j = omega arith in
+    drop-cons bs j 0 (omega arith)
+    ∙ ap {B = List ℕ} (λ l. getD bs j 0 ∷ l) (from-split n (suc j) bs (omega arith) ∙ ap (λ (i : ℕ). from n (suc j) bs ++ drop i bs) e)
+
+-- every one is a byte
+abbrev pub Bytes : List ℕ → Type 0
+Bytes bs = (i : ℕ) → getD bs i 0 < 256
+
+-- a well-formed record is what its message writes, and its message is one of the configuration
+module _ (cfg : Config) (high : cfg .e ≤ 64) (bs : List ℕ) (bytes : Bytes bs) (w : wellFormed cfg bs ≡ true) where
+  long : length bs ≡ 80
+  long = its-length cfg bs w
+
+  kind-again : kindNumber (kindOf (kindAt bs)) ≡ kindAt bs
+  unfolding clauses
+  kind-again = kind-number (kindAt bs) (clause cfg bs 1 w)
+
+  flag-again : cond (presentAt bs) 1 0 ≡ getD bs 3 0
+  unfolding clauses
+  flag-again = flag-at (getD bs 3 0) (leb-true (getD bs 3 0) 1 (clause cfg bs 2 w))
+
+  four-again : (i : ℕ) → fourBytes (numberAt i bs) ≡ getD bs i 0 ∷ getD bs (i + 1) 0 ∷ getD bs (i + 2) 0 ∷ getD bs (i + 3) 0 ∷ []
+  four-again i = number-four (getD bs i 0) (getD bs (i + 1) 0) (getD bs (i + 2) 0) (getD bs (i + 3) 0) (bytes i) (bytes (i + 1)) (bytes (i + 2)) (bytes (i + 3))
+
+  zero-again : (i : ℕ) → i < 3 → getD bs (13 + i) 0 ≡ 0
+  unfolding clauses
+  zero-again i h = sym (getD-drop 13 bs i 0) ∙ sym (getD-take 3 (drop 13 bs) i 0 h) ∙ zero-at (take 3 (drop 13 bs)) (clause cfg bs 4 w) i
+
+  head-again : headerBytes (kindOf (kindAt bs)) (clientAt bs) (serverAt bs) (presentAt bs) (operationAt bs) (tagAt bs) ≡ from 16 0 bs
+  unfolding headerBytes from
+  head-again =
+      rw (kind-again, flag-again, four-again 4, four-again 8)
+      (λ i. getD bs 0 0 ∷ getD bs 1 0 ∷ getD bs 2 0 ∷ getD bs 3 0 ∷ getD bs 4 0 ∷ getD bs 5 0 ∷ getD bs 6 0 ∷ getD bs 7 0 ∷ getD bs 8 0 ∷ getD bs 9 0 ∷ getD bs 10 0
+      ∷ getD bs 11 0 ∷ getD bs 12 0 ∷ sym (zero-again 0 (omega arith)) i ∷ sym (zero-again 1 (omega arith)) i ∷ sym (zero-again 2 (omega arith)) i ∷ [])
+
+  body-long : length (drop 16 bs) ≡ 64
+  body-long = length-drop 16 bs ∙ omega (arith, long)
+
+  body-by : (b : Bool) → allZero (drop (elementEnd cfg b) bs) ≡ true → elementBytes cfg (cond b (some (elementAt cfg bs)) none) ≡ drop 16 bs
+  unfolding elementBytes
+  body-by true z =
+      let l : length (drop (16 + cfg .e) bs) ≡ 64 - cfg .e = omega (arith, long, length-drop (16 + cfg .e) bs) in
+      let d : drop (cfg .e) (drop 16 bs) ≡ replicate (64 - cfg .e) 0 =
+      drop-drop (cfg .e) 16 bs ∙ zero-list (drop (16 + cfg .e) bs) z ∙ ap (λ (n : ℕ). replicate n 0) l in
+      rw (← d) (take-append-drop (cfg .e) (drop 16 bs))
+  body-by false z = sym (zero-list (drop 16 bs) z ∙ ap (λ (n : ℕ). replicate n 0) body-long)
+
+  body-again : elementBytes cfg (cond (presentAt bs) (some (elementAt cfg bs)) none) ≡ drop 16 bs
+  unfolding clauses
+  body-again = body-by (presentAt bs) (clause cfg bs 5 w)
+
+  present-again : (b : Bool) → isPresent (cond b (some (elementAt cfg bs)) none) ≡ b
+  present-again true = refl
+  present-again false = refl
+
+  pub writes-again : recordOf cfg (messageOf cfg bs) ≡ bs
+  unfolding recordOf messageOf
+  writes-again =
+      rw (present-again (presentAt bs), head-again, body-again) (sym (from-split 16 0 bs (omega (arith, long))))
+
+  element-sized-again : (b : Bool) → sized cfg (cond b (some (elementAt cfg bs)) none) ≡ true
+  element-sized-again true =
+      eq-eqb (length (elementAt cfg bs)) (cfg .e) (length-take (cfg .e) (drop 16 bs) ∙ omega (arith, body-long))
+  element-sized-again false = refl
+
+  number-low : (i : ℕ) → numberAt i bs ≤ highestNumber
+  number-low i = number-high (getD bs i 0) (getD bs (i + 1) 0) (getD bs (i + 2) 0) (getD bs (i + 3) 0) (bytes i) (bytes (i + 1)) (bytes (i + 2)) (bytes (i + 3))
+
+  pub message-of-config : ofConfig cfg (messageOf cfg bs) ≡ true
+  unfolding ofConfig messageClauses messageOf clauses all
+  message-of-config =
+      rw (
+        clause cfg bs 3 w,
+        le-leb (operationAt bs) highestNumber (number-low 4),
+        le-leb (numberAt 8 bs) highestNumber (number-low 8),
+        element-sized-again (presentAt bs),
+        present-again (presentAt bs),
+        kind-again,
+        clause cfg bs 6 w,
+        clause cfg bs 7 w,
+        clause cfg bs 8 w,
+        clause cfg bs 9 w,
+        clause cfg bs 10 w,
+        clause cfg bs 11 w,
+      )
+
+-- "A record is well formed exactly if it is what writing some message of the configuration gives."
+abbrev pub Writes : Config → List ℕ → Type 0
+Writes cfg bs = (m : Message (List ℕ)) × (ofConfig cfg m ≡ true) × (recordOf cfg m ≡ bs)
+
+pub exactly : (cfg : Config) → cfg .e ≤ 64 → (bs : List ℕ) → Bytes bs → wellFormed cfg bs ≡ true ↔ Writes cfg bs
+exactly cfg high bs bytes = (
+  λ w. (messageOf cfg bs, message-of-config cfg high bs bytes w, writes-again cfg high bs bytes w),
+  λ m. subst (λ (l : List ℕ). wellFormed cfg l ≡ true) (m .2) (written-well-formed cfg high (m .0) (m .1)),
+)
+
+-- a well-formed record is zero past E, and past 16 where no element is present
+pub zero-past : (cfg : Config) (bs : List ℕ) → wellFormed cfg bs ≡ true → (i : ℕ) → elementEnd cfg (presentAt bs) ≤ i → getD bs i 0 ≡ 0
+unfolding clauses
+zero-past cfg bs w i h =
+    let end = elementEnd cfg (presentAt bs) in
+    let e : end + (i - end) ≡ i = omega arith in
+    ap (λ (j : ℕ). getD bs j 0) (sym e) ∙ sym (getD-drop end bs (i - end) 0) ∙ zero-at (drop end bs) (clause cfg bs 5 w) (i - end)

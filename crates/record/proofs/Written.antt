@@ -1,0 +1,128 @@
+-- What writing leaves: the header, the element as it stood, zeros. Assumes nothing.
+use mathlib.Core.Path.{_≡_, refl, sym, _∙_, ap}
+use mathlib.Core.Bool.{Bool, true, false, cond, _&&_}
+use mathlib.Core.List.{List, [], _∷_, _++_, append-assoc, append-nil}
+use mathlib.Core.Option.{Option, none, some}
+use Prim.Native.Nat.{ℕ, zero, suc, _+_, _-_, _≤_}
+use native.Mathlib.Omega.{arith}
+use native.Mathlib.Nat.{add-zero}
+use borrow.Author.Tests.{eq-eqb, le-leb}
+use lib.Dec.{leb}
+use lib.ListN.{length, getD, take, drop, replicate, length-append, length-drop, length-take, drop-of-length-le}
+use lib.Seq.{take-all, take-append-add}
+use Rattle.config.specs.declared.Config.{Config}
+use Rattle.config.specs.Questions.{within}
+use Rattle.tag.specs.Tag.{allowed}
+use Rattle.laws.proofs.Bools.{and-left, and-right}
+use Rattle.config.specs.Number.{clientNumber, serverNumber}
+use Rattle.record.specs.declared.Header.{Header}
+use Rattle.record.specs.Calls.{limits, withElement}
+use Rattle.record.specs.Inner.{isSound}
+use Rattle.record.specs.Record.{all, elementAt, elementBytes, elementEnd, fourBytes, headerBytes, highestNumber, isPresent, kindNumber, messageClauses, ofConfig, recordOf, sized}
+use Rattle.record.proofs.Clauses.{and-true}
+
+module _ (cfg : Config) (bs head : List ℕ) (sixteen : length head ≡ 16) (eighty : length bs ≡ 80) where
+  -- the header over the first 16 bytes
+  abbrev headed : List ℕ
+  headed = head ++ drop 16 bs
+
+  headed-long : length headed ≡ 80
+  headed-long = length-append head (drop 16 bs) ∙ omega (arith, length-drop 16 bs)
+
+  -- zeros from the element's end on
+  zeros-from : (end : ℕ) → end ≤ 80 → replicate (length (take (length headed - end) (drop end headed))) 0 ++ drop (length headed - end) (drop end headed) ≡ replicate (80 - end) 0
+  zeros-from end h =
+      let d : length (drop end headed) ≡ 80 - end = omega (arith, length-drop end headed, headed-long) in
+      let t : length (take (length headed - end) (drop end headed)) ≡ 80 - end = length-take (length headed - end) (drop end headed) ∙ omega (arith, headed-long) in
+      ap (λ (n : ℕ). replicate n 0 ++ drop (length headed - end) (drop end headed)) t
+      ∙ ap (λ (l : List ℕ). replicate (80 - end) 0 ++ l) (drop-of-length-le (drop end headed) {i = length headed - end} (omega (arith, headed-long)))
+      ∙ append-nil (replicate (80 - end) 0)
+
+  taken : (n : ℕ) → take (16 + n) headed ≡ head ++ take n (drop 16 bs)
+  taken n = ap (λ (m : ℕ). take (m + n) headed) (sym sixteen) ∙ take-append-add head (drop 16 bs) n
+
+  pub record-bytes : (p : Bool) → cfg .e ≤ 64 → (end : ℕ) → end ≡ elementEnd cfg p
+      → take end headed ++ (replicate (length (take (length headed - end) (drop end headed))) 0 ++ drop (length headed - end) (drop end headed))
+      ≡ head ++ elementBytes cfg (cond p (some (elementAt cfg bs)) none)
+  unfolding elementBytes
+  record-bytes true high end e =
+      let n : 80 - (16 + cfg .e) ≡ 64 - cfg .e = omega arith in
+      rw (zeros-from end (omega arith), e, taken (cfg .e), n) (append-assoc head (elementAt cfg bs) (replicate (64 - cfg .e) 0))
+  record-bytes false high end e =
+      rw (zeros-from end (omega arith), e, taken 0) (append-assoc head [] (replicate 64 0))
+
+  pub put-bytes : (p : Bool) → cfg .e ≤ 64 → (l z : List ℕ) (end : ℕ) → l ≡ headed → z ≡ replicate (length (take (length l - end) (drop end l))) 0
+      → end ≡ elementEnd cfg p → take end l ++ (z ++ drop (length l - end) (drop end l)) ≡ head ++ elementBytes cfg (cond p (some (elementAt cfg bs)) none)
+  put-bytes p high l z end el ez ee = rw (ez, el) (record-bytes p high end ee)
+
+-- what is asked of a header whose numbers are within their limits is what is asked of its message
+present-is : (b : Bool) (e : List ℕ) → isPresent (cond b (some e) none) ≡ b
+present-is true e = refl
+present-is false e = refl
+
+sized-is : (cfg : Config) (b : Bool) (bs : List ℕ) → length bs ≡ 80 → cfg .e ≤ 64 → sized cfg (cond b (some (elementAt cfg bs)) none) ≡ true
+sized-is cfg true bs e high =
+    eq-eqb (length (elementAt cfg bs)) (cfg .e) (length-take (cfg .e) (drop 16 bs) ∙ omega (arith, length-drop 16 bs))
+sized-is cfg false bs e high = refl
+
+pub header-message : (cfg : Config) (h : Header) (bs : List ℕ) → length bs ≡ 80 → cfg .e ≤ 64 → limits cfg h ≡ true → h .operation ≤ highestNumber
+    → h .tag .number ≤ highestNumber → ofConfig cfg (withElement cfg h bs) ≡ isSound h
+unfolding ofConfig messageClauses withElement isSound all
+header-message cfg h bs e high l o n =
+    let client = within 1 (cfg .c) (clientNumber (h .client)) in
+    let server = within 1 (cfg .n) (serverNumber (h .server)) in
+    let parties = and-left (client && server) (allowed (cfg .c) (h .tag)) l in
+    rw (
+      le-leb (h .operation) highestNumber o,
+      and-true (leb 1 (h .operation)),
+      le-leb (h .tag .number) highestNumber n,
+      sized-is cfg (h .present) bs e high,
+      present-is (h .present) (elementAt cfg bs),
+      and-left client server parties,
+      and-right client server parties,
+      and-right (client && server) (allowed (cfg .c) (h .tag)) l,
+    )
+
+-- the header's bytes, as they are put together
+abbrev pub headOf : ℕ → ℕ → ℕ → ℕ → List ℕ → List ℕ → ℕ → List ℕ
+headOf k c s p o t tc =
+    k
+    ∷ c
+    ∷ s
+    ∷ p
+    ∷ getD o 0 0
+    ∷ getD o 1 0
+    ∷ getD o 2 0
+    ∷ getD o 3 0
+    ∷ getD t 0 0
+    ∷ getD t 1 0
+    ∷ getD t 2 0
+    ∷ getD t 3 0
+    ∷ tc
+    ∷ 0
+    ∷ 0
+    ∷ 0
+    ∷ []
+
+module _ (cfg : Config) (h : Header) (bs : List ℕ) (k c s p : ℕ) (o t : List ℕ) where
+  pub record Parts : Type 0 where
+    pub kind : k ≡ kindNumber (h .kind)
+    pub client : c ≡ clientNumber (h .client)
+    pub server : s ≡ serverNumber (h .server)
+    pub present : p ≡ cond (h .present) 1 0
+    pub operation : o ≡ fourBytes (h .operation)
+    pub number : t ≡ fourBytes (h .tag .number)
+
+  head-is : Parts → headOf k c s p o t (h .tag .client)
+      ≡ headerBytes (h .kind) (clientNumber (h .client)) (serverNumber (h .server)) (h .present) (h .operation) (h .tag)
+  unfolding headerBytes fourBytes
+  head-is q = rw (q .kind, q .client, q .server, q .present, q .operation, q .number)
+
+  pub put-record : Parts → length bs ≡ 80 → cfg .e ≤ 64 → (l z : List ℕ) (end : ℕ) → l ≡ headOf k c s p o t (h .tag .client) ++ drop 16 bs
+      → z ≡ replicate (length (take (length l - end) (drop end l))) 0 → end ≡ elementEnd cfg (h .present)
+      → take end l ++ (z ++ drop (length l - end) (drop end l)) ≡ recordOf cfg (withElement cfg h bs)
+  unfolding recordOf withElement
+  put-record q eighty high l z end el ez ee =
+      put-bytes cfg bs (headOf k c s p o t (h .tag .client)) refl eighty (h .present) high l z end el ez ee
+      ∙ ap (λ (head : List ℕ). head ++ elementBytes cfg (cond (h .present) (some (elementAt cfg bs)) none)) (head-is q)
+      ∙ rw (present-is (h .present) (elementAt cfg bs))

@@ -5,5 +5,6 @@ pub mod Elements
 pub mod Gathering
 pub mod Places
 pub mod Present
+pub mod Sending
 pub mod Sets
 pub mod Tags

@@ -2,5 +2,6 @@ pub mod Count
 pub mod Gather
 pub mod Place
 pub mod Questions
+pub mod Send
 pub mod Servers
 pub mod State

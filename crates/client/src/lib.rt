@@ -6,6 +6,7 @@ mod count;
 mod gather;
 mod place;
 mod questions;
+mod send;
 mod servers;
 
 // Where a client stands in its operation. A set of servers is the bits of a number: bit s is server s.

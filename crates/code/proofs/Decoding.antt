@@ -22,19 +22,19 @@ use Rattle.code.proofs.Numbers.{value-lt, horner, interpolated-lt, at-p
 use Rattle.code.proofs.Rising as rise
 
 -- the coefficients of byte j: a board's bytes E apart
-abbrev pub column : Config → List ℕ → ℕ → List ℕ
-column cfg board j = listOf (cfg .k) (λ i. getD board (i * cfg .e + j) 0)
+abbrev pub column : ℕ → ℕ → List ℕ → ℕ → List ℕ
+column k e board j = listOf k (λ i. getD board (i * e + j) 0)
 
 module _ (cfg : Config) (board : List ℕ) (b : Bytes board) where
   -- byte j of an element is the value of column j at the server
-  pub element-value : (s j : ℕ) → s < 256 → elementByte cfg board s j ≡ value bytes (column cfg board j) s
+  pub element-value : (s j : ℕ) → s < 256 → elementByte cfg board s j ≡ value bytes (column (cfg .k) (cfg .e) board j) s
   unfolding elementByte
   element-value s j h = horner (cfg .k) (λ i. getD board (i * cfg .e + j) 0) s (λ i. b (i * cfg .e + j)) h
 
   pub element-byte-lt : (s j : ℕ) → s < 256 → elementByte cfg board s j < 256
   element-byte-lt s j h =
       subst (λ n. n < 256) (sym (element-value s j h))
-      (value-lt (column cfg board j) s (bytes-listOf (cfg .k) (λ i. getD board (i * cfg .e + j) 0) (λ i. b (i * cfg .e + j))) h)
+      (value-lt (column (cfg .k) (cfg .e) board j) s (bytes-listOf (cfg .k) (λ i. getD board (i * cfg .e + j) 0) (λ i. b (i * cfg .e + j))) h)
 
   pub bytes-element : (s : ℕ) → s < 256 → Bytes (element cfg board s)
   unfolding element
@@ -104,14 +104,14 @@ module _ (cfg : Config) (v : Valid cfg) (servers : List ℕ) (up : rising (cfg .
   decoded-byte board elements b h i j l m =
       interpolated-cong bytes used
       (λ r. getD elements (r * cfg .e + j) 0)
-      (λ r. value bytes (column cfg board j) (getD used r 0))
+      (λ r. value bytes (column (cfg .k) (cfg .e) board j) (getD used r 0))
       (λ r o. let f : r < cfg .k = subst (λ n. r < n) size o in
       h r j f m ∙ element-value cfg board b (getD servers r 0) j (server-lt r)
-      ∙ ap (value bytes (column cfg board j)) (sym (used-at r f)))
+      ∙ ap (value bytes (column (cfg .k) (cfg .e) board j)) (sym (used-at r f)))
       i
       ∙ sym (getD-listOf (length used) (interpolated bytes used w) i 0 (rw size l))
       ∙ ap (λ p. getD p i 0)
-      (from-values used (column cfg board j)
+      (from-values used (column (cfg .k) (cfg .e) board j)
       (rise.bytes-take (cfg .n) servers up (omega arith) (cfg .k) enough)
       (bytes-listOf (cfg .k) (λ a. getD board (a * cfg .e + j) 0) (λ a. b (a * cfg .e + j)))
       (rise.distinct-take (cfg .n) servers up (cfg .k) enough)
@@ -119,7 +119,7 @@ module _ (cfg : Config) (v : Valid cfg) (servers : List ℕ) (up : rising (cfg .
       ∙ getD-listOf (cfg .k) (λ a. getD board (a * cfg .e + j) 0) i 0 l
     where
       w : ℕ → ℕ
-      w r = value bytes (column cfg board j) (getD used r 0)
+      w r = value bytes (column (cfg .k) (cfg .e) board j) (getD used r 0)
 
   -- any k elements of a board decode to that board
   pub decode-elements : (board elements : List ℕ) → length board ≡ boardLength cfg → Bytes board → Elements board elements
@@ -185,7 +185,7 @@ module _ (cfg : Config) (v : Valid cfg) (servers : List ℕ) (up : rising (cfg .
       ∙ element-at cfg other (getD servers r 0) j m)
 
   column-decoded : (elements : List ℕ) (j : ℕ) → j < cfg .e
-      → column cfg (decoded cfg servers elements) j ≡ listOf (length used) (interpolated bytes used (λ r. getD elements (r * cfg .e + j) 0))
+      → column (cfg .k) (cfg .e) (decoded cfg servers elements) j ≡ listOf (length used) (interpolated bytes used (λ r. getD elements (r * cfg .e + j) 0))
   unfolding decodedByte
   column-decoded elements j h =
       listOf-cong (cfg .k)

@@ -1,18 +1,23 @@
 -- Server numbers that rise strictly within 1 to n: each is in range, and no two are one.
-use Prim.Native.Nat.{ℕ, zero, suc, _<_, _≤_}
+use Prim.Native.Nat.{ℕ, zero, suc, _+_, _<_, _≤_}
 use mathlib.Core.Path.{_≡_, refl, sym, _∙_}
-use mathlib.Core.Bool.{Bool, true, _&&_}
+use mathlib.Core.Bool.{Bool, true, false, _&&_}
 use mathlib.Core.List.{List, [], _∷_}
 use native.Mathlib.Omega.{arith}
 use native.Mathlib.Decide.{decLt}
-use borrow.Author.Tests.{ltb-true, leb-true}
+use native.Mathlib.Numerals.{add-one}
+use borrow.Author.Tests.{ltb-true, leb-true, le-ltb, lt-ltb, le-leb, lt-leb}
 use lib.Dec.{ltb, leb}
-use lib.ListN.{length, getD, take, length-take, List·getD-eq-default}
-use lib.Seq.{getD-take, length-take-le}
+use lib.ListN.{length, getD, take, drop, List·getD-eq-default, drop-of-length-le}
+use lib.Seq.{getD-take, length-take-le, drop-cons}
 use Rattle.laws.proofs.Bools.{and-left, and-right}
 use Rattle.code.specs.Decoded.{rising, risingAbove}
 use Rattle.code.specs.Lists.{Bytes}
 use Rattle.code.proofs.Roots.{Distinct}
+
+neither : (a b : Bool) → ((a && false) && b) ≡ false
+neither true b = refl
+neither false b = refl
 
 module _ (n : ℕ) where
   above : (low s : ℕ) (ss : List ℕ) → risingAbove n low (s ∷ ss) ≡ true → low < s
@@ -26,6 +31,24 @@ module _ (n : ℕ) where
   rest : (low s : ℕ) (ss : List ℕ) → risingAbove n low (s ∷ ss) ≡ true → risingAbove n s ss ≡ true
   unfolding risingAbove
   rest low s ss h = and-right (ltb low s && leb s n) (risingAbove n s ss) h
+
+  -- a scan from server r on: it stops at a number that does not rise or is above n, goes on past any other, and ends
+  pub scan-low : (low : ℕ) (ss : List ℕ) (r : ℕ) → r < length ss → getD ss r 0 ≤ low → risingAbove n low (drop r ss) ≡ false
+  unfolding risingAbove
+  scan-low low ss r h l = rw (drop-cons ss r 0 h, le-ltb low (getD ss r 0) l)
+
+  pub scan-high : (low : ℕ) (ss : List ℕ) (r : ℕ) → r < length ss → n < getD ss r 0 → risingAbove n low (drop r ss) ≡ false
+  unfolding risingAbove
+  scan-high low ss r h l = rw (drop-cons ss r 0 h, lt-leb (getD ss r 0) n l) (neither (ltb low (getD ss r 0)) (risingAbove n (getD ss r 0) (drop (suc r) ss)))
+
+  pub scan-on : (low : ℕ) (ss : List ℕ) (r : ℕ) → r < length ss → low < getD ss r 0 → getD ss r 0 ≤ n
+      → risingAbove n low (drop r ss) ≡ risingAbove n (getD ss r 0) (drop (r + 1) ss)
+  unfolding risingAbove
+  scan-on low ss r h l m = rw (drop-cons ss r 0 h, lt-ltb low (getD ss r 0) l, le-leb (getD ss r 0) n m, add-one r)
+
+  pub scan-end : (low : ℕ) (ss : List ℕ) (r : ℕ) → length ss ≤ r → risingAbove n low (drop r ss) ≡ true
+  unfolding risingAbove
+  scan-end low ss r h = rw (drop-of-length-le ss {i = r} h)
 
   pub rising-low : (low : ℕ) (ss : List ℕ) → risingAbove n low ss ≡ true → (i : ℕ) → i < length ss → low < getD ss i 0
   rising-low low [] h i l = absurd (omega arith)

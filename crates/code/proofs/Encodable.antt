@@ -1,0 +1,85 @@
+-- The questions of `encode`: which is the first no, and what is known where there is none.
+use Prim.Native.Nat.{ℕ, _*_, _<_, _≤_}
+use mathlib.Core.Path.{_≡_, refl, sym, ap, _∙_}
+use mathlib.Core.Bool.{Bool, true, false, _&&_}
+use mathlib.Core.List.{List, [], _∷_, _++_}
+use native.Mathlib.Omega.{arith}
+use borrow.Author.Tests.{eq-eqb, ne-eqb, eqb-true, le-leb, lt-leb, leb-true}
+use lib.Dec.{eqb, leb}
+use lib.ListN.{length}
+use Rattle.laws.proofs.Bools.{and-left, and-right}
+use Rattle.config.specs.declared.Config.{Config}
+use Rattle.config.specs.Config.{questions, boardLength, Valid}
+use Rattle.config.specs.Questions.{Question, ask, within, firstNo, numbered}
+use Rattle.config.proofs.Questions.{firstNo-yes, firstNo-no, within-low, within-high, within-true}
+use Rattle.config.proofs.Valid.{valid}
+use Rattle.code.specs.Encode.{encodeQuestions, Encodable}
+use Rattle.code.proofs.Asked.{left-no, right-no, both-yes, passed, stopped, none-of, all-high}
+
+all-yes : (a b : Bool) → firstNo (ask 6 a ∷ ask 18 b ∷ []) ≡ 0 → (a ≡ true) × (b ≡ true)
+unfolding firstNo
+all-yes true true h = (refl, refl)
+all-yes true false h = absurd (omega arith)
+all-yes false b h = absurd (omega arith)
+
+module _ (cfg : Config) (board s buffer : ℕ) where
+  abbrev answer : ℕ
+  answer = firstNo (encodeQuestions cfg board s buffer)
+
+  abbrev shape : Bool
+  shape = eqb board (boardLength cfg) && eqb buffer (cfg .e)
+
+  abbrev server : Bool
+  server = within 1 (cfg .n) s
+
+  pub refused : (got : ℕ) → got ≡ firstNo (questions cfg) → (got ≡ 0 → ⊥) → got ≡ answer
+  unfolding encodeQuestions
+  refused = stopped cfg (ask 6 shape ∷ ask 18 server ∷ [])
+
+  passes : firstNo (questions cfg) ≡ 0 → answer ≡ firstNo (ask 6 shape ∷ ask 18 server ∷ [])
+  unfolding encodeQuestions
+  passes = passed cfg (ask 6 shape ∷ ask 18 server ∷ [])
+
+  pub encodable : answer ≡ 0 → Encodable cfg board s buffer
+  unfolding encodeQuestions
+  encodable h =
+      let none : firstNo (questions cfg) ≡ 0 = none-of cfg (ask 6 shape ∷ ask 18 server ∷ []) h in
+      let y = all-yes shape server (sym (passes none) ∙ h) in
+      record {
+        valid = valid cfg none;
+        board-length = eqb-true board (boardLength cfg) (and-left (eqb board (boardLength cfg)) (eqb buffer (cfg .e)) (y .0));
+        buffer-length = eqb-true buffer (cfg .e) (and-right (eqb board (boardLength cfg)) (eqb buffer (cfg .e)) (y .0));
+        server-low = within-low 1 (cfg .n) s (y .1);
+        server-high = within-high 1 (cfg .n) s (y .1);
+      }
+
+  pub answer-high : answer ≤ 18
+  unfolding encodeQuestions numbered
+  answer-high = all-high cfg (ask 6 shape ∷ ask 18 server ∷ []) refl
+
+  module _ (none : firstNo (questions cfg) ≡ 0) where
+    misshaped : shape ≡ false → 6 ≡ answer
+    misshaped h = sym (passes none ∙ firstNo-no 6 shape (ask 18 server ∷ []) h)
+
+    pub wrong-board : (board ≡ boardLength cfg → ⊥) → 6 ≡ answer
+    wrong-board n = misshaped (left-no (eqb board (boardLength cfg)) (eqb buffer (cfg .e)) (ne-eqb board (boardLength cfg) n))
+
+    pub wrong-buffer : (buffer ≡ cfg .e → ⊥) → 6 ≡ answer
+    wrong-buffer n = misshaped (right-no (eqb board (boardLength cfg)) (eqb buffer (cfg .e)) (ne-eqb buffer (cfg .e) n))
+
+    module _ (lb : board ≡ boardLength cfg) (le : buffer ≡ cfg .e) where
+      last : answer ≡ firstNo (ask 18 server ∷ [])
+      last =
+          passes none
+          ∙ firstNo-yes 6 shape (ask 18 server ∷ [])
+          (both-yes (eqb board (boardLength cfg)) (eqb buffer (cfg .e)) (eq-eqb board (boardLength cfg) lb) (eq-eqb buffer (cfg .e) le))
+
+      pub server-below : s < 1 → 18 ≡ answer
+      server-below h = sym (last ∙ firstNo-no 18 server [] (left-no (leb 1 s) (leb s (cfg .n)) (lt-leb 1 s h)))
+
+      pub server-above : cfg .n < s → 18 ≡ answer
+      server-above h = sym (last ∙ firstNo-no 18 server [] (right-no (leb 1 s) (leb s (cfg .n)) (lt-leb s (cfg .n) h)))
+
+      pub accepted : 1 ≤ s → s ≤ cfg .n → 0 ≡ answer
+      unfolding firstNo
+      accepted h l = sym (last ∙ firstNo-yes 18 server [] (within-true 1 (cfg .n) s h l))

@@ -1,0 +1,59 @@
+-- A list that a loop fills from the front, element by element: f 0 and so on, up to i, and what was there from i on.
+use Prim.Native.Nat.{ℕ, zero, suc, _+_, _<_, _≤_}
+use mathlib.Core.Path.{_≡_, refl, sym, ap, ap₂, _∙_}
+use mathlib.Core.List.{List, [], _∷_, _++_, append-nil}
+use native.Mathlib.Omega.{arith}
+use native.Mathlib.Numerals.{add-one}
+use lib.ListN.{length, getD, drop, set, length-append, length-drop, length-set, drop-of-length-le, List·getD-append}
+use lib.Seq.{drop-length}
+use Rattle.code.specs.Lists.{listOf}
+use Rattle.code.proofs.Listed.{length-listOf, getD-listOf}
+
+module _ {A : Type 0} where
+  abbrev pub filled : (ℕ → A) → ℕ → List A → List A
+  filled f i l = listOf i f ++ drop i l
+
+  pub filled-none : (f : ℕ → A) (l : List A) → l ≡ filled f 0 l
+  unfolding listOf
+  filled-none f l = refl
+
+  more : (f : ℕ → A) (i : ℕ) (l : List A) → i < length l → set (filled f i l) i (f i) ≡ filled f (suc i) l
+  unfolding listOf
+  more f zero [] h = absurd (omega arith)
+  more f zero (x ∷ l) h = refl
+  more f (suc i) [] h = absurd (omega arith)
+  more f (suc i) (x ∷ l) h = ap (_∷_ (f 0)) (more (λ j. f (suc j)) i l (omega arith))
+
+  pub filled-more : (f : ℕ → A) (i : ℕ) (l : List A) (x : A) → i < length l → x ≡ f i → set (filled f i l) i x ≡ filled f (i + 1) l
+  filled-more f i l x h e = ap (set (filled f i l) i) e ∙ more f i l h ∙ ap (λ n. filled f n l) (sym (add-one i))
+
+  pub filled-all : (f : ℕ → A) (i : ℕ) (l : List A) → length l ≤ i → filled f i l ≡ listOf i f
+  filled-all f i l h = ap (λ k. listOf i f ++ k) (drop-of-length-le l {i = i} h) ∙ append-nil (listOf i f)
+
+  pub length-filled : (f : ℕ → A) (i : ℕ) (l : List A) → i ≤ length l → length (filled f i l) ≡ length l
+  length-filled f i l h =
+      length-append (listOf i f) (drop i l) ∙ ap₂ _+_ (length-listOf i f) (length-drop i l) ∙ omega arith
+
+  -- what is not yet filled is what was there
+  pub filled-rest : (f : ℕ → A) (i j : ℕ) (l : List A) (d : A) → i ≤ j → j < length l → getD (filled f i l) j d ≡ getD l j d
+  unfolding listOf
+  filled-rest f i j [] d h m = absurd (omega arith)
+  filled-rest f zero j (x ∷ l) d h m = refl
+  filled-rest f (suc i) zero (x ∷ l) d h m = absurd (omega arith)
+  filled-rest f (suc i) (suc j) (x ∷ l) d h m = filled-rest (λ n. f (suc n)) i j l d (omega arith) (omega arith)
+
+  -- a loop's turn: what it reads is what was there, and the store fills one more
+  pub was : (f : ℕ → A) (i : ℕ) (l now : List A) (d : A) → now ≡ filled f i l → i < length l → getD now i d ≡ getD l i d
+  was f i l now d e h = ap (λ k. getD k i d) e ∙ filled-rest f i i l d (omega arith) h
+
+  pub turn : (f : ℕ → A) (i : ℕ) (l now : List A) (x : A) → now ≡ filled f i l → i < length l → x ≡ f i
+      → set now i x ≡ filled f (i + 1) l
+  turn f i l now x e h v = ap (λ k. set k i x) e ∙ filled-more f i l x h v
+
+  -- and after the last turn all is filled
+  pub done : (f : ℕ → A) (i : ℕ) (l now : List A) → now ≡ filled f i l → length l ≡ i → now ≡ listOf (length l) f
+  done f i l now e h = e ∙ filled-all f i l (omega arith) ∙ ap (λ n. listOf n f) (sym h)
+
+  -- what is filled
+  pub filled-at : (f : ℕ → A) (n i : ℕ) (l : List A) (d : A) → i < n → getD (filled f n l) i d ≡ f i
+  filled-at f n i l d h = List·getD-append (listOf n f) (drop n l) d i (rw length-listOf h) ∙ getD-listOf n f i d h

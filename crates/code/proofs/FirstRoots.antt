@@ -1,0 +1,80 @@
+-- The first 16 coefficients of the product of all (x + s), one server after the other.
+use Prim.Native.Nat.{ℕ, zero, suc, _+_, _<_, _≤_}
+use mathlib.Core.Path.{_≡_, refl, sym, ap, ap₂, _∙_}
+use mathlib.Core.List.{List, [], _∷_, _++_}
+use native.Mathlib.Omega.{arith}
+use native.Mathlib.Nat.{zero-add}
+use native.Mathlib.Numerals.{add-one}
+use lib.ListN.{length, getD, take, List·getD-eq-default}
+use lib.Seq.{take-suc}
+use Rattle.field.specs.Field.{plus, times}
+use Rattle.field.proofs.Laws.{times-zero-right, plus-zero}
+use Rattle.code.specs.Lists.{listOf}
+use Rattle.code.specs.Polynomial.{Operations, carried, rooted, roots}
+use Rattle.code.specs.Element.{bytes}
+use Rattle.code.specs.Lanes.{firstRoots, rootedOnce}
+use Rattle.code.proofs.Lagrange.{length-carried}
+use Rattle.code.proofs.Listed.{getD-listOf, listOf-cong}
+
+carried-at : (s c : ℕ) (p : List ℕ) (i : ℕ) → getD (carried bytes s c p) i 0 ≡ plus (getD (c ∷ p) i 0) (times s (getD p i 0))
+unfolding carried
+carried-at s c [] zero = sym (ap (plus c) (times-zero-right s) ∙ plus-zero c)
+carried-at s c [] (suc i) = sym (ap (plus 0) (times-zero-right s))
+carried-at s c (d ∷ p) zero = refl
+carried-at s c (d ∷ p) (suc i) = carried-at s d p i
+
+rooted-last : {F : Type 0} (o : Operations F) (p ss : List F) (s : F)
+    → rooted o p (ss ++ (s ∷ [])) ≡ carried o s (o .nought) (rooted o p ss)
+unfolding rooted
+rooted-last o p [] s = refl
+rooted-last o p (t ∷ ss) s = rooted-last o (carried o t (o .nought) p) ss s
+
+-- the first 16
+first : List ℕ → List ℕ
+first p = listOf 16 (λ i. getD p i 0)
+
+first-below : (p : List ℕ) (i : ℕ) → i < 16 → getD (0 ∷ first p) i 0 ≡ getD (0 ∷ p) i 0
+unfolding first
+first-below p zero h = refl
+first-below p (suc i) h = getD-listOf 16 (λ j. getD p j 0) i 0 (omega arith)
+
+once : (p : List ℕ) (s : ℕ) → rootedOnce (first p) s ≡ first (carried bytes s 0 p)
+unfolding rootedOnce first
+once p s =
+    listOf-cong 16
+    (λ i. plus (getD (0 ∷ first p) i 0) (times s (getD (first p) i 0)))
+    (λ i. getD (carried bytes s 0 p) i 0)
+    (λ i h. ap₂ plus (first-below p i h) (ap (times s) (getD-listOf 16 (λ j. getD p j 0) i 0 h)) ∙ sym (carried-at s 0 p i))
+
+pub roots-none : (servers : List ℕ) → 1 ∷ 0 ∷ 0 ∷ 0 ∷ 0 ∷ 0 ∷ 0 ∷ 0 ∷ 0 ∷ 0 ∷ 0 ∷ 0 ∷ 0 ∷ 0 ∷ 0 ∷ 0 ∷ [] ≡ firstRoots 0 servers
+unfolding firstRoots roots rooted listOf
+roots-none servers = refl
+
+pub roots-more : (r : ℕ) (servers : List ℕ) → r < length servers
+    → rootedOnce (firstRoots r servers) (getD servers r 0) ≡ firstRoots (r + 1) servers
+unfolding firstRoots roots first
+roots-more r servers h =
+    once (rooted bytes (1 ∷ []) (take r servers)) (getD servers r 0)
+    ∙ ap first
+    (sym (ap (rooted bytes (1 ∷ [])) (ap (λ n. take n servers) (add-one r) ∙ take-suc servers r 0 h)
+    ∙ rooted-last bytes (1 ∷ []) (take r servers) (getD servers r 0)))
+
+top : (p ss : List ℕ) (n : ℕ) → length p ≡ suc n → getD (rooted bytes p ss) (n + length ss) 0 ≡ getD p n 0
+unfolding rooted
+top p [] n e = ap (λ m. getD p m 0) (omega arith)
+top p (s ∷ ss) n e =
+    ap (λ m. getD (rooted bytes (carried bytes s 0 p) ss) m 0) (omega arith)
+    ∙ top (carried bytes s 0 p) ss (suc n) (length-carried bytes s 0 p ∙ ap suc e)
+    ∙ carried-at s 0 p (suc n)
+    ∙ ap (λ m. plus (getD p n 0) (times s m)) (List·getD-eq-default p 0 {n = suc n} (omega arith))
+    ∙ ap (plus (getD p n 0)) (times-zero-right s)
+    ∙ plus-zero (getD p n 0)
+
+-- the product's leading coefficient is 1
+pub roots-top : (ss : List ℕ) → getD (roots bytes ss) (length ss) 0 ≡ 1
+unfolding roots
+roots-top ss = ap (λ m. getD (rooted bytes (1 ∷ []) ss) m 0) (sym (zero-add (length ss))) ∙ top (1 ∷ []) ss 0 refl
+
+pub firstRoots-at : (k : ℕ) (servers : List ℕ) (i : ℕ) → i < 16 → getD (firstRoots k servers) i 0 ≡ getD (roots bytes (take k servers)) i 0
+unfolding firstRoots
+firstRoots-at k servers i h = getD-listOf 16 (λ j. getD (roots bytes (take k servers)) j 0) i 0 h

@@ -1,0 +1,85 @@
+-- Horner's rule over the rows of a board: from the last row, each step multiplies by s and adds the row before.
+use Prim.Native.Nat.{ℕ, zero, suc, _+_, _*_, _-_, _<_, _≤_}
+use mathlib.Core.Path.{_≡_, refl, sym, ap, ap₂, _∙_}
+use mathlib.Core.List.{List, [], _∷_, _++_, append-nil}
+use native.Mathlib.Omega.{arith}
+use native.Mathlib.Nat.{mul-le-mul-right}
+use lib.ListN.{length, getD, take, drop, length-drop, drop-of-length-le}
+use lib.Seq.{ext-getD, take-all, getD-take, getD-drop, length-take-le}
+use Rattle.config.specs.declared.Config.{Config}
+use Rattle.field.specs.Field.{plus, times}
+use Rattle.field.proofs.Laws.{times-zero-right, plus-zero}
+use Rattle.code.specs.Lists.{listOf, Bytes}
+use Rattle.code.specs.Polynomial.{value}
+use Rattle.code.specs.Element.{bytes, element, elementByte}
+use Rattle.code.specs.Encode.{Encodable}
+use Rattle.code.specs.Row.{stepped}
+use Rattle.code.proofs.Asked.{board-small}
+use Rattle.code.proofs.Decoding.{column, element-value}
+use Rattle.code.proofs.Parts.{part, part-at, part-length, row-inside}
+use Rattle.code.proofs.Listed.{length-listOf, getD-listOf, listOf-cong}
+use Rattle.code.proofs.Value.{value-drop}
+
+-- the value, at s, of the rows from i on
+abbrev pub rows : ℕ → ℕ → List ℕ → ℕ → ℕ → List ℕ
+rows k e board s i = listOf e (λ j. value bytes (drop i (column k e board j)) s)
+
+-- the rows of a board that was asked for
+pub row-fits : (cfg : Config) (board s buffer : ℕ) → Encodable cfg board s buffer → (i : ℕ) → i < cfg .k
+    → (i * cfg .e + cfg .e ≤ board) × (board ≤ 1024)
+row-fits cfg board s buffer h i l = omega (arith, row-inside (cfg .k) (cfg .e) i l, board-small cfg (h .valid), h .board-length)
+
+pub row-part : (cfg : Config) (board : List ℕ) (s buffer : ℕ) → Encodable cfg (length board) s buffer → (i : ℕ) → i < cfg .k
+    → length (part (cfg .e) board i) ≡ cfg .e
+row-part cfg board s buffer h i l = part-length (cfg .k) (cfg .e) i board l (omega (arith, h .board-length))
+
+module _ (k e : ℕ) (board : List ℕ) (s : ℕ) where
+  byte : (i j : ℕ) → i < k
+      → value bytes (drop i (column k e board j)) s
+      ≡ plus (getD board (i * e + j) 0) (times s (value bytes (drop (suc i) (column k e board j)) s))
+  byte i j h =
+      value-drop bytes (column k e board j) i s (rw length-listOf h)
+      ∙ ap (λ c. plus c (times s (value bytes (drop (suc i) (column k e board j)) s)))
+      (getD-listOf k (λ a. getD board (a * e + j) 0) i 0 h)
+
+  last-byte : (i j : ℕ) → suc i ≡ k → value bytes (drop i (column k e board j)) s ≡ getD board (i * e + j) 0
+  unfolding value
+  last-byte i j h =
+      byte i j (omega arith)
+      ∙ ap (λ q. plus (getD board (i * e + j) 0) (times s (value bytes q s)))
+      (drop-of-length-le (column k e board j) {i = suc i} (rw length-listOf (omega arith)))
+      ∙ ap (plus (getD board (i * e + j) 0)) (times-zero-right s)
+      ∙ plus-zero (getD board (i * e + j) 0)
+
+  -- a copy of the last row
+  pub row-last : (i m : ℕ) (buffer : List ℕ) → suc i ≡ k → length board ≡ k * e → length buffer ≡ e → m ≡ length (part e board i)
+      → take m (part e board i) ++ drop m buffer ≡ rows k e board s i
+  row-last i m buffer h lb le lm =
+      let size : length (part e board i) ≡ e = part-length k e i board (omega arith) (omega arith) in
+      ap₂ _++_ (take-all m (part e board i) (omega arith)) (drop-of-length-le buffer {i = m} (omega arith))
+      ∙ append-nil (part e board i)
+      ∙ ext-getD 0 (part e board i) (rows k e board s i)
+      (size ∙ sym (length-listOf e (λ j. value bytes (drop i (column k e board j)) s)))
+      (λ j l. part-at e i j board (omega arith) ∙ sym (last-byte i j h)
+      ∙ sym (getD-listOf e (λ a. value bytes (drop i (column k e board a)) s) j 0 (omega arith)))
+
+  -- a step by the row before
+  pub row-step : (i : ℕ) → suc i < k → stepped (rows k e board s (suc i)) s (part e board i) ≡ rows k e board s i
+  unfolding stepped
+  row-step i h =
+      ap (λ m. listOf m (λ j. plus (getD (part e board i) j 0) (times s (getD (rows k e board s (suc i)) j 0))))
+      (length-listOf e (λ j. value bytes (drop (suc i) (column k e board j)) s))
+      ∙ listOf-cong e
+      (λ j. plus (getD (part e board i) j 0) (times s (getD (rows k e board s (suc i)) j 0)))
+      (λ j. value bytes (drop i (column k e board j)) s)
+      (λ j l. ap₂ (λ a b. plus a (times s b))
+      (part-at e i j board l)
+      (getD-listOf e (λ a. value bytes (drop (suc i) (column k e board a)) s) j 0 l)
+      ∙ sym (byte i j (omega arith)))
+
+-- all rows are the element
+pub row-all : (cfg : Config) (board : List ℕ) (s : ℕ) → Bytes board → s < 256 → rows (cfg .k) (cfg .e) board s 0 ≡ element cfg board s
+unfolding element
+row-all cfg board s b h =
+    listOf-cong (cfg .e) (λ j. value bytes (column (cfg .k) (cfg .e) board j) s) (elementByte cfg board s)
+    (λ j l. sym (element-value cfg board b s j h))

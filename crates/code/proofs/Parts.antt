@@ -1,0 +1,26 @@
+-- A row of e bytes as a part of rows that stand one after the other.
+use Prim.Native.Nat.{ℕ, _+_, _*_, _-_, _<_, _≤_}
+use mathlib.Core.Path.{_≡_, _∙_}
+use mathlib.Core.List.{List}
+use native.Mathlib.Omega.{arith}
+use native.Mathlib.Nat.{mul-le-mul-right}
+use lib.ListN.{length, getD, take, drop, length-drop}
+use lib.Seq.{getD-take, getD-drop, length-take-le}
+
+-- row i of k rows of e bytes lies within them
+pub row-inside : (k e i : ℕ) → i < k → i * e + e ≤ k * e
+row-inside k e i h = omega (arith, mul-le-mul-right e h)
+
+-- row i as a part of the board
+abbrev pub part : ℕ → List ℕ → ℕ → List ℕ
+part e board i = take (i * e + e - i * e) (drop (i * e) board)
+
+pub part-length : (k e i : ℕ) (board : List ℕ) → i < k → k * e ≤ length board → length (part e board i) ≡ e
+part-length k e i board h l =
+    length-take-le (i * e + e - i * e) (drop (i * e) board)
+    (rw (length-drop (i * e) board) (omega (arith, row-inside k e i h)))
+    ∙ omega arith
+
+pub part-at : (e i j : ℕ) (board : List ℕ) → j < e → getD (part e board i) j 0 ≡ getD board (i * e + j) 0
+part-at e i j board h =
+    getD-take (i * e + e - i * e) (drop (i * e) board) j 0 (omega arith) ∙ getD-drop (i * e) board j 0

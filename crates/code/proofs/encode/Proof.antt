@@ -1,0 +1,37 @@
+-- `code::encode` meets its contract.
+use mathlib.Core.Path.{sym, _∙_}
+use lib.ListN.{length}
+use Rattle.code.proofs.Encodable.{encodable}
+use Rattle.code.proofs.Encoded.{refused, accepted}
+use borrow.Author.Needs.{needs}
+use Rattle.code.proofs.encode.Statement.{statement}
+use Rattle.code.proofs.encode.Tie as tie
+
+encode-requires : tie.Need-encode-requires
+encode-requires c κs = search needs
+
+of-requires : tie.Need-of-requires
+of-requires c κs = search needs
+
+returns : tie.Need-returns
+returns c =
+    let x = c .before .before .before .before .before .args in
+    refused (x .cfg) (x .board .now) (x .s) (x .buffer .now) (c .before .before .encode .result) (c .of .result) (c .before .before .encode .ensures) (c .before .if1 .taken) (c .of .ensures)
+
+evaluate-requires : tie.Need-evaluate-requires
+evaluate-requires c κs =
+    let x = c .before .before .before .before .before .args in
+    encodable (x .cfg) (length (x .board .now)) (x .s) (length (x .buffer .now)) (sym (c .before .before .encode .ensures) ∙ c .before .if1 .left)
+
+same-length : tie.Need-same-length
+same-length c = search needs
+
+returns-2 : tie.Need-returns-2
+returns-2 c =
+    let x = c .before .before .before .before .before .before .before .before .args in
+    accepted (x .cfg) (x .board .now) (x .s) (x .buffer .now) _ (sym (c .before .before .before .before .before .encode .ensures) ∙ c .before .before .before .before .if1 .left) (c .before .before .evaluate .ensures)
+
+pub encode-spec : {M : Type 1} → statement M
+encode-spec =
+    tie.close
+    (tie.spec encode-requires of-requires returns evaluate-requires same-length returns-2)

@@ -1,0 +1,50 @@
+-- `code::question::encode` meets its contract: each answer is the first no.
+use mathlib.Core.Path.{sym, _∙_}
+use native.Mathlib.Omega.{arith}
+use Rattle.config.proofs.Valid.{valid}
+use Rattle.code.proofs.Asked.{board-small}
+use Rattle.code.proofs.Encodable.{refused, wrong-board, wrong-buffer, server-below, server-above, accepted}
+use borrow.Author.Needs.{needs}
+use Rattle.code.proofs.question.encode.Statement.{statement}
+use Rattle.code.proofs.question.encode.Tie as tie
+
+ask-requires : tie.Need-ask-requires
+ask-requires c κs = search needs
+
+returns : tie.Need-returns
+returns c =
+    let x = c .before .before .args in
+    refused (x .cfg) (x .board) (x .s) (x .buffer) (c .before .ask .result) (c .before .ask .ensures) (c .if1 .taken)
+
+mul-if2 : tie.Need-mul-if2
+mul-if2 c = let x = c .before .before .before .args in omega (arith, board-small (x .cfg) (valid (x .cfg) (sym (c .before .before .ask .ensures) ∙ c .before .if1 .left)))
+
+returns-2 : tie.Need-returns-2
+returns-2 c =
+    let x = c .before .before .before .before .args in
+    wrong-board (x .cfg) (x .board) (x .s) (x .buffer) (sym (c .before .before .before .ask .ensures) ∙ c .before .before .if1 .left) (c .if2 .taken)
+
+returns-3 : tie.Need-returns-3
+returns-3 c =
+    let x = c .before .before .before .before .before .before .args in
+    wrong-buffer (x .cfg) (x .board) (x .s) (x .buffer) (sym (c .before .before .before .before .before .ask .ensures) ∙ c .before .before .before .before .if1 .left) (c .if3 .taken)
+
+returns-4 : tie.Need-returns-4
+returns-4 c =
+    let x = c .before .before .before .before .before .before .before .args in
+    server-below (x .cfg) (x .board) (x .s) (x .buffer) (sym (c .before .before .before .before .before .before .ask .ensures) ∙ c .before .before .before .before .before .if1 .left) (c .before .before .before .if2 .left) (c .before .if3 .left) (c .if4 .taken)
+
+returns-5 : tie.Need-returns-5
+returns-5 c =
+    let x = c .before .before .before .before .before .before .before .before .before .args in
+    server-above (x .cfg) (x .board) (x .s) (x .buffer) (sym (c .before .before .before .before .before .before .before .before .ask .ensures) ∙ c .before .before .before .before .before .before .before .if1 .left) (c .before .before .before .before .before .if2 .left) (c .before .before .before .if3 .left) (c .if5 .taken)
+
+returns-6 : tie.Need-returns-6
+returns-6 c =
+    let x = c .before .before .before .before .before .before .before .before .before .args in
+    accepted (x .cfg) (x .board) (x .s) (x .buffer) (sym (c .before .before .before .before .before .before .before .before .ask .ensures) ∙ c .before .before .before .before .before .before .before .if1 .left) (c .before .before .before .before .before .if2 .left) (c .before .before .before .if3 .left) (c .before .before .if4 .left) (c .if5 .left)
+
+pub encode-spec : {M : Type 1} → statement M
+encode-spec =
+    tie.close
+    (tie.spec ask-requires returns mul-if2 returns-2 returns-3 returns-4 returns-5 returns-6)

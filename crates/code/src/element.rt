@@ -1,0 +1,22 @@
+// The element of a server, by Horner's rule over the rows of the board.
+ghost use mathlib.Core.Path.{_≡_};
+ghost use lib.ListN.{length};
+ghost use Rattle.code.specs.Element.{element};
+ghost use Rattle.code.specs.Encode.{Encodable};
+use config::Config;
+
+pub(crate) fn evaluate(cfg: Config, board: &[u8], s: u8, buffer: &mut [u8])
+    requires { ⌜ Encodable cfg (length (now board)) s (length (now buffer)) ⌝ }
+    ensures { λ _. ⌜ now (buffer .exit) ≡ element cfg (now (board .entry)) s ⌝ }
+{
+    let k = cfg.k;
+    let e = cfg.e;
+    let mut i = k - 1;
+    let last = i * e;
+    bytes::copy(&board[last..last + e], buffer);
+    while 0 < i {
+        i -= 1;
+        let at = i * e;
+        crate::row::step(buffer, s, &board[at..at + e]);
+    }
+}

@@ -1,0 +1,119 @@
+// The inverse of the square of powers: column r has the coefficients of Lagrange's polynomial of server r. It is made of the
+// product of all (x + s), which is divided by each (x + s) in synthetic division, all servers side by side in 16 lanes, and
+// scaled.
+ghost use mathlib.Core.Path.{_≡_};
+ghost use Prim.Native.Nat.{ℕ, _<_, _≤_};
+ghost use mathlib.Core.List.{[]};
+ghost use lib.ListN.{getD, length};
+ghost use Rattle.field.specs.Field.{inverseOf, times};
+ghost use Rattle.code.specs.Lanes.{Inverse, Usable, advanced, firstRoots, rootedOnce};
+
+// in each lane s times x, plus c
+fn advance(x: [u8; 16], s: [u8; 16], c: [u8; 16]) -> [u8; 16]
+    ensures { λ r. ⌜ r ≡ advanced x s c ⌝ }
+{
+    let mut r = [0u8; 16];
+    let mut t = 0;
+    while t < 16 {
+        r[t] = c[t] ^ crate::digit::one(s[t], x[t]);
+        t += 1;
+    }
+    r
+}
+
+// the first 16 coefficients of (x + s) p
+fn root(p: [u8; 16], s: u8) -> [u8; 16]
+    requires { ⌜ (1 ≤ s) × (s ≤ 16) ⌝ }
+    ensures { λ r. ⌜ r ≡ rootedOnce p s ⌝ }
+{
+    let mut r = [0u8; 16];
+    let mut below = 0;
+    let mut i = 0;
+    while i < 16 {
+        r[i] = below ^ crate::digit::by_server(p[i], s);
+        below = p[i];
+        i += 1;
+    }
+    r
+}
+
+// the first 16 coefficients of the product of all (x + s)
+fn roots(k: usize, servers: &[u8]) -> [u8; 16]
+    requires { ⌜ Usable k (now servers) ⌝ }
+    ensures { λ r. ⌜ r ≡ firstRoots k (now (servers .entry)) ⌝ }
+{
+    let mut p = [0u8; 16];
+    p[0] = 1;
+    let mut r = 0;
+    while r < k {
+        let q = root(p, servers[r]);
+        p = q;
+        r += 1;
+    }
+    p
+}
+
+// the numbers of the servers used, one in a lane
+fn lanes(k: usize, servers: &[u8]) -> [u8; 16]
+    requires { ⌜ Usable k (now servers) ⌝ }
+    ensures { λ r. ⌜ ((i : ℕ) → i < k → getD r i 0 ≡ getD (now (servers .entry)) i 0) ⌝ }
+{
+    let mut s = [0u8; 16];
+    let mut r = 0;
+    while r < k {
+        s[r] = servers[r];
+        r += 1;
+    }
+    s
+}
+
+// the inverses of the first k lanes
+fn inverted(k: usize, v: [u8; 16]) -> [u8; 16]
+    requires { ⌜ k ≤ 16 ⌝ }
+    ensures { λ r. ⌜ ((i : ℕ) → i < k → getD r i 0 ≡ inverseOf (getD v i 0)) ⌝ }
+{
+    let mut d = [0u8; 16];
+    let mut r = 0;
+    while r < k {
+        d[r] = field::inverse(v[r]);
+        r += 1;
+    }
+    d
+}
+
+pub(crate) fn invert(k: usize, servers: &[u8]) -> [[u8; 16]; 16]
+    requires { ⌜ Usable k (now servers) ⌝ }
+    ensures { λ r. ⌜ Inverse k (now (servers .entry)) r ⌝ }
+{
+    let s = lanes(k, servers);
+    let p = roots(k, servers);
+    let mut inverse = [[0u8; 16]; 16];
+    let mut q = [1u8; 16];
+    let mut v = [0u8; 16];
+    let mut i = k;
+    while 0 < i {
+        i -= 1;
+        inverse[i] = q;
+        let w = advance(v, s, q);
+        v = w;
+        let c = [p[i]; 16];
+        let w = advance(q, s, c);
+        q = w;
+    }
+    scaled(k, inverse, inverted(k, v))
+}
+
+// the first k rows, each lane scaled by its own
+fn scaled(k: usize, mut rows: [[u8; 16]; 16], d: [u8; 16]) -> [[u8; 16]; 16]
+    requires { ⌜ (k ≤ 16) × (length rows ≡ 16) ⌝ }
+    ensures { λ r. ⌜ ((i t : ℕ) → i < k → t < 16 → getD (getD r i []) t 0 ≡ times (getD d t 0) (getD (getD rows i []) t 0)) ⌝ }
+{
+    let nought = [0u8; 16];
+    let mut i = 0;
+    while i < k {
+        let row = advance(rows[i], d, nought);
+        rows[i] = row;
+        i += 1;
+    }
+    rows
+}

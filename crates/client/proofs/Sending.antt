@@ -8,7 +8,7 @@ use native.Mathlib.Omega.{arith}
 use borrow.Author.Tests.{eq-eqb, le-leb}
 use lib.Dec.{eqb, leb}
 use lib.ListN.{length, take, drop, length-append, length-drop}
-use lib.Seq.{take-at, drop-at, drop-drop}
+use lib.Seq.{length-take-le, take-at, drop-at, drop-drop}
 use Rattle.config.specs.declared.Config.{Config}
 use Rattle.config.specs.declared.Client.{Client}
 use Rattle.config.specs.declared.Server.{Server}
@@ -18,6 +18,10 @@ use Rattle.config.specs.Number.{clientNumber, serverNumber}
 use Rattle.config.specs.Questions.{firstNo, within}
 use Rattle.config.proofs.Valid.{valid-asked}
 use Rattle.tag.specs.Tag.{allowed}
+use Rattle.code.specs.Element.{element}
+use Rattle.code.specs.Encode.{EncodePost, encodeQuestions}
+use Rattle.code.proofs.Decoding.{length-element}
+use Rattle.code.proofs.Encodable.{accepted as encode-accepted}
 use Rattle.record.specs.declared.Header.{Header}
 use Rattle.record.specs.Calls.{WritePost, limits, withElement, writeQuestions}
 use Rattle.record.specs.Inner.{isSound}
@@ -27,7 +31,7 @@ use Rattle.record.proofs.Answers.{write-last}
 use Rattle.record.proofs.Written.{header-message}
 use Rattle.history.specs.Number.{toEach}
 use Rattle.client.specs.declared.send.Letter.{Letter}
-use Rattle.client.specs.Send.{Sendable, addressed, records}
+use Rattle.client.specs.Send.{Filled, Sendable, SendsOne, addressed, records}
 
 -- ---- one record
 
@@ -91,3 +95,36 @@ module _ (cfg : Config) (f : ℕ → Message (List ℕ)) (i : ℕ) (sends₀ sen
       ∙ drop-drop 80 (80 * i) sends₀ ∙ ap (λ (k : ℕ). drop k sends₀) next))
       ∙ sym (append-assoc sent (recordOf cfg (f (suc i))) (drop (80 * suc i) sends₀))
       ∙ ap (λ (r : List ℕ). r ++ drop (80 * suc i) sends₀) (sym (records-more cfg (toEach i f) (f (suc i))))
+
+-- ---- the element in its record
+
+module _ (cfg : Config) (l : Letter) (s : ℕ) (board : List ℕ) where
+  -- a letter that has none
+  pub none-filled : (buffer : List ℕ) → l .element ≡ false → Filled cfg l s board buffer
+  none-filled buffer h = record { element = rw h }
+
+  -- encoded at 16
+  module _ (buffer part : List ℕ) (has : l .element ≡ true) (ok : SendsOne cfg l s board buffer) where
+    abbrev lent : List ℕ
+    lent = take (16 + cfg .e - 16) (drop 16 buffer)
+
+    lent-long : length lent ≡ cfg .e
+    lent-long =
+        let e : 16 + cfg .e - 16 ≡ cfg .e = omega arith in
+        ap (λ (n : ℕ). length (take n (drop 16 buffer))) e
+        ∙ length-take-le (cfg .e) (drop 16 buffer) (omega (arith, length-drop 16 buffer, ok .room, ok .letter .valid .e-high))
+
+    encoded : (r : Verdict) → EncodePost cfg board s lent part r → part ≡ element cfg board s
+    encoded r post =
+        post .buffer
+        ∙ ap (λ (b : Bool). cond b (element cfg board s) lent)
+        (eq-eqb (firstNo (encodeQuestions cfg (length board) s (length lent))) 0
+        (sym (encode-accepted cfg (length board) s (length lent) (valid-asked cfg (ok .letter .valid)) (ok .letter .board-length has) lent-long (ok .low) (ok .high))))
+
+    pub filled : (r : Verdict) → EncodePost cfg board s lent part r → Filled cfg l s board (take 16 buffer ++ (part ++ drop (16 + cfg .e - 16) (drop 16 buffer)))
+    filled r post =
+        let p = encoded r post in
+        let there : elementAt cfg (take 16 buffer ++ (part ++ drop (16 + cfg .e - 16) (drop 16 buffer))) ≡ element cfg board s =
+        ap (take (cfg .e)) (drop-at (take 16 buffer) (part ++ drop (16 + cfg .e - 16) (drop 16 buffer)) 16 (length-take-le 16 buffer (omega (arith, ok .room))))
+        ∙ take-at part (drop (16 + cfg .e - 16) (drop 16 buffer)) (cfg .e) (ap length p ∙ length-element cfg board s) ∙ p in
+        record { element = rw has (ap some there) }

@@ -29,21 +29,21 @@ pub(crate) fn to_each(cfg: Config, letter: Letter, board: &[u8], sends: &mut [u8
         let at = 80 * s;
         let end = at + 80;
         s += 1;
-        to_one(cfg, letter, s, board, &mut sends[at..end]);
+        to_one(cfg, letter, s as u8, board, &mut sends[at..end]);
     }
 }
 
 // Writes the record of a letter to server s.
-fn to_one(cfg: Config, letter: Letter, s: usize, board: &[u8], buffer: &mut [u8])
+fn to_one(cfg: Config, letter: Letter, s: u8, board: &[u8], buffer: &mut [u8])
     requires { ⌜ SendsOne cfg letter s (now board) (now buffer) ⌝ }
     ensures { λ _. ⌜ now (buffer .exit) ≡ recordOf cfg (messageTo cfg letter (now (board .entry)) s) ⌝ }
 {
     fill(cfg, letter, s, board, buffer);
-    address(cfg, letter, s as u8, board, buffer);
+    address(cfg, letter, s, board, buffer);
 }
 
 // Puts the element of server s, if the letter has one, into its record.
-fn fill(cfg: Config, letter: Letter, s: usize, board: &[u8], buffer: &mut [u8])
+fn fill(cfg: Config, letter: Letter, s: u8, board: &[u8], buffer: &mut [u8])
     requires { ⌜ SendsOne cfg letter s (now board) (now buffer) ⌝ }
     ensures { λ _. ⌜ Filled cfg letter s (now (board .entry)) (now (buffer .exit)) ⌝ }
 {
@@ -51,6 +51,7 @@ fn fill(cfg: Config, letter: Letter, s: usize, board: &[u8], buffer: &mut [u8])
         return;
     }
     let end = 16 + cfg.e;
+    code::encode(cfg, board, s, &mut buffer[16..end]);
 }
 
 // Writes the record of a letter to server s, all but the element.

@@ -55,6 +55,9 @@ add-end c = omega (arith, c .if1 .taken, c .before .before .before .before .befo
 add-s : tie.Need-add-s Inv-loop μ-loop
 add-s c = omega (arith, c .if1 .taken, c .before .before .before .before .before .pre .letter .valid .n-high)
 
+cast-to-one : tie.Need-cast-to-one Inv-loop μ-loop
+cast-to-one c = omega (arith, c .if1 .taken, c .before .before .before .before .before .pre .letter .valid .n-high)
+
 sub-to-one : tie.Need-sub-to-one Inv-loop μ-loop
 sub-to-one c = search needs
 
@@ -87,11 +90,11 @@ loop-again c =
     let f = messageTo (s .args .cfg) (s .args .letter) (now (s .args .board)) in
     record {
       done =
-        rw (add-one (l .s))
-        (sent-more (s .args .cfg) f (l .s) (now (s .args .sends)) (l .sends) _ (l .inv .done) (l .inv .same) (omega (arith, below, s .pre .room))
-        (o .ensures ∙ ap (λ (i : ℕ). recordOf (s .args .cfg) (f i)) (add-one (l .s))));
+          rw (add-one (l .s))
+          (sent-more (s .args .cfg) f (l .s) (now (s .args .sends)) (l .sends) _ (l .inv .done) (l .inv .same) (omega (arith, below, s .pre .room))
+          (o .ensures ∙ ap (λ (i : ℕ). recordOf (s .args .cfg) (f i)) (add-one (l .s))));
       high = omega (arith, below);
-      same = same-len-mid (80 * l .s) (80 * l .s + 80 - 80 * l .s) (l .sends) _ (o .kept .1 .1 .1 .1 .0) ∙ l .inv .same;
+      same = same-len-mid (80 * l .s) (80 * l .s + 80 - 80 * l .s) (l .sends) (o .last .1 .1 .1 .1 .0) (o .kept .1 .1 .1 .1 .0) ∙ l .inv .same;
     }
 
 same-length : tie.Need-same-length Inv-loop μ-loop
@@ -114,6 +117,7 @@ to-each-spec =
     mul-at
     add-end
     add-s
+    cast-to-one
     sub-to-one
     part-to-one-start
     part-to-one-end

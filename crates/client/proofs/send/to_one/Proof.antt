@@ -11,9 +11,6 @@ use Rattle.client.proofs.send.to_one.Tie as tie
 fill-requires : tie.Need-fill-requires
 fill-requires c κs = search needs
 
-cast-address : tie.Need-cast-address
-cast-address c = search needs
-
 address-requires : tie.Need-address-requires
 address-requires c κs = search needs
 
@@ -27,4 +24,4 @@ returns c = let a = c .before .before .before .before .before .before .before .b
     (c .before .before .before .before .before .before .fill .ensures .element)
 
 pub to-one-spec : {M : Type 1} → statement M
-to-one-spec = tie.close (tie.spec fill-requires cast-address address-requires same-length returns)
+to-one-spec = tie.close (tie.spec fill-requires address-requires same-length returns)

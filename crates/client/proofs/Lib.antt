@@ -7,4 +7,5 @@ pub mod Places
 pub mod Present
 pub mod Sending
 pub mod Sets
+pub mod Settling
 pub mod Tags

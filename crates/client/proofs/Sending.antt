@@ -7,7 +7,7 @@ use Prim.Native.Nat.{ℕ, zero, suc, _+_, _-_, _*_, _≤_, _<_}
 use native.Mathlib.Omega.{arith}
 use borrow.Author.Tests.{eq-eqb, le-leb}
 use lib.Dec.{eqb, leb}
-use lib.ListN.{length, take, drop, length-append, length-drop}
+use lib.ListN.{length, take, drop, length-append, length-drop, drop-of-length-le}
 use lib.Seq.{length-take-le, take-at, drop-at, drop-drop}
 use Rattle.config.specs.declared.Config.{Config}
 use Rattle.config.specs.declared.Client.{Client}
@@ -31,7 +31,7 @@ use Rattle.record.proofs.Answers.{write-last}
 use Rattle.record.proofs.Written.{header-message}
 use Rattle.history.specs.Number.{toEach}
 use Rattle.client.specs.declared.send.Letter.{Letter}
-use Rattle.client.specs.Send.{Filled, Sendable, SendsOne, addressed, records}
+use Rattle.client.specs.Send.{Filled, Sendable, SendsOne, addressed, front, records}
 
 -- ---- one record
 
@@ -128,3 +128,8 @@ module _ (cfg : Config) (l : Letter) (s : ℕ) (board : List ℕ) where
         ap (take (cfg .e)) (drop-at (take 16 buffer) (part ++ drop (16 + cfg .e - 16) (drop 16 buffer)) 16 (length-take-le 16 buffer (omega (arith, ok .room))))
         ∙ take-at part (drop (16 + cfg .e - 16) (drop 16 buffer)) (cfg .e) (ap length p ∙ length-element cfg board s) ∙ p in
         record { element = rw has (ap some there) }
+
+-- a result as long as its buffer leaves nothing of it
+pub fills : (xs buffer after : List ℕ) → after ≡ xs → length after ≡ length buffer → after ≡ front xs buffer
+fills xs buffer after e same =
+    e ∙ sym (append-nil xs) ∙ ap (λ (l : List ℕ). xs ++ l) (sym (drop-of-length-le buffer {i = length xs} (omega (arith, ap length e))))

@@ -4,4 +4,5 @@ pub mod Place
 pub mod Questions
 pub mod Send
 pub mod Servers
+pub mod Settle
 pub mod State

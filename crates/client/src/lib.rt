@@ -1,5 +1,6 @@
 // The client.
 use config::Client;
+use config::Verdict;
 use tag::Tag;
 
 mod count;
@@ -8,6 +9,7 @@ mod place;
 mod questions;
 mod send;
 mod servers;
+mod settle;
 
 // Where a client stands in its operation. A set of servers is the bits of a number: bit s is server s.
 pub enum Phase {
@@ -40,4 +42,20 @@ pub struct State {
     pub me: Client,
     pub operation: u32,
     pub phase: Phase,
+}
+
+// How an operation ends, if a call ends it. What a read shows is in the lent board.
+pub enum Ended {
+    Nothing,
+    Written(Tag),
+    Spent,
+    Read(Tag),
+}
+
+// What a call leaves: its verdict, the client, how many records stand at the front of the sends, and how the operation ended.
+pub struct Moved {
+    pub verdict: Verdict,
+    pub state: State,
+    pub sent: usize,
+    pub ended: Ended,
 }

@@ -10,12 +10,12 @@ use lib.ListN.{length}
 use Rattle.laws.proofs.Bools.{and-left, and-right}
 use Rattle.config.specs.declared.Config.{Config}
 use Rattle.config.specs.Config.{questions, boardLength, Valid}
-use Rattle.config.specs.Questions.{Question, ask, within, firstNo}
+use Rattle.config.specs.Questions.{Question, ask, firstNo, numbered}
 use Rattle.config.proofs.Questions.{firstNo-yes, firstNo-no, within-low, within-high, within-true}
 use Rattle.config.proofs.Valid.{valid}
 use Rattle.code.specs.Decode.{decodeQuestions, Decodable}
 use Rattle.code.specs.Decoded.{rising}
-use Rattle.code.proofs.Asked.{left-no, right-no, both-yes, passed, stopped, none-of}
+use Rattle.code.proofs.Asked.{left-no, right-no, both-yes, passed, stopped, none-of, all-high}
 
 all-yes : (a b c : Bool) → firstNo (ask 6 a ∷ ask 17 b ∷ ask 18 c ∷ []) ≡ 0 → (a ≡ true) × (b ≡ true) × (c ≡ true)
 unfolding firstNo
@@ -60,6 +60,10 @@ module _ (cfg : Config) (servers : List ℕ) (elements buffer : ℕ) where
         rises = y .1;
         enough = leb-true (cfg .k) (length servers) (y .2);
       }
+
+  pub answer-high : answer ≤ 18
+  unfolding decodeQuestions numbered
+  answer-high = all-high cfg (ask 6 shape ∷ ask 17 up ∷ ask 18 many ∷ []) refl
 
   module _ (none : firstNo (questions cfg) ≡ 0) where
     misshaped : shape ≡ false → 6 ≡ answer

@@ -51,14 +51,14 @@ element-at cfg board s j h = getD-listOf (cfg .e) (elementByte cfg board s) j 0 
 module _ (cfg : Config) (servers elements : List ℕ) where
   pub length-decoded : length (decoded cfg servers elements) ≡ boardLength cfg
   unfolding decoded
-  length-decoded = length-listOf (boardLength cfg) (λ m. decodedByte cfg servers elements (m / cfg .e) (m % cfg .e))
+  length-decoded = length-listOf (boardLength cfg) (λ m. decodedByte (cfg .k) (cfg .e) servers elements (m / cfg .e) (m % cfg .e))
 
   pub decoded-at : (i j : ℕ) → i < cfg .k → j < cfg .e
-      → getD (decoded cfg servers elements) (i * cfg .e + j) 0 ≡ decodedByte cfg servers elements i j
+      → getD (decoded cfg servers elements) (i * cfg .e + j) 0 ≡ decodedByte (cfg .k) (cfg .e) servers elements i j
   unfolding decoded
   decoded-at i j l m =
-      getD-listOf (boardLength cfg) (λ n. decodedByte cfg servers elements (n / cfg .e) (n % cfg .e)) (i * cfg .e + j) 0 (digits-lt l m)
-      ∙ ap₂ (decodedByte cfg servers elements) (digits-div i m) (digits-mod i m)
+      getD-listOf (boardLength cfg) (λ n. decodedByte (cfg .k) (cfg .e) servers elements (n / cfg .e) (n % cfg .e)) (i * cfg .e + j) 0 (digits-lt l m)
+      ∙ ap₂ (decodedByte (cfg .k) (cfg .e) servers elements) (digits-div i m) (digits-mod i m)
 
 mapped : (f : ℕ → List ℕ) (ss : List ℕ) (r : ℕ) → r < length ss → getD (map f ss) r [] ≡ f (getD ss r 0)
 mapped f [] r h = absurd (omega arith)
@@ -86,7 +86,7 @@ module _ (cfg : Config) (v : Valid cfg) (servers : List ℕ) (up : rising (cfg .
   pub bytes-decoded : (elements : List ℕ) → Bytes elements → Bytes (decoded cfg servers elements)
   unfolding decoded decodedByte
   bytes-decoded elements h =
-      bytes-listOf (boardLength cfg) (λ m. decodedByte cfg servers elements (m / cfg .e) (m % cfg .e))
+      bytes-listOf (boardLength cfg) (λ m. decodedByte (cfg .k) (cfg .e) servers elements (m / cfg .e) (m % cfg .e))
       (λ m. interpolated-lt used (λ r. getD elements (r * cfg .e + m % cfg .e) 0) (m / cfg .e)
       (rise.bytes-take (cfg .n) servers up (omega arith) (cfg .k) enough) (λ r. h (r * cfg .e + m % cfg .e)))
 
@@ -99,7 +99,7 @@ module _ (cfg : Config) (v : Valid cfg) (servers : List ℕ) (up : rising (cfg .
   server-lt r = rise.bytes (cfg .n) servers up (omega arith) r
 
   decoded-byte : (board elements : List ℕ) → Bytes board → Elements board elements → (i j : ℕ) → i < cfg .k → j < cfg .e
-      → decodedByte cfg servers elements i j ≡ getD board (i * cfg .e + j) 0
+      → decodedByte (cfg .k) (cfg .e) servers elements i j ≡ getD board (i * cfg .e + j) 0
   unfolding decodedByte
   decoded-byte board elements b h i j l m =
       interpolated-cong bytes used

@@ -1,13 +1,13 @@
 -- A list that a loop fills from the front, element by element: f 0 and so on, up to i, and what was there from i on.
 use Prim.Native.Nat.{ℕ, zero, suc, _+_, _<_, _≤_}
 use mathlib.Core.Path.{_≡_, refl, sym, ap, ap₂, _∙_}
-use mathlib.Core.List.{List, [], _∷_, _++_, append-nil}
+use mathlib.Core.List.{List, [], _∷_, _++_, append-nil, append-assoc}
 use native.Mathlib.Omega.{arith}
 use native.Mathlib.Numerals.{add-one}
-use lib.ListN.{length, getD, drop, set, length-append, length-drop, length-set, drop-of-length-le, List·getD-append}
-use lib.Seq.{drop-length}
+use lib.ListN.{length, getD, take, drop, set, length-append, length-drop, length-set, drop-of-length-le, List·getD-append}
+use lib.Seq.{take-at, drop-at, drop-drop}
 use Rattle.code.specs.Lists.{listOf}
-use Rattle.code.proofs.Listed.{length-listOf, getD-listOf}
+use Rattle.code.proofs.Listed.{length-listOf, getD-listOf, listOf-append}
 
 module _ {A : Type 0} where
   abbrev pub filled : (ℕ → A) → ℕ → List A → List A
@@ -57,3 +57,14 @@ module _ {A : Type 0} where
   -- what is filled
   pub filled-at : (f : ℕ → A) (n i : ℕ) (l : List A) (d : A) → i < n → getD (filled f n l) i d ≡ f i
   filled-at f n i l d h = List·getD-append (listOf n f) (drop n l) d i (rw length-listOf h) ∙ getD-listOf n f i d h
+
+  -- a loop that fills a part of e at a time
+  pub turn-part : (f : ℕ → A) (n e m : ℕ) (l now row : List A) → now ≡ filled f n l → n + e ≤ length l → m ≡ e
+      → row ≡ listOf e (λ j. f (n + j)) → take n now ++ (row ++ drop m (drop n now)) ≡ filled f (n + e) l
+  turn-part f n e m l now row h fits me hr =
+      ap₂ _++_
+      (ap (take n) h ∙ take-at (listOf n f) (drop n l) n (length-listOf n f))
+      (ap₂ _++_ hr
+      (ap₂ (λ a b. drop a (drop n b)) me h ∙ ap (drop e) (drop-at (listOf n f) (drop n l) n (length-listOf n f)) ∙ drop-drop e n l))
+      ∙ sym (append-assoc (listOf n f) (listOf e (λ j. f (n + j))) (drop (n + e) l))
+      ∙ ap (λ k. k ++ drop (n + e) l) (listOf-append n e f)

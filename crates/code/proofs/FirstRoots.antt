@@ -1,18 +1,18 @@
 -- The first 16 coefficients of the product of all (x + s), one server after the other.
-use Prim.Native.Nat.{ℕ, zero, suc, _+_, _<_, _≤_}
+use Prim.Native.Nat.{ℕ, zero, suc, _+_, _-_, _<_, _≤_}
 use mathlib.Core.Path.{_≡_, refl, sym, ap, ap₂, _∙_}
 use mathlib.Core.List.{List, [], _∷_, _++_}
 use native.Mathlib.Omega.{arith}
 use native.Mathlib.Nat.{zero-add}
 use native.Mathlib.Numerals.{add-one}
-use lib.ListN.{length, getD, take, List·getD-eq-default}
+use lib.ListN.{length, getD, take, replicate, getD-replicate, List·getD-eq-default}
 use lib.Seq.{take-suc}
 use Rattle.field.specs.Field.{plus, times}
 use Rattle.field.proofs.Laws.{times-zero-right, plus-zero}
 use Rattle.code.specs.Lists.{listOf}
 use Rattle.code.specs.Polynomial.{Operations, carried, rooted, roots}
 use Rattle.code.specs.Element.{bytes}
-use Rattle.code.specs.Lanes.{firstRoots, rootedOnce}
+use Rattle.code.specs.Lanes.{advanced, firstRoots, rootedOnce}
 use Rattle.code.proofs.Lagrange.{length-carried}
 use Rattle.code.proofs.Listed.{getD-listOf, listOf-cong}
 
@@ -45,6 +45,22 @@ once p s =
     (λ i. plus (getD (0 ∷ first p) i 0) (times s (getD (first p) i 0)))
     (λ i. getD (carried bytes s 0 p) i 0)
     (λ i h. ap₂ plus (first-below p i h) (ap (times s) (getD-listOf 16 (λ j. getD p j 0) i 0 h)) ∙ sym (carried-at s 0 p i))
+
+-- the coefficients of x p, and s times p, in 16 lanes
+pub below-at : (p : List ℕ) (i : ℕ) → 1 ≤ i → getD p (i - 1) 0 ≡ getD (0 ∷ p) i 0
+below-at p i h = ap (λ n. getD (0 ∷ p) n 0) one
+  where
+    one : suc (i - 1) ≡ i
+    one = omega arith
+
+pub shifted : (p below : List ℕ) (s : ℕ) → ((i : ℕ) → i < 16 → getD below i 0 ≡ getD (0 ∷ p) i 0)
+    → advanced p (replicate 16 s) below ≡ rootedOnce p s
+unfolding advanced rootedOnce
+shifted p below s h =
+    listOf-cong 16
+    (λ i. plus (getD below i 0) (times (getD (replicate 16 s) i 0) (getD p i 0)))
+    (λ i. plus (getD (0 ∷ p) i 0) (times s (getD p i 0)))
+    (λ i l. ap₂ plus (h i l) (ap (λ x. times x (getD p i 0)) (getD-replicate 16 i s 0 l)))
 
 pub roots-none : (servers : List ℕ) → 1 ∷ 0 ∷ 0 ∷ 0 ∷ 0 ∷ 0 ∷ 0 ∷ 0 ∷ 0 ∷ 0 ∷ 0 ∷ 0 ∷ 0 ∷ 0 ∷ 0 ∷ 0 ∷ [] ≡ firstRoots 0 servers
 unfolding firstRoots roots rooted listOf

@@ -1,14 +1,12 @@
--- Horner's rule over the rows of a board: from the last row, each step multiplies by s and adds the row before.
+-- Horner's rule over the rows of a board, from the last to the first: each step multiplies by s and adds a row.
 use Prim.Native.Nat.{ℕ, zero, suc, _+_, _*_, _-_, _<_, _≤_}
 use mathlib.Core.Path.{_≡_, refl, sym, ap, ap₂, _∙_}
-use mathlib.Core.List.{List, [], _∷_, _++_, append-nil}
+use mathlib.Core.List.{List}
 use native.Mathlib.Omega.{arith}
-use native.Mathlib.Nat.{mul-le-mul-right}
-use lib.ListN.{length, getD, take, drop, length-drop, drop-of-length-le}
-use lib.Seq.{ext-getD, take-all, getD-take, getD-drop, length-take-le}
+use lib.ListN.{length, getD, take, drop, replicate, getD-replicate, drop-of-length-le}
+use lib.Seq.{ext-getD, getD-take, length-take-le}
 use Rattle.config.specs.declared.Config.{Config}
 use Rattle.field.specs.Field.{plus, times}
-use Rattle.field.proofs.Laws.{times-zero-right, plus-zero}
 use Rattle.code.specs.Lists.{listOf, Bytes}
 use Rattle.code.specs.Polynomial.{value}
 use Rattle.code.specs.Element.{bytes, element, elementByte}
@@ -42,29 +40,19 @@ module _ (k e : ℕ) (board : List ℕ) (s : ℕ) where
       ∙ ap (λ c. plus c (times s (value bytes (drop (suc i) (column k e board j)) s)))
       (getD-listOf k (λ a. getD board (a * e + j) 0) i 0 h)
 
-  last-byte : (i j : ℕ) → suc i ≡ k → value bytes (drop i (column k e board j)) s ≡ getD board (i * e + j) 0
+  -- no rows yet
+  pub row-none : e ≤ 64 → take e (replicate 64 0) ≡ rows k e board s k
   unfolding value
-  last-byte i j h =
-      byte i j (omega arith)
-      ∙ ap (λ q. plus (getD board (i * e + j) 0) (times s (value bytes q s)))
-      (drop-of-length-le (column k e board j) {i = suc i} (rw length-listOf (omega arith)))
-      ∙ ap (plus (getD board (i * e + j) 0)) (times-zero-right s)
-      ∙ plus-zero (getD board (i * e + j) 0)
+  row-none h =
+      ext-getD 0 (take e (replicate 64 0)) (rows k e board s k)
+      (length-take-le e (replicate 64 0) h ∙ sym (length-listOf e (λ j. value bytes (drop k (column k e board j)) s)))
+      (λ j l. let m : j < e = omega (arith, length-take-le {A = ℕ} e (replicate 64 0) h) in
+      getD-take e (replicate 64 0) j 0 m ∙ getD-replicate 64 j 0 0 (omega arith)
+      ∙ sym (getD-listOf e (λ a. value bytes (drop k (column k e board a)) s) j 0 m
+      ∙ ap (λ q. value bytes q s) (drop-of-length-le (column k e board j) {i = k} (rw length-listOf (omega arith)))))
 
-  -- a copy of the last row
-  pub row-last : (i m : ℕ) (buffer : List ℕ) → suc i ≡ k → length board ≡ k * e → length buffer ≡ e → m ≡ length (part e board i)
-      → take m (part e board i) ++ drop m buffer ≡ rows k e board s i
-  row-last i m buffer h lb le lm =
-      let size : length (part e board i) ≡ e = part-length k e i board (omega arith) (omega arith) in
-      ap₂ _++_ (take-all m (part e board i) (omega arith)) (drop-of-length-le buffer {i = m} (omega arith))
-      ∙ append-nil (part e board i)
-      ∙ ext-getD 0 (part e board i) (rows k e board s i)
-      (size ∙ sym (length-listOf e (λ j. value bytes (drop i (column k e board j)) s)))
-      (λ j l. part-at e i j board (omega arith) ∙ sym (last-byte i j h)
-      ∙ sym (getD-listOf e (λ a. value bytes (drop i (column k e board a)) s) j 0 (omega arith)))
-
-  -- a step by the row before
-  pub row-step : (i : ℕ) → suc i < k → stepped (rows k e board s (suc i)) s (part e board i) ≡ rows k e board s i
+  -- one row more
+  pub row-step : (i : ℕ) → i < k → stepped (rows k e board s (suc i)) s (part e board i) ≡ rows k e board s i
   unfolding stepped
   row-step i h =
       ap (λ m. listOf m (λ j. plus (getD (part e board i) j 0) (times s (getD (rows k e board s (suc i)) j 0))))

@@ -1,4 +1,5 @@
 pub mod Advanced
+pub mod Answered
 pub mod Asked
 pub mod Combined
 pub mod Counted
@@ -7,11 +8,11 @@ pub mod Decoding
 pub mod Digits
 pub mod Division
 pub mod Encodable
-pub mod Encoded
 pub mod Factor
 pub mod Filled
 pub mod FirstRoots
 pub mod Horner
+pub mod Interpolated
 pub mod Joined
 pub mod Lagrange
 pub mod Listed
@@ -21,5 +22,6 @@ pub mod Preserved
 pub mod Ring
 pub mod Rising
 pub mod Roots
+pub mod Single
 pub mod Sums
 pub mod Value

@@ -1,7 +1,8 @@
 -- A list by its elements: its length, what stands at an index, and that every list is one.
-use Prim.Native.Nat.{ℕ, zero, suc, _<_}
+use Prim.Native.Nat.{ℕ, zero, suc, _+_, _<_}
 use mathlib.Core.Path.{_≡_, refl, sym, ap, ap₂, _∙_}
-use mathlib.Core.List.{List, [], _∷_, map}
+use mathlib.Core.List.{List, [], _∷_, _++_, map}
+use native.Mathlib.Nat.{zero-add, suc-add}
 use native.Mathlib.Omega.{arith}
 use lib.ListN.{length, getD}
 use lib.Seq.{ext-getD}
@@ -32,3 +33,13 @@ module _ {A : Type 0} where
   unfolding listOf
   map-listOf g zero f = refl
   map-listOf g (suc n) f = ap (_∷_ (g (f 0))) (map-listOf g n (λ i. f (suc i)))
+
+  pub listOf-append : (n e : ℕ) (f : ℕ → A) → listOf n f ++ listOf e (λ j. f (n + j)) ≡ listOf (n + e) f
+  unfolding listOf
+  listOf-append zero e f =
+      listOf-cong e (λ j. f (0 + j)) f (λ j h. ap f (zero-add j)) ∙ ap (λ m. listOf m f) (sym (zero-add e))
+  listOf-append (suc n) e f =
+      ap (_∷_ (f 0))
+      (ap (λ l. listOf n (λ i. f (suc i)) ++ l) (listOf-cong e (λ j. f (suc n + j)) (λ j. f (suc (n + j))) (λ j h. ap f (suc-add n j)))
+      ∙ listOf-append n e (λ i. f (suc i)))
+      ∙ ap (λ m. listOf m f) (sym (suc-add n e))

@@ -22,14 +22,13 @@ rising n servers = risingAbove n 0 servers
 -- "Decoding reverses the square of powers for the k servers used. It takes server numbers with their elements, strictly rising,
 -- and uses the first k." Board byte i × E + j is coefficient i of the polynomial of k coefficients whose value at server r of the
 -- first k is byte j of element r; the elements stand one after the other.
-unfoldable pub decodedByte : Config → List ℕ → List ℕ → ℕ → ℕ → ℕ
-decodedByte cfg servers elements i j =
-    interpolated bytes (take (cfg .k) servers) (λ r. getD elements (r * cfg .e + j) 0) i
+unfoldable pub decodedByte : ℕ → ℕ → List ℕ → List ℕ → ℕ → ℕ → ℕ
+decodedByte k e servers elements i j = interpolated bytes (take k servers) (λ r. getD elements (r * e + j) 0) i
 
 -- the V bytes of the board
 unfoldable pub decoded : Config → List ℕ → List ℕ → List ℕ
 decoded cfg servers elements =
-    listOf (boardLength cfg) (λ m. decodedByte cfg servers elements (m / cfg .e) (m % cfg .e))
+    listOf (boardLength cfg) (λ m. decodedByte (cfg .k) (cfg .e) servers elements (m / cfg .e) (m % cfg .e))
 
 -- the same of server numbers, each with its element
 unfoldable pub decodedPairs : Config → List (ℕ × List ℕ) → List ℕ

@@ -8,13 +8,11 @@ use Rattle.code.specs.Element.{bytes}
 use Rattle.code.specs.Lists.{listOf}
 use Rattle.code.specs.Polynomial.{roots, lagrange}
 
--- there are k servers, within 1 to 16
+-- there are k servers, at most 16
 pub record Usable (k : ℕ) (servers : List ℕ) : Type 0 where
   pub low : 1 ≤ k
   pub high : k ≤ 16
   pub enough : k ≤ length servers
-  pub server-low : (r : ℕ) → r < k → 1 ≤ getD servers r 0
-  pub server-high : (r : ℕ) → r < k → getD servers r 0 ≤ 16
 
 -- in each lane s times x, plus c
 unfoldable pub advanced : List ℕ → List ℕ → List ℕ → List ℕ

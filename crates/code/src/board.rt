@@ -4,7 +4,6 @@ ghost use lib.ListN.{length};
 ghost use Rattle.code.specs.Decoded.{decoded};
 ghost use Rattle.code.specs.Decode.{Decodable};
 ghost use Rattle.code.specs.Row.{Combinable, combined};
-
 use config::Config;
 
 // Of one server, the board is its element.
@@ -46,7 +45,13 @@ fn combine(k: usize, e: usize, c: [u8; 16], elements: &[u8], row: &mut [u8])
         let at = r * e;
         let q = r + 1;
         let next = q * e;
-        crate::row::add(row, c[r], &elements[at..at + e], c[q], &elements[next..next + e]);
+        crate::row::add(
+            row,
+            c[r],
+            &elements[at..at + e],
+            c[q],
+            &elements[next..next + e],
+        );
         r += 2;
     }
     if r < k {

@@ -11,12 +11,12 @@ pub(crate) fn evaluate(cfg: Config, board: &[u8], s: u8, buffer: &mut [u8])
 {
     let k = cfg.k;
     let e = cfg.e;
-    let mut i = k - 1;
-    let last = i * e;
-    bytes::copy(&board[last..last + e], buffer);
+    let mut row = [0u8; 64];
+    let mut i = k;
     while 0 < i {
         i -= 1;
         let at = i * e;
-        crate::row::step(buffer, s, &board[at..at + e]);
+        crate::row::step(&mut row[..e], s, &board[at..at + e]);
     }
+    bytes::copy(&row[..e], buffer);
 }

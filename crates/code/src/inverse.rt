@@ -23,18 +23,16 @@ fn advance(x: [u8; 16], s: [u8; 16], c: [u8; 16]) -> [u8; 16]
 
 // the first 16 coefficients of (x + s) p
 fn root(p: [u8; 16], s: u8) -> [u8; 16]
-    requires { ⌜ (1 ≤ s) × (s ≤ 16) ⌝ }
     ensures { λ r. ⌜ r ≡ rootedOnce p s ⌝ }
 {
-    let mut r = [0u8; 16];
-    let mut below = 0;
-    let mut i = 0;
+    let mut below = [0u8; 16];
+    let mut i = 1;
     while i < 16 {
-        r[i] = below ^ crate::digit::by_server(p[i], s);
-        below = p[i];
+        below[i] = p[i - 1];
         i += 1;
     }
-    r
+    let each = [s; 16];
+    advance(p, each, below)
 }
 
 // the first 16 coefficients of the product of all (x + s)

@@ -2,7 +2,6 @@
 // assumed, and no public function has a `requires`.
 ghost use Rattle.code.specs.Decode.{DecodePost};
 ghost use Rattle.code.specs.Encode.{EncodePost};
-
 use config::Config;
 use config::Verdict;
 

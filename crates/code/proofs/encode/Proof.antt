@@ -1,8 +1,11 @@
 -- `code::encode` meets its contract.
 use mathlib.Core.Path.{sym, _∙_}
 use lib.ListN.{length}
-use Rattle.code.proofs.Encodable.{encodable}
-use Rattle.code.proofs.Encoded.{refused, accepted}
+use Rattle.config.specs.Questions.{firstNo}
+use Rattle.code.specs.Element.{element}
+use Rattle.code.specs.Encode.{encodeQuestions}
+use Rattle.code.proofs.Answered.{refused, accepted}
+use Rattle.code.proofs.Encodable.{answer-high, encodable}
 use borrow.Author.Needs.{needs}
 use Rattle.code.proofs.encode.Statement.{statement}
 use Rattle.code.proofs.encode.Tie as tie
@@ -16,7 +19,10 @@ of-requires c κs = search needs
 returns : tie.Need-returns
 returns c =
     let x = c .before .before .before .before .before .args in
-    refused (x .cfg) (x .board .now) (x .s) (x .buffer .now) (c .before .before .encode .result) (c .of .result) (c .before .before .encode .ensures) (c .before .if1 .taken) (c .of .ensures)
+    let a =
+    refused (firstNo (encodeQuestions (x .cfg) (length (x .board .now)) (x .s) (length (x .buffer .now)))) (element (x .cfg) (x .board .now) (x .s)) (x .buffer .now) (answer-high (x .cfg) (length (x .board .now)) (x .s) (length (x .buffer .now)))
+    (c .before .before .encode .result) (c .of .result) (c .before .before .encode .ensures) (c .before .if1 .taken) (c .of .ensures) in
+    record { number = a .0; buffer = a .1 }
 
 evaluate-requires : tie.Need-evaluate-requires
 evaluate-requires c κs =
@@ -29,7 +35,10 @@ same-length c = search needs
 returns-2 : tie.Need-returns-2
 returns-2 c =
     let x = c .before .before .before .before .before .before .before .before .args in
-    accepted (x .cfg) (x .board .now) (x .s) (x .buffer .now) _ (sym (c .before .before .before .before .before .encode .ensures) ∙ c .before .before .before .before .if1 .left) (c .before .before .evaluate .ensures)
+    let a =
+    accepted (firstNo (encodeQuestions (x .cfg) (length (x .board .now)) (x .s) (length (x .buffer .now)))) (element (x .cfg) (x .board .now) (x .s)) (x .buffer .now) _
+    (sym (c .before .before .before .before .before .encode .ensures) ∙ c .before .before .before .before .if1 .left) (c .before .before .evaluate .ensures) in
+    record { number = a .0; buffer = a .1 }
 
 pub encode-spec : {M : Type 1} → statement M
 encode-spec =

@@ -21,10 +21,10 @@ clear-requires c κs = search needs
 
 loop-holds : tie.Need-loop-holds Inv-loop μ-loop
 loop-holds c =
-    let x = c .before .before .before .before .before .before .args in
-    ( omega arith
-    , c .before .before .clear .kept .0 ∙ c .before .before .before .before .before .before .pre .row-length
-    , c .before .before .clear .ensures ∙ ap zeros (c .before .before .before .before .before .before .pre .row-length) ∙ combined-none (x .e) (x .t3) (x .elements .now)
+    let x = c .before .before .before .before .before .before .args in (
+      omega arith,
+      c .before .before .clear .kept .0 ∙ c .before .before .before .before .before .before .pre .row-length,
+      c .before .before .clear .ensures ∙ ap zeros (c .before .before .before .before .before .before .pre .row-length) ∙ combined-none (x .e) (x .t3) (x .elements .now),
     )
 
 add-loop : tie.Need-add-loop Inv-loop μ-loop
@@ -96,9 +96,9 @@ part-add-end-2 c =
 add-requires : tie.Need-add-requires Inv-loop μ-loop
 add-requires c κs =
     let x = c .before .before .before .before .before .before .before .before .before .before .before .args in
-    let at = c .before .before .before .before .loop in
-    ( at .inv .1 ∙ sym (element-part (x .k) (x .e) (x .elements .now) (length (x .row .now)) (c .before .before .before .before .before .before .before .before .before .before .before .pre) (at .r) (omega arith))
-    , element-part (x .k) (x .e) (x .elements .now) (length (x .row .now)) (c .before .before .before .before .before .before .before .before .before .before .before .pre) (at .r) (omega arith) ∙ sym (element-part (x .k) (x .e) (x .elements .now) (length (x .row .now)) (c .before .before .before .before .before .before .before .before .before .before .before .pre) (at .r + 1) (omega arith))
+    let at = c .before .before .before .before .loop in (
+      at .inv .1 ∙ sym (element-part (x .k) (x .e) (x .elements .now) (length (x .row .now)) (c .before .before .before .before .before .before .before .before .before .before .before .pre) (at .r) (omega arith)),
+      element-part (x .k) (x .e) (x .elements .now) (length (x .row .now)) (c .before .before .before .before .before .before .before .before .before .before .before .pre) (at .r) (omega arith) ∙ sym (element-part (x .k) (x .e) (x .elements .now) (length (x .row .now)) (c .before .before .before .before .before .before .before .before .before .before .before .pre) (at .r + 1) (omega arith)),
     )
 
 add-r : tie.Need-add-r Inv-loop μ-loop
@@ -110,12 +110,12 @@ loop-less c = omega arith
 loop-again : tie.Need-loop-again Inv-loop μ-loop
 loop-again c =
     let x = c .before .before .before .before .before .before .before .before .before .before .before .before .before .before .args in
-    let at = c .before .before .before .before .before .before .before .loop in
-    ( omega arith
-    , c .before .before .add .kept .0 ∙ at .inv .1
-    , c .before .before .add .ensures
-      ∙ ap (λ l. added l (getD (x .t3) (at .r) 0) (part (x .e) (x .elements .now) (at .r)) (getD (x .t3) (at .r + 1) 0) (part (x .e) (x .elements .now) (at .r + 1))) (at .inv .2)
-      ∙ combined-two (x .e) (x .t3) (x .elements .now) (at .r)
+    let at = c .before .before .before .before .before .before .before .loop in (
+      omega arith,
+      c .before .before .add .kept .0 ∙ at .inv .1,
+      c .before .before .add .ensures
+          ∙ ap (λ l. added l (getD (x .t3) (at .r) 0) (part (x .e) (x .elements .now) (at .r)) (getD (x .t3) (at .r + 1) 0) (part (x .e) (x .elements .now) (at .r + 1))) (at .inv .2)
+          ∙ combined-two (x .e) (x .t3) (x .elements .now) (at .r),
     )
 
 mul-at-2 : tie.Need-mul-at-2 Inv-loop μ-loop

@@ -1,75 +1,102 @@
+-- `code::board::interpolate` meets its contract: the rows before i are those of the board.
+use Prim.Native.Nat.{_+_, _*_, _-_, _≤_}
+use mathlib.Core.Path.{_≡_, refl, sym, ap, _∙_}
+use native.Mathlib.Omega.{arith}
+use lib.ListN.{length, getD}
+use Rattle.code.proofs.Filled.{filled}
+use Rattle.code.proofs.Interpolated.{each, usable, combinable, row-fits, rows-none, rows-more, rows-length, rows-all}
+use Rattle.code.proofs.Parts.{part-length}
 use Rattle.code.proofs.board.interpolate.Statement.{statement}
 use Rattle.code.proofs.board.interpolate.Tie as tie
-use Rattle.code.proofs.board.interpolate.Reads as reads
-use Rattle.code.proofs.board.interpolate.Lts as lts
-use Rattle.code.proofs.board.combine.Reads as combine-reads
-use Rattle.code.proofs.inverse.invert.Reads as invert-reads
 
 abbrev Inv-loop : tie.InvT-loop
-Inv-loop servers elements buffer₀ k e inverse i₀ buffer i = ?
+Inv-loop servers elements buffer₀ k e inverse i₀ buffer i = (i ≤ k) × (length buffer ≡ length buffer₀) × (buffer ≡ filled (each k e servers elements) (i * e) buffer₀)
 
 abbrev μ-loop : tie.MeasureT-loop
-μ-loop servers elements buffer₀ k e inverse i₀ buffer i = ?
+μ-loop servers elements buffer₀ k e inverse i₀ buffer i = k - i
 
--- src/board.rt:29:19
 invert-requires : tie.Need-invert-requires Inv-loop μ-loop
-invert-requires c κs = ?
+invert-requires c κs =
+    let x = c .before .before .before .args in
+    usable (x .cfg) (x .servers .now) (length (x .elements .now)) (length (x .buffer .now)) (c .before .before .before .pre)
 
--- src/board.rt:31:5
 loop-holds : tie.Need-loop-holds Inv-loop μ-loop
-loop-holds c = ?
+loop-holds c =
+    let x = c .before .before .before .before .args in
+    (omega arith, refl, rows-none (x .cfg) (x .servers .now) (x .elements .now) (x .buffer .now))
 
--- src/board.rt:32:18
 mul-at : tie.Need-mul-at Inv-loop μ-loop
-mul-at c = ?
+mul-at c =
+    let x = c .before .before .before .before .before .before .args in
+    omega (arith, row-fits (x .cfg) (x .servers .now) (length (x .elements .now)) (length (x .buffer .now)) (c .before .before .before .before .before .before .pre) (c .before .loop .i) (omega arith), usable (x .cfg) (x .servers .now) (length (x .elements .now)) (length (x .buffer .now)) (c .before .before .before .before .before .before .pre) .high)
 
--- src/board.rt:33:23
 mul-combine : tie.Need-mul-combine Inv-loop μ-loop
-mul-combine c = ?
+mul-combine c =
+    let x = c .before .before .before .before .before .before .args in
+    omega (arith, row-fits (x .cfg) (x .servers .now) (length (x .elements .now)) (length (x .buffer .now)) (c .before .before .before .before .before .before .pre) (c .before .loop .i) (omega arith), usable (x .cfg) (x .servers .now) (length (x .elements .now)) (length (x .buffer .now)) (c .before .before .before .before .before .before .pre) .high)
 
--- src/board.rt:33:23
 array-copy-out-combine : tie.Need-array-copy-out-combine Inv-loop μ-loop
-array-copy-out-combine c = ?
+array-copy-out-combine c =
+    let x = c .before .before .before .before .before .before .args in
+    omega (arith, row-fits (x .cfg) (x .servers .now) (length (x .elements .now)) (length (x .buffer .now)) (c .before .before .before .before .before .before .pre) (c .before .loop .i) (omega arith), usable (x .cfg) (x .servers .now) (length (x .elements .now)) (length (x .buffer .now)) (c .before .before .before .before .before .before .pre) .high)
 
--- src/board.rt:33:61
 add-combine : tie.Need-add-combine Inv-loop μ-loop
-add-combine c = ?
+add-combine c =
+    let x = c .before .before .before .before .before .before .before .args in
+    omega (arith, row-fits (x .cfg) (x .servers .now) (length (x .elements .now)) (length (x .buffer .now)) (c .before .before .before .before .before .before .before .pre) (c .before .before .loop .i) (omega arith), usable (x .cfg) (x .servers .now) (length (x .elements .now)) (length (x .buffer .now)) (c .before .before .before .before .before .before .before .pre) .high)
 
--- src/board.rt:33:45
 sub-combine : tie.Need-sub-combine Inv-loop μ-loop
-sub-combine c = ?
+sub-combine c =
+    let x = c .before .before .before .before .before .before .before .args in
+    omega (arith, row-fits (x .cfg) (x .servers .now) (length (x .elements .now)) (length (x .buffer .now)) (c .before .before .before .before .before .before .before .pre) (c .before .before .loop .i) (omega arith), usable (x .cfg) (x .servers .now) (length (x .elements .now)) (length (x .buffer .now)) (c .before .before .before .before .before .before .before .pre) .high)
 
--- src/board.rt:33:45
 part-combine-start : tie.Need-part-combine-start Inv-loop μ-loop
-part-combine-start c = ?
+part-combine-start c =
+    let x = c .before .before .before .before .before .before .before .args in
+    omega (arith, row-fits (x .cfg) (x .servers .now) (length (x .elements .now)) (length (x .buffer .now)) (c .before .before .before .before .before .before .before .pre) (c .before .before .loop .i) (omega arith), usable (x .cfg) (x .servers .now) (length (x .elements .now)) (length (x .buffer .now)) (c .before .before .before .before .before .before .before .pre) .high)
 
--- src/board.rt:33:45
 part-combine-end : tie.Need-part-combine-end Inv-loop μ-loop
-part-combine-end c = ?
+part-combine-end c =
+    let x = c .before .before .before .before .before .before .before .args in
+    omega (arith, row-fits (x .cfg) (x .servers .now) (length (x .elements .now)) (length (x .buffer .now)) (c .before .before .before .before .before .before .before .pre) (c .before .before .loop .i) (omega arith), usable (x .cfg) (x .servers .now) (length (x .elements .now)) (length (x .buffer .now)) (c .before .before .before .before .before .before .before .pre) .high)
 
--- src/board.rt:33:9
 combine-requires : tie.Need-combine-requires Inv-loop μ-loop
-combine-requires c κs = ?
+combine-requires c κs =
+    let x = c .before .before .before .before .before .before .before .before .args in
+    let h = c .before .before .before .before .before .before .before .before .pre in
+    let at = c .before .before .before .loop in
+    combinable (x .cfg) (x .servers .now) (length (x .elements .now)) (length (x .buffer .now)) h _ (part-length (x .cfg .k) (x .cfg .e) (at .i) (at .buffer) (omega arith) (omega (arith, h .buffer-length)))
 
--- src/board.rt:34:9
 add-i : tie.Need-add-i Inv-loop μ-loop
-add-i c = ?
+add-i c =
+    let x = c .before .before .before .before .before .before .before .before .before .before .before .args in
+    omega (arith, row-fits (x .cfg) (x .servers .now) (length (x .elements .now)) (length (x .buffer .now)) (c .before .before .before .before .before .before .before .before .before .before .before .pre) (c .before .before .before .before .before .before .loop .i) (omega arith), usable (x .cfg) (x .servers .now) (length (x .elements .now)) (length (x .buffer .now)) (c .before .before .before .before .before .before .before .before .before .before .before .pre) .high)
 
--- src/board.rt:31:5
 loop-less : tie.Need-loop-less Inv-loop μ-loop
-loop-less c = ?
+loop-less c = omega arith
 
--- src/board.rt:31:5
 loop-again : tie.Need-loop-again Inv-loop μ-loop
-loop-again c = ?
+loop-again c =
+    let x = c .before .before .before .before .before .before .before .before .before .before .before .args in
+    let h = c .before .before .before .before .before .before .before .before .before .before .before .pre in
+    let at = c .before .before .before .before .before .before .loop in
+    let turned =
+    rows-more (x .cfg) (x .servers .now) (x .elements .now) (at .i) (at .i * x .cfg .e + x .cfg .e - at .i * x .cfg .e) (c .before .before .before .before .before .before .before .invert .result)
+    (x .buffer .now) (at .buffer) _ (h .enough) (c .before .before .before .before .before .before .before .invert .ensures) (omega arith) (h .buffer-length) (omega arith)
+    (at .inv .2) (c .before .before .combine .ensures) in (
+      omega arith,
+      ap length turned ∙ rows-length (x .cfg) (x .servers .now) (x .elements .now) (at .i) (x .buffer .now) (omega arith) (h .buffer-length),
+      turned,
+    )
 
--- src/board.rt:23:1
 same-length : tie.Need-same-length Inv-loop μ-loop
-same-length c = ?
+same-length c = c .before .loop .inv .1
 
--- src/board.rt:23:1
 returns : tie.Need-returns Inv-loop μ-loop
-returns c = ?
+returns c =
+    let x = c .before .before .before .before .before .before .args in
+    let at = c .before .loop in
+    rows-all (x .cfg) (x .servers .now) (x .elements .now) (at .i) (x .buffer .now) (at .buffer) (omega arith) (c .before .before .before .before .before .before .pre .buffer-length) (at .inv .2)
 
 pub interpolate-spec : {M : Type 1} → statement M
 interpolate-spec =

@@ -25,7 +25,7 @@ shared-slice-read-root : tie.Need-shared-slice-read-root Inv-loop μ-loop
 shared-slice-read-root c = search needs
 
 root-requires : tie.Need-root-requires Inv-loop μ-loop
-root-requires c κs = let u = c .before .before .before .before .pre in (u .server-low (c .before .before .loop .r) (omega arith), u .server-high (c .before .before .loop .r) (omega arith))
+root-requires c κs = search needs
 
 add-r : tie.Need-add-r Inv-loop μ-loop
 add-r c = search needs

@@ -1,6 +1,6 @@
 -- What a client's moves leave: one that stays, one that ends, one that sends letters. Assumes nothing.
 use mathlib.Core.Path.{_≡_, refl, sym, ap, ap₂, _∙_, subst, fun-ext}
-use mathlib.Core.Bool.{Bool, true, false, cond, _&&_}
+use mathlib.Core.Bool.{Bool, true, false, cond, _&&_, true≢false}
 use mathlib.Core.Option.{Option, none, some}
 use mathlib.Core.List.{List, [], _∷_, _++_}
 use Prim.Native.Nat.{ℕ, zero, suc, _+_, _*_, _≤_, _<_}
@@ -17,11 +17,12 @@ use Rattle.config.specs.Number.{clientNumber}
 use Rattle.config.specs.Questions.{within}
 use Rattle.config.proofs.Questions.{within-low}
 use Rattle.tag.specs.declared.Tag.{Tag}
-use Rattle.tag.specs.Tag.{allowed}
+use Rattle.tag.specs.Tag.{allowed, start}
 use Rattle.code.specs.Element.{element}
-use Rattle.record.specs.declared.Kind.the-variants.{PreWrite, ReadFinalise, WriteFinalise}
+use Rattle.record.specs.declared.Kind.the-variants.{PreWrite, Query, ReadFinalise, WriteFinalise}
 use Rattle.history.specs.Client as protocol
 use Rattle.history.specs.Number.{nobody, nothingYet, toEach}
+use Rattle.history.specs.Tags.{startingTag}
 use Rattle.client.specs.declared.Ended.{Ended}
 use Rattle.client.specs.declared.Moved.{Moved}
 use Rattle.client.specs.declared.Phase.{Phase}
@@ -30,7 +31,7 @@ use Rattle.client.specs.declared.State.{State}
 use Rattle.client.specs.declared.send.Letter.{Letter}
 use Rattle.client.specs.Send.{Sends, front, letters, records}
 use Rattle.client.specs.Servers.{member, withinServers}
-use Rattle.client.specs.Settle.{Announced, Announces, Moves, Settled, endedOf, idling, shown, staying}
+use Rattle.client.specs.Settle.{Announced, Announces, Begins, Moves, Settled, endedOf, idling, shown, staying}
 use Rattle.client.specs.State.{phaseOf, phaseWithin, received, stateWithin, view}
 use Rattle.client.proofs.Counting.{tag-within}
 use Rattle.client.proofs.Sets.{member-zero, within-true}
@@ -233,3 +234,34 @@ pub as-move : {cfg : Config} {me : Client} {move move′ : protocol.Moved (List 
     → move′ ≡ move → Settled cfg me move kept es sends sends′ board board′ r → Settled cfg me move′ kept es sends sends′ board board′ r
 as-move {cfg} {me} {move} {move′} {kept} {es} {sends} {sends′} {board} {board′} {r} e s =
     subst (λ (m : protocol.Moved (List ℕ) (List ℕ)). Settled cfg me m kept es sends sends′ board board′ r) (sym e) s
+
+-- ---- beginning
+
+module _ (cfg : Config) (x : State) (writes : Bool) (kept sends : List ℕ) (ok : Begins cfg x kept sends) where
+  abbrev queries : Letter
+  queries = record { kind = Query; me = x .me; operation = x .operation + 1; tag = start; element = false }
+
+  pub queries-go : Sends cfg queries kept sends
+  queries-go =
+      record {
+        letter =
+          record {
+            valid = ok .valid;
+            me = ok .self;
+            operation = omega arith;
+            tag = refl;
+            query = refl;
+            own = refl;
+            present = refl;
+            board-length = λ e. absurd (true≢false (sym e));
+          };
+        room = ok .sends-length;
+      }
+
+  pub queries-settled : (sends′ : List ℕ) (r : Moved) → Announced cfg queries (Asking writes start 0) kept sends sends′ r
+      → Moves cfg (x .me) (protocol.beginClient cfg (clientNumber (x .me)) (view cfg x [] []) (cond writes (some kept) none)) kept sends sends′ r
+  unfolding protocol.beginClient protocol.sendEach startingTag phaseOf phaseWithin view
+  queries-settled sends′ r done =
+      announced cfg queries (Asking writes start 0) (ok .self) (tag-within cfg start 0 refl (nobody-within (cfg .n)))
+      (protocol.asking (cond writes (some kept) none) start nobody) kept sends sends′ r done
+      (λ es. ap (protocol.asking (cond writes (some kept) none) start) member-zero)

@@ -1,3 +1,4 @@
+pub mod Calls
 pub mod Count
 pub mod Gather
 pub mod Place

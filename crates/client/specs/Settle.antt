@@ -1,5 +1,5 @@
 -- What a client's move leaves: its state, what it sends, how the operation ends and the board read.
-use Prim.Native.Nat.{ℕ, _*_, _≤_}
+use Prim.Native.Nat.{ℕ, _*_, _≤_, _<_}
 use mathlib.Core.Bool.{Bool, true}
 use mathlib.Core.Path.{_≡_}
 use mathlib.Core.List.{List}
@@ -112,3 +112,10 @@ pub record Announces (cfg : Config) (me : Client) (operation : ℕ) (t : Tag) (k
 -- a move that sends, or ends without a board: whatever the elements received, and whatever board is lent
 abbrev pub Moves : Config → Client → protocol.Moved (List ℕ) (List ℕ) → List ℕ → List ℕ → List ℕ → Moved → Type 0
 Moves cfg me move kept sends sends′ r = (es board : List ℕ) → Settled cfg me move kept es sends sends′ board board r
+
+-- what beginning asks of state and buffers
+pub record Begins (cfg : Config) (x : State) (kept sends : List ℕ) : Type 0 where
+  pub valid : Valid cfg
+  pub self : within 1 (cfg .c) (clientNumber (x .me)) ≡ true
+  pub operation-high : x .operation < 4294967295
+  pub sends-length : length sends ≡ 80 * cfg .n

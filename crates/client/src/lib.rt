@@ -1,8 +1,12 @@
 // The client.
 use config::Client;
+use config::Config;
+use config::Refusal;
 use config::Verdict;
 use tag::Tag;
+ghost use Rattle.client.specs.Calls.{FreshPost};
 
+mod begin;
 mod count;
 mod gather;
 mod place;
@@ -58,4 +62,29 @@ pub struct Moved {
     pub state: State,
     pub sent: usize,
     pub ended: Ended,
+}
+
+// A client, fresh, or why there is none.
+pub enum NewState {
+    Made(State),
+    No(Refusal),
+}
+
+// A fresh client is idle, its operation number 0: questions 1 to 5, and 8, whether the client exists.
+pub fn fresh(cfg: Config, me: Client) -> NewState
+    ensures { λ r. ⌜ FreshPost cfg me r ⌝ }
+{
+    let no = cfg.ask();
+    if no != 0 {
+        return NewState::No(Refusal::of(no));
+    }
+    if !questions::own(cfg, me) {
+        return NewState::No(Refusal::Missing);
+    }
+    let state = State {
+        me,
+        operation: 0,
+        phase: Phase::Idle,
+    };
+    NewState::Made(state)
 }

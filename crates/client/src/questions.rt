@@ -2,13 +2,15 @@
 use super::Phase;
 use super::State;
 use super::servers;
+use config::Client;
 use config::Config;
 use tag::Tag;
 ghost use mathlib.Core.Path.{_≡_};
 ghost use mathlib.Core.Bool.{_&&_};
 ghost use mathlib.Core.List.{_∷_};
 ghost use Rattle.config.specs.Config.{Valid};
-ghost use Rattle.config.specs.Questions.{ask, firstNo};
+ghost use Rattle.config.specs.Number.{clientNumber};
+ghost use Rattle.config.specs.Questions.{ask, firstNo, within as inside};
 ghost use Rattle.client.specs.State.{phaseWithin, stateWithin, tagWithin};
 ghost use Rattle.client.specs.Questions.{beginQuestions, idleQuestions, isSends, writeSized};
 
@@ -70,15 +72,22 @@ pub(crate) fn within(cfg: Config, x: State) -> bool
     ensures { λ r. ⌜ r ≡ stateWithin cfg x ⌝ }
 {
     let me = x.me;
-    let c = me.number() as usize;
-    if c < 1 {
-        return false;
-    }
-    if cfg.c < c {
+    if !own(cfg, me) {
         return false;
     }
     let phase = x.phase;
     phase_within(cfg, phase)
+}
+
+// Whether a client's number is 1 to C.
+pub(crate) fn own(cfg: Config, me: Client) -> bool
+    ensures { λ r. ⌜ r ≡ inside 1 (cfg .c) (clientNumber me) ⌝ }
+{
+    let c = me.number() as usize;
+    if c < 1 {
+        return false;
+    }
+    c <= cfg.c
 }
 
 fn phase_within(cfg: Config, phase: Phase) -> bool

@@ -1,0 +1,41 @@
+// A client begins an operation.
+use super::send::Letter;
+use super::settle;
+use super::Moved;
+use super::Phase;
+use super::State;
+use config::Config;
+use record::Kind;
+use tag::Tag;
+ghost use mathlib.Core.Bool.{cond};
+ghost use mathlib.Core.List.{[]};
+ghost use mathlib.Core.Option.{none, some};
+ghost use Rattle.config.specs.Number.{clientNumber};
+ghost use Rattle.history.specs.Client as protocol;
+ghost use Rattle.client.specs.Settle.{Begins, Moves};
+ghost use Rattle.client.specs.State.{view};
+
+// The operation number rises by 1, and a query goes to each server.
+pub(crate) fn begin(cfg: Config, x: State, writes: bool, kept: &[u8], sends: &mut [u8]) -> Moved
+    requires { ⌜ Begins cfg x (now kept) (now sends) ⌝ }
+    ensures { λ r. ⌜ Moves cfg (x .me) (protocol.beginClient cfg (clientNumber (x .me)) (view cfg x [] []) (cond writes (some (now (kept .entry))) none)) (now (kept .entry)) (now (sends .entry)) (now (sends .exit)) r ⌝ }
+{
+    let me = x.me;
+    let tag = Tag {
+        number: 0,
+        client: 0,
+    };
+    let letter = Letter {
+        kind: Kind::Query,
+        me,
+        operation: x.operation + 1,
+        tag,
+        element: false,
+    };
+    let phase = Phase::Asking {
+        writes,
+        best: tag,
+        counted: 0,
+    };
+    settle::announce(cfg, letter, phase, kept, sends)
+}

@@ -31,7 +31,7 @@ use Rattle.client.specs.declared.State.{State}
 use Rattle.client.specs.declared.send.Letter.{Letter}
 use Rattle.client.specs.Send.{Sends, front, letters, records}
 use Rattle.client.specs.Servers.{member, withinServers}
-use Rattle.client.specs.Settle.{Announced, Announces, Begins, Moves, Settled, endedOf, idling, shown, staying}
+use Rattle.client.specs.Settle.{Announced, Announces, Begins, Moves, Settled, endedOf, idling, queries, shown, staying}
 use Rattle.client.specs.State.{phaseOf, phaseWithin, received, stateWithin, view}
 use Rattle.client.proofs.Counting.{tag-within}
 use Rattle.client.proofs.Sets.{member-zero, within-true}
@@ -237,11 +237,8 @@ as-move {cfg} {me} {move} {move′} {kept} {es} {sends} {sends′} {board} {boar
 
 -- ---- beginning
 
-module _ (cfg : Config) (x : State) (writes : Bool) (kept sends : List ℕ) (ok : Begins cfg x kept sends) where
-  abbrev queries : Letter
-  queries = record { kind = Query; me = x .me; operation = x .operation + 1; tag = start; element = false }
-
-  pub queries-go : Sends cfg queries kept sends
+module _ (cfg : Config) (x : State) (kept sends : List ℕ) (ok : Begins cfg x sends) where
+  pub queries-go : Sends cfg (queries x) kept sends
   queries-go =
       record {
         letter =
@@ -258,10 +255,12 @@ module _ (cfg : Config) (x : State) (writes : Bool) (kept sends : List ℕ) (ok 
         room = ok .sends-length;
       }
 
-  pub queries-settled : (sends′ : List ℕ) (r : Moved) → Announced cfg queries (Asking writes start 0) kept sends sends′ r
-      → Moves cfg (x .me) (protocol.beginClient cfg (clientNumber (x .me)) (view cfg x [] []) (cond writes (some kept) none)) kept sends sends′ r
-  unfolding protocol.beginClient protocol.sendEach startingTag phaseOf phaseWithin view
-  queries-settled sends′ r done =
-      announced cfg queries (Asking writes start 0) (ok .self) (tag-within cfg start 0 refl (nobody-within (cfg .n)))
+  pub queries-settled : (before : protocol.Client (List ℕ) (List ℕ)) (writes : Bool) (sends′ : List ℕ) (r : Moved)
+      → before .operation ≡ x .operation → Announced cfg (queries x) (Asking writes start 0) kept sends sends′ r
+      → Moves cfg (x .me) (protocol.beginClient cfg (clientNumber (x .me)) before (cond writes (some kept) none)) kept sends sends′ r
+  unfolding protocol.beginClient protocol.sendEach startingTag phaseOf phaseWithin
+  queries-settled before writes sends′ r same done =
+      rw same
+      (announced cfg (queries x) (Asking writes start 0) (ok .self) (tag-within cfg start 0 refl (nobody-within (cfg .n)))
       (protocol.asking (cond writes (some kept) none) start nobody) kept sends sends′ r done
-      (λ es. ap (protocol.asking (cond writes (some kept) none) start) member-zero)
+      (λ es. ap (protocol.asking (cond writes (some kept) none) start) member-zero))

@@ -1,6 +1,6 @@
 -- What a client's calls answer. On a refusal everything is as it was; else what the code leaves is what the protocol's client does, with
 -- document 01's code and order of tags.
-use Prim.Native.Nat.{ℕ}
+use Prim.Native.Nat.{ℕ, min}
 use mathlib.Core.Bool.{Bool, true, cond}
 use mathlib.Core.Path.{_≡_}
 use mathlib.Core.Option.{Option, none, some}
@@ -69,3 +69,10 @@ pub record BeginPost (cfg : Config) (refusal : ℕ) (x : State) (board : Option 
     (protocol.beginClient cfg (clientNumber (x .me)) (view cfg x kept es) board) sends sends′ r
   pub nothing : r .ended ≡ Ended.Nothing
   pub keeps : kept′ ≡ cond (eqb refusal 0) (keeping board kept) kept
+
+-- what a refusal leaves
+pub record Held (x : State) (refusal : ℕ) (r : Moved) : Type 0 where
+  pub verdict : verdictNumber (r .verdict) ≡ min refusal 18
+  pub state : r .state ≡ x
+  pub sent : r .sent ≡ 0
+  pub ended : r .ended ≡ Ended.Nothing

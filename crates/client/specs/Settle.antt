@@ -1,6 +1,6 @@
 -- What a client's move leaves: its state, what it sends, how the operation ends and the board read.
-use Prim.Native.Nat.{ℕ, _*_, _≤_, _<_}
-use mathlib.Core.Bool.{Bool, true}
+use Prim.Native.Nat.{ℕ, _+_, _*_, _≤_, _<_}
+use mathlib.Core.Bool.{Bool, true, false}
 use mathlib.Core.Path.{_≡_}
 use mathlib.Core.List.{List}
 use lib.ListN.{length}
@@ -11,9 +11,10 @@ use Rattle.config.specs.Config.{Valid, boardLength}
 use Rattle.config.specs.Number.{clientNumber}
 use Rattle.config.specs.Questions.{within}
 use Rattle.tag.specs.declared.Tag.{Tag}
-use Rattle.tag.specs.Tag.{allowed}
+use Rattle.tag.specs.Tag.{allowed, start}
 use Rattle.code.specs.Decoded.{decodedPairs}
 use Rattle.code.specs.Element.{element}
+use Rattle.record.specs.declared.Kind.the-variants.{Query}
 use Rattle.history.specs.Client as protocol
 use Rattle.client.specs.declared.Ended.{Ended}
 use Rattle.client.specs.declared.Ended.the-variants.{Nothing, Written, Spent, Read}
@@ -114,8 +115,12 @@ abbrev pub Moves : Config → Client → protocol.Moved (List ℕ) (List ℕ) �
 Moves cfg me move kept sends sends′ r = (es board : List ℕ) → Settled cfg me move kept es sends sends′ board board r
 
 -- what beginning asks of state and buffers
-pub record Begins (cfg : Config) (x : State) (kept sends : List ℕ) : Type 0 where
+pub record Begins (cfg : Config) (x : State) (sends : List ℕ) : Type 0 where
   pub valid : Valid cfg
   pub self : within 1 (cfg .c) (clientNumber (x .me)) ≡ true
   pub operation-high : x .operation < 4294967295
   pub sends-length : length sends ≡ 80 * cfg .n
+
+-- the letter of a beginning: a query of the next operation
+abbrev pub queries : State → Letter
+queries x = record { kind = Query; me = x .me; operation = x .operation + 1; tag = start; element = false }

@@ -7,18 +7,13 @@ use super::State;
 use config::Config;
 use record::Kind;
 use tag::Tag;
-ghost use mathlib.Core.Bool.{cond};
-ghost use mathlib.Core.List.{[]};
-ghost use mathlib.Core.Option.{none, some};
-ghost use Rattle.config.specs.Number.{clientNumber};
-ghost use Rattle.history.specs.Client as protocol;
-ghost use Rattle.client.specs.Settle.{Begins, Moves};
-ghost use Rattle.client.specs.State.{view};
+ghost use Rattle.tag.specs.Tag.{start};
+ghost use Rattle.client.specs.Settle.{Announced, Begins, queries};
 
 // The operation number rises by 1, and a query goes to each server.
 pub(crate) fn begin(cfg: Config, x: State, writes: bool, kept: &[u8], sends: &mut [u8]) -> Moved
-    requires { ⌜ Begins cfg x (now kept) (now sends) ⌝ }
-    ensures { λ r. ⌜ Moves cfg (x .me) (protocol.beginClient cfg (clientNumber (x .me)) (view cfg x [] []) (cond writes (some (now (kept .entry))) none)) (now (kept .entry)) (now (sends .entry)) (now (sends .exit)) r ⌝ }
+    requires { ⌜ Begins cfg x (now sends) ⌝ }
+    ensures { λ r. ⌜ Announced cfg (queries x) (Phase.Asking writes start 0) (now (kept .entry)) (now (sends .entry)) (now (sends .exit)) r ⌝ }
 {
     let me = x.me;
     let tag = Tag {

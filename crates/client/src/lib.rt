@@ -4,7 +4,12 @@ use config::Config;
 use config::Refusal;
 use config::Verdict;
 use tag::Tag;
-ghost use Rattle.client.specs.Calls.{FreshPost};
+ghost use mathlib.Core.List.{List};
+ghost use mathlib.Core.Option.{none, some};
+ghost use Prim.Native.Nat.{ℕ};
+ghost use Rattle.config.specs.Questions.{firstNo};
+ghost use Rattle.client.specs.Calls.{BeginPost, FreshPost, Held};
+ghost use Rattle.client.specs.Questions.{beginReadQuestions, beginWriteQuestions};
 
 mod begin;
 mod count;
@@ -87,4 +92,46 @@ pub fn fresh(cfg: Config, me: Client) -> NewState
         phase: Phase::Idle,
     };
     NewState::Made(state)
+}
+
+// Begins to write a board, which the client keeps: questions 1 to 6, 9, 10 and 11.
+pub fn begin_write(
+    cfg: Config,
+    state: State,
+    board: &[u8],
+    kept: &mut [u8],
+    sends: &mut [u8],
+) -> Moved
+    ensures { λ r. ⌜ ((es : List ℕ) → BeginPost cfg (firstNo (beginWriteQuestions cfg state (now (board .entry)) (now (kept .entry)) (now (sends .entry)))) state (some (now (board .entry))) (now (kept .entry)) (now (kept .exit)) es (now (sends .entry)) (now (sends .exit)) r) ⌝ }
+{
+    let no = questions::begin_write(cfg, state, board.len(), kept.len(), sends.len());
+    if no != 0 {
+        return held(state, no);
+    }
+    bytes::copy(board, kept);
+    begin::begin(cfg, state, true, board, sends)
+}
+
+// Begins to read: questions 1 to 6, 9, 10 and 11.
+pub fn begin_read(cfg: Config, state: State, sends: &mut [u8]) -> Moved
+    ensures { λ r. ⌜ ((kept es : List ℕ) → BeginPost cfg (firstNo (beginReadQuestions cfg state (now (sends .entry)))) state none kept kept es (now (sends .entry)) (now (sends .exit)) r) ⌝ }
+{
+    let no = questions::begin_read(cfg, state, sends.len());
+    if no != 0 {
+        return held(state, no);
+    }
+    let nothing = [0u8; 1];
+    begin::begin(cfg, state, false, &nothing, sends)
+}
+
+// A client that is as it was, with the refusal of a number: nothing is sent and nothing ends.
+fn held(x: State, no: u8) -> Moved
+    ensures { λ r. ⌜ Held x no r ⌝ }
+{
+    Moved {
+        verdict: Verdict::of(no),
+        state: x,
+        sent: 0,
+        ended: Ended::Nothing,
+    }
 }

@@ -1,5 +1,5 @@
 use denote.Ref.{now}
-use Rattle.client.proofs.Settling.{queries-go, queries-settled}
+use Rattle.client.proofs.Settling.{queries-go}
 use borrow.Author.Needs.{needs}
 use Rattle.client.proofs.begin.begin.Statement.{statement}
 use Rattle.client.proofs.begin.begin.Tie as tie
@@ -9,15 +9,13 @@ add-t11 c = search needs
 
 announce-requires : tie.Need-announce-requires
 announce-requires c κs = let s = c .before .before .before .before .before in
-    queries-go (s .args .cfg) (s .args .x) (s .args .writes) (now (s .args .kept)) (now (s .args .sends)) (s .pre)
+    queries-go (s .args .cfg) (s .args .x) (now (s .args .kept)) (now (s .args .sends)) (s .pre)
 
 same-length : tie.Need-same-length
 same-length c = search needs
 
 returns : tie.Need-returns
-returns c = let s = c .before .before .before .before .before .before .before .before in
-    queries-settled (s .args .cfg) (s .args .x) (s .args .writes) (now (s .args .kept)) (now (s .args .sends)) (s .pre) (c .before .before .announce .last .1 .1 .1 .1 .0)
-    (c .before .before .announce .result) (c .before .before .announce .ensures)
+returns c = c .before .before .announce .ensures
 
 pub begin-spec : {M : Type 1} → statement M
 begin-spec = tie.close (tie.spec add-t11 announce-requires same-length returns)

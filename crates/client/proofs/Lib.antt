@@ -9,4 +9,5 @@ pub mod Present
 pub mod Sending
 pub mod Sets
 pub mod Settling
+pub mod Showing
 pub mod Tags

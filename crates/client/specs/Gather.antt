@@ -6,9 +6,9 @@ use mathlib.Core.List.{List, map, _++_}
 use lib.Dec.{ltb}
 use lib.ListN.{length, take, drop, set}
 use Rattle.config.specs.declared.Config.{Config}
-use Rattle.config.specs.Config.{Valid}
+use Rattle.config.specs.Config.{Valid, boardLength}
 use Rattle.code.specs.Lists.{joined}
-use Rattle.history.specs.Number.{present}
+use Rattle.history.specs.Number.{count, present}
 use Rattle.client.specs.Place.{over}
 use Rattle.client.specs.Servers.{member, withinServers}
 use Rattle.client.specs.State.{elementAt, received}
@@ -50,3 +50,11 @@ pub record PickPost (cfg : Config) (sent s found : ℕ) (es numbers numbers′ p
   pub numbered : numbers′ ≡ cond (ltb found (cfg .k) && member sent s) (set numbers found s) numbers
   pub joint :
       packed′ ≡ cond (ltb found (cfg .k) && member sent s) (over (found * cfg .e) (cfg .e) (elementAt cfg es s) packed) packed
+
+-- what showing a board asks: at least k servers sent an element
+pub record Shows (cfg : Config) (sent : ℕ) (es board : List ℕ) : Type 0 where
+  pub valid : Valid cfg
+  pub within : withinServers (cfg .n) sent ≡ true
+  pub elements : length es ≡ cfg .n * cfg .e
+  pub board-length : length board ≡ boardLength cfg
+  pub enough : cfg .k ≤ count (member sent) (cfg .n)

@@ -19,6 +19,7 @@ mod questions;
 mod send;
 mod servers;
 mod settle;
+mod show;
 
 // Where a client stands in its operation. A set of servers is the bits of a number: bit s is server s.
 pub enum Phase {

@@ -4,6 +4,7 @@ pub mod Bounds
 pub mod Counting
 pub mod Elements
 pub mod Gathering
+pub mod Phases
 pub mod Places
 pub mod Present
 pub mod Sending

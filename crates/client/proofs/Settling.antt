@@ -264,3 +264,9 @@ module _ (cfg : Config) (x : State) (kept sends : List ℕ) (ok : Begins cfg x s
       (announced cfg (queries x) (Asking writes start 0) (ok .self) (tag-within cfg start 0 refl (nobody-within (cfg .n)))
       (protocol.asking (cond writes (some kept) none) start nobody) kept sends sends′ r done
       (λ es. ap (protocol.asking (cond writes (some kept) none) start) member-zero))
+
+-- a result that is what a call made of it
+pub as-result : {cfg : Config} {me : Client} {move : protocol.Moved (List ℕ) (List ℕ)} {kept es sends sends′ board board′ : List ℕ} {r r′ : Moved}
+    → r′ ≡ r → Settled cfg me move kept es sends sends′ board board′ r → Settled cfg me move kept es sends sends′ board board′ r′
+as-result {cfg} {me} {move} {kept} {es} {sends} {sends′} {board} {board′} e s =
+    subst (λ (m : Moved). Settled cfg me move kept es sends sends′ board board′ m) (sym e) s

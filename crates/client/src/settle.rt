@@ -6,6 +6,7 @@ use super::State;
 use super::send;
 use super::send::Letter;
 use super::servers;
+use super::show;
 use config::Client;
 use config::Config;
 use config::Verdict;
@@ -22,7 +23,8 @@ ghost use Rattle.config.specs.Number.{clientNumber};
 ghost use Rattle.history.specs.Client as protocol;
 ghost use Rattle.client.specs.Send.{Sends};
 ghost use Rattle.client.specs.Servers.{member, withinServers};
-ghost use Rattle.client.specs.Settle.{Announced, Announces, Moves, idling, staying};
+ghost use Rattle.client.specs.Settle.{Announced, Announces, Moves, Settled, Settles, idling, settle, staying};
+ghost use Rattle.client.specs.State.{received, view};
 
 // Nothing is sent and nothing ends.
 pub(crate) fn stays(x: State) -> Moved
@@ -85,6 +87,67 @@ fn enough(cfg: Config, counted: u32) -> bool
     ensures { λ r. ⌜ r ≡ protocol.enough cfg (member counted) ⌝ }
 {
     cfg.quorum() <= servers::size(counted) as usize
+}
+
+// At least q servers are counted, and at least k sent an element.
+fn enough_to_read(cfg: Config, counted: u32, sent: u32) -> bool
+    requires { ⌜ withinServers (cfg .n) counted ≡ true ⌝ }
+    requires { ⌜ withinServers (cfg .n) sent ≡ true ⌝ }
+    ensures { λ r. ⌜ ((es : List ℕ) → r ≡ protocol.enoughToRead cfg (member counted) (received cfg es sent)) ⌝ }
+{
+    if !enough(cfg, counted) {
+        return false;
+    }
+    cfg.k <= servers::size(sent) as usize
+}
+
+// The second half of a step: by the phase, an answer having been counted.
+pub(crate) fn settle(
+    cfg: Config,
+    x: State,
+    kept: &[u8],
+    elements: &[u8],
+    sends: &mut [u8],
+    board: &mut [u8],
+) -> Moved
+    requires { ⌜ Settles cfg x (now kept) (now elements) (now sends) (now board) ⌝ }
+    ensures { λ r. ⌜ Settled cfg (x .me) (settle cfg (clientNumber (x .me)) (view cfg x (now (kept .entry)) (now (elements .entry)))) (now (kept .entry)) (now (elements .entry)) (now (sends .entry)) (now (sends .exit)) (now (board .entry)) (now (board .exit)) r ⌝ }
+{
+    let me = x.me;
+    let phase = x.phase;
+    match phase {
+        Phase::Idle => stays(x),
+        Phase::Asking {
+            writes,
+            best,
+            counted,
+        } => {
+            if !enough(cfg, counted) {
+                return stays(x);
+            }
+            asked(cfg, me, x.operation, writes, best, kept, sends)
+        }
+        Phase::PreWriting { tag, counted } => {
+            if !enough(cfg, counted) {
+                return stays(x);
+            }
+            write_finalises(cfg, me, x.operation, tag, kept, sends)
+        }
+        Phase::FinalisingWrite { tag, counted } => {
+            if !enough(cfg, counted) {
+                return stays(x);
+            }
+            ends(me, x.operation, Ended::Written(tag))
+        }
+        Phase::FinalisingRead { tag, counted, sent } => {
+            if !enough_to_read(cfg, counted, sent) {
+                return stays(x);
+            }
+            show::show(cfg, sent, elements, board);
+            ends(me, x.operation, Ended::Read(tag))
+        }
+        Phase::Down => stays(x),
+    }
 }
 
 // Asking, at least q answers: a write takes the next number, with its own client number; a read takes the highest tag.

@@ -132,8 +132,8 @@ module _ (cfg : Config) (sized : Bool) (x : State) (kept es sends : List ℕ) wh
       let h′ : Held x refusal r = subst (λ (n : ℕ). Held x n r) e h in
       record {
         answered =
-          refused cfg x (view cfg x kept es) (view cfg (r .state) kept es) (protocol.beginClient cfg (clientNumber (x .me)) (view cfg x kept es) board) sends refusal r
-          stops (begin-high cfg sized x) h′ (ap (λ (y : State). view cfg y kept es) (h .state));
+            refused cfg x (view cfg x kept es) (view cfg (r .state) kept es) (protocol.beginClient cfg (clientNumber (x .me)) (view cfg x kept es) board) sends refusal r
+            stops (begin-high cfg sized x) h′ (ap (λ (y : State). view cfg y kept es) (h .state));
         nothing = h .ended;
         keeps = rw (ne-eqb refusal 0 stops);
       }
@@ -147,8 +147,8 @@ module _ (cfg : Config) (sized : Bool) (x : State) (kept es sends : List ℕ) wh
       let s = queries-settled cfg x kept′ sends (begins cfg sized x pass sends room) (view cfg x kept es) writes sends′ r refl (record { move = done .move; out = done .out }) in
       record {
         answered =
-          moved cfg x (view cfg x kept es) (view cfg (r .state) kept′ es) (protocol.beginClient cfg (clientNumber (x .me)) (view cfg x kept es) board) sends refusal kept′
-          es sends′ [] [] r pass (s es []) refl;
+            moved cfg x (view cfg x kept es) (view cfg (r .state) kept′ es) (protocol.beginClient cfg (clientNumber (x .me)) (view cfg x kept es) board) sends refusal kept′
+            es sends′ [] [] r pass (s es []) refl;
         nothing = ap (λ (m : Moved). m .ended) (done .move);
         keeps = same ∙ rw (eq-eqb refusal 0 pass);
       }

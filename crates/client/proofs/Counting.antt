@@ -5,6 +5,7 @@ use mathlib.Core.Option.{Option, none, some}
 use mathlib.Core.List.{List}
 use Prim.Native.Nat.{ℕ, _+_, _*_, _≤_, _<_}
 use native.Mathlib.Omega.{arith}
+use borrow.Author.Tests.{eqb-true}
 use lib.Dec.{eqb}
 use lib.ListN.{length, take, drop, length-drop}
 use lib.Seq.{length-take-le}
@@ -155,7 +156,11 @@ module _ (cfg : Config) (h : Header) where
           is-awaited = λ kept es bs. of-tag t counted (c .valid) (c .header) (c .within) 4 true is bs;
           counts = λ kept es bs whole room. ap (protocol.preWriting t) adds;
           within = one-more t counted (c .valid) (c .header) (c .within) set adds;
-          tag = sym (same-one (h .tag) t (and-right (firstOf 4 counted h) (same (h .tag) t) is));
+          tag = (
+            sym (same-one (h .tag) t (and-right (firstOf 4 counted h) (same (h .tag) t) is)),
+            eqb-true (kindNumber (h .kind)) 4
+                (and-left (eqb (kindNumber (h .kind)) 4) (not (member counted server)) (and-left (firstOf 4 counted h) (same (h .tag) t) is)),
+          );
         }
 
   module _ (t : Tag) (counted : ℕ) (c : Countable cfg (FinalisingWrite t counted) h) where

@@ -11,4 +11,5 @@ pub mod Sending
 pub mod Sets
 pub mod Settling
 pub mod Showing
+pub mod Stepping
 pub mod Tags

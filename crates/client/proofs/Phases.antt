@@ -181,7 +181,7 @@ module _ (cfg : Config) (x : State) (kept es sends board : List ℕ) (ok : Settl
               elements = ok .elements-length;
               board-length = ok .board-length;
               enough =
-                omega (arith, leb-true (cfg .k) (length (present (cfg .n) (received cfg es sent))) many, length-present cfg es sent (cfg .n));
+                  omega (arith, leb-true (cfg .k) (length (present (cfg .n) (received cfg es sent))) many, length-present cfg es sent (cfg .n));
             }
 
         pub finalising-read-ends : (board′ : List ℕ) → board′ ≡ decodedPairs cfg (lowest cfg es sent (cfg .n))

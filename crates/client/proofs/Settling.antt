@@ -242,16 +242,16 @@ module _ (cfg : Config) (x : State) (kept sends : List ℕ) (ok : Begins cfg x s
   queries-go =
       record {
         letter =
-          record {
-            valid = ok .valid;
-            me = ok .self;
-            operation = omega arith;
-            tag = refl;
-            query = refl;
-            own = refl;
-            present = refl;
-            board-length = λ e. absurd (true≢false (sym e));
-          };
+            record {
+              valid = ok .valid;
+              me = ok .self;
+              operation = omega arith;
+              tag = refl;
+              query = refl;
+              own = refl;
+              present = refl;
+              board-length = λ e. absurd (true≢false (sym e));
+            };
         room = ok .sends-length;
       }
 

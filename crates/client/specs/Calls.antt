@@ -12,13 +12,19 @@ use Rattle.config.specs.declared.Config.{Config}
 use Rattle.config.specs.Number.{clientNumber, clientQuestions}
 use Rattle.config.specs.Questions.{firstNo}
 use Rattle.config.specs.Refusal.{numberOf, verdictNumber}
+use Rattle.tag.specs.Tag.{key}
+use Rattle.code.specs.Decoded.{decodedPairs}
+use Rattle.code.specs.Element.{element}
+use Rattle.record.specs.Record.{messageOf}
 use Rattle.history.specs.Client as protocol
 use Rattle.client.specs.declared.Ended.{Ended}
 use Rattle.client.specs.declared.NewState.{NewState}
 use Rattle.client.specs.declared.Moved.{Moved}
 use Rattle.client.specs.declared.Phase.{Phase}
 use Rattle.client.specs.declared.State.{State}
+use Rattle.client.specs.Count.{placed}
 use Rattle.client.specs.Send.{front, records}
+use Rattle.client.specs.Settle.{endedOf, shown}
 use Rattle.client.specs.State.{stateWithin, view}
 
 -- ---- fresh: questions 1 to 5, and 8, does the client exist?
@@ -65,10 +71,24 @@ keeping (some board) kept = board
 -- begin, with the board to write or none; `es` are the elements received, which no beginning touches
 pub record BeginPost (cfg : Config) (refusal : ℕ) (x : State) (board : Option (List ℕ)) (kept kept′ es sends sends′ : List ℕ) (r : Moved) : Type 0 where
   pub answered :
-    Answered cfg refusal x (view cfg x kept es) (view cfg (r .state) kept′ es)
-    (protocol.beginClient cfg (clientNumber (x .me)) (view cfg x kept es) board) sends sends′ r
+      Answered cfg refusal x (view cfg x kept es) (view cfg (r .state) kept′ es)
+      (protocol.beginClient cfg (clientNumber (x .me)) (view cfg x kept es) board) sends sends′ r
   pub nothing : r .ended ≡ Ended.Nothing
   pub keeps : kept′ ≡ cond (eqb refusal 0) (keeping board kept) kept
+
+-- the protocol's step on the message of a record
+abbrev pub clientStep : Config → State → List ℕ → List ℕ → List ℕ → protocol.Moved (List ℕ) (List ℕ)
+clientStep cfg x message kept es =
+    protocol.clientStep key (element cfg) (decodedPairs cfg) cfg (clientNumber (x .me)) (view cfg x kept es) (messageOf cfg message)
+
+-- a step on a record: how the operation ended, the lent board, touched in no other answer than a read's end, and the elements received,
+-- with that of the record, if it has one, in its server's place
+pub record StepPost (cfg : Config) (refusal : ℕ) (x : State) (message kept es es′ sends sends′ board board′ : List ℕ) (r : Moved) : Type 0 where
+  pub answered :
+      Answered cfg refusal x (view cfg x kept es) (view cfg (r .state) kept es′) (clientStep cfg x message kept es) sends sends′ r
+  pub ended : endedOf (r .ended) board′ ≡ unlessNo refusal (view cfg x kept es) (clientStep cfg x message kept es) .ended
+  pub lent : board′ ≡ shown (unlessNo refusal (view cfg x kept es) (clientStep cfg x message kept es) .ended) board
+  pub elements : es′ ≡ cond (eqb refusal 0) (placed cfg (messageOf cfg message) es) es
 
 -- what a refusal leaves
 pub record Held (x : State) (refusal : ℕ) (r : Moved) : Type 0 where

@@ -9,7 +9,6 @@ use lib.ListN.{length}
 use Rattle.config.specs.declared.Config.{Config}
 use Rattle.config.specs.Config.{Valid}
 use Rattle.config.specs.Number.{serverNumber}
-use Rattle.tag.specs.declared.Tag.{Tag}
 use Rattle.tag.specs.Tag.{key, same}
 use Rattle.record.specs.declared.Header.{Header}
 use Rattle.record.specs.Calls.{limits, withElement}
@@ -43,14 +42,14 @@ pub record Countable (cfg : Config) (phase : Phase) (h : Header) : Type 0 where
   pub within : phaseWithin cfg phase ≡ true
   pub header : limits cfg h ≡ true
 
--- a pre-writing client has the tag of the answer
-abbrev pub HasTag : Phase → Tag → Type 0
-HasTag Idle t = Unit {0}
-HasTag (Asking writes best counted) t = Unit {0}
-HasTag (PreWriting tag counted) t = tag ≡ t
-HasTag (FinalisingWrite tag counted) t = Unit {0}
-HasTag (FinalisingRead tag counted sent) t = Unit {0}
-HasTag Down t = Unit {0}
+-- a pre-writing client has the tag of the answer, which is of kind 4
+abbrev pub HasTag : Phase → Header → Type 0
+HasTag Idle h = Unit {0}
+HasTag (Asking writes best counted) h = Unit {0}
+HasTag (PreWriting tag counted) h = (tag ≡ h .tag) × (kindNumber (h .kind) ≡ 4)
+HasTag (FinalisingWrite tag counted) h = Unit {0}
+HasTag (FinalisingRead tag counted sent) h = Unit {0}
+HasTag Down h = Unit {0}
 
 -- the answer is awaited, and this is the phase with it counted: whatever the buffers and the record's bytes, the element in them too
 pub record Counts (cfg : Config) (phase : Phase) (h : Header) (later : Phase) : Type 0 where
@@ -59,7 +58,7 @@ pub record Counts (cfg : Config) (phase : Phase) (h : Header) (later : Phase) : 
       (kept es bs : List ℕ) → length es ≡ cfg .n * cfg .e → 16 + cfg .e ≤ length bs
       → phaseOf cfg later kept (placed cfg (withElement cfg h bs) es) ≡ counting key (phaseOf cfg phase kept es) (withElement cfg h bs)
   pub within : phaseWithin cfg later ≡ true
-  pub tag : HasTag later (h .tag)
+  pub tag : HasTag later h
 
 -- an answer of the client's operation: the phase with it counted, or none, where the phase does not await it
 abbrev pub PhaseCounted : Config → Phase → Header → Awaited → Type 0

@@ -1,9 +1,9 @@
 // A client begins an operation.
-use super::send::Letter;
-use super::settle;
 use super::Moved;
 use super::Phase;
 use super::State;
+use super::send::Letter;
+use super::settle;
 use config::Config;
 use record::Kind;
 use tag::Tag;

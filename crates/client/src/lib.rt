@@ -8,9 +8,10 @@ ghost use mathlib.Core.List.{List};
 ghost use mathlib.Core.Option.{none, some};
 ghost use Prim.Native.Nat.{ℕ};
 ghost use Rattle.config.specs.Questions.{firstNo};
-ghost use Rattle.client.specs.Calls.{BeginPost, FreshPost, Held};
-ghost use Rattle.client.specs.Questions.{beginReadQuestions, beginWriteQuestions};
+ghost use Rattle.client.specs.Calls.{BeginPost, FreshPost, Held, StepPost};
+ghost use Rattle.client.specs.Questions.{beginReadQuestions, beginWriteQuestions, stepQuestions};
 
+mod answer;
 mod begin;
 mod count;
 mod gather;
@@ -125,8 +126,35 @@ pub fn begin_read(cfg: Config, state: State, sends: &mut [u8]) -> Moved
     begin::begin(cfg, state, false, &nothing, sends)
 }
 
+// The step on a record: questions 1 to 6, 12, 16 and 14. The answer is counted, and the client goes on if it has enough.
+pub fn step(
+    cfg: Config,
+    state: State,
+    message: &[u8],
+    kept: &[u8],
+    elements: &mut [u8],
+    sends: &mut [u8],
+    board: &mut [u8],
+) -> Moved
+    ensures { λ r. ⌜ StepPost cfg (firstNo (stepQuestions cfg state (now (message .entry)) (now (kept .entry)) (now (elements .entry)) (now (sends .entry)) (now (board .entry)))) state (now (message .entry)) (now (kept .entry)) (now (elements .entry)) (now (elements .exit)) (now (sends .entry)) (now (sends .exit)) (now (board .entry)) (now (board .exit)) r ⌝ }
+{
+    let no = questions::step(
+        cfg,
+        state,
+        message.len(),
+        kept.len(),
+        elements.len(),
+        sends.len(),
+        board.len(),
+    );
+    if no != 0 {
+        return held(state, no);
+    }
+    answer::hear(cfg, state, message, kept, elements, sends, board)
+}
+
 // A client that is as it was, with the refusal of a number: nothing is sent and nothing ends.
-fn held(x: State, no: u8) -> Moved
+pub(crate) fn held(x: State, no: u8) -> Moved
     ensures { λ r. ⌜ Held x no r ⌝ }
 {
     Moved {

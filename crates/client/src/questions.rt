@@ -4,15 +4,17 @@ use super::State;
 use super::servers;
 use config::Client;
 use config::Config;
+use record::Header;
 use tag::Tag;
 ghost use mathlib.Core.Path.{_≡_};
 ghost use mathlib.Core.Bool.{_&&_};
 ghost use mathlib.Core.List.{_∷_};
+ghost use lib.Dec.{eqb};
 ghost use Rattle.config.specs.Config.{Valid};
 ghost use Rattle.config.specs.Number.{clientNumber};
 ghost use Rattle.config.specs.Questions.{ask, firstNo, within as inside};
 ghost use Rattle.client.specs.State.{phaseWithin, stateWithin, tagWithin};
-ghost use Rattle.client.specs.Questions.{beginQuestions, idleQuestions, isSends, writeSized};
+ghost use Rattle.client.specs.Questions.{beginQuestions, idleQuestions, isAnswer, isSends, shapeQuestions, stepSized, writeSized};
 
 // Questions 1 to 6, 9, 10 and 11 of begin write: the number of the first that is answered no, or 0.
 pub(crate) fn begin_write(cfg: Config, x: State, board: usize, kept: usize, sends: usize) -> u8
@@ -50,6 +52,71 @@ fn begin(cfg: Config, x: State, sized: bool) -> u8
         return 6;
     }
     idle(x)
+}
+
+// Questions 1 to 6 of a step.
+pub(crate) fn step(
+    cfg: Config,
+    x: State,
+    message: usize,
+    kept: usize,
+    elements: usize,
+    sends: usize,
+    board: usize,
+) -> u8
+    ensures { λ r. ⌜ r ≡ firstNo (shapeQuestions cfg (stepSized cfg message kept elements sends board) x) ⌝ }
+{
+    let no = cfg.ask();
+    if no != 0 {
+        return no;
+    }
+    if !step_sized(cfg, message, kept, elements, sends, board) {
+        return 6;
+    }
+    if !within(cfg, x) {
+        return 6;
+    }
+    0
+}
+
+fn step_sized(
+    cfg: Config,
+    message: usize,
+    kept: usize,
+    elements: usize,
+    sends: usize,
+    board: usize,
+) -> bool
+    requires { ⌜ Valid cfg ⌝ }
+    ensures { λ r. ⌜ r ≡ stepSized cfg message kept elements sends board ⌝ }
+{
+    let v = cfg.k * cfg.e;
+    if message != 80 {
+        return false;
+    }
+    if kept != v {
+        return false;
+    }
+    if elements != cfg.n * cfg.e {
+        return false;
+    }
+    if sends != 80 * cfg.n {
+        return false;
+    }
+    board == v
+}
+
+// Question 16: whether a record is for this client, in a kind that it receives.
+pub(crate) fn is_for(x: State, h: Header) -> bool
+    ensures { λ r. ⌜ r ≡ (eqb (clientNumber (h .client)) (clientNumber (x .me)) && isAnswer (h .kind)) ⌝ }
+{
+    let me = x.me;
+    let client = h.client;
+    if client.number() != me.number() {
+        return false;
+    }
+    let kind = h.kind;
+    kind.number() % 2 == 0
 }
 
 fn write_sized(cfg: Config, board: usize, kept: usize, sends: usize) -> bool

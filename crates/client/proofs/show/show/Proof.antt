@@ -11,15 +11,16 @@ slice-aggregate-decode-2 : tie.Need-slice-aggregate-decode-2
 slice-aggregate-decode-2 c = search needs
 
 decode-requires : tie.Need-decode-requires
-decode-requires c κs = let s = c .before .before .before .before .before in
-    (s .pre,
-    record {
-      valid = s .pre .valid;
-      within = s .pre .within;
-      elements = s .pre .elements;
-      numbers-room = omega (arith, s .pre .valid .k-high, s .pre .valid .n-high);
-      packed-room = board-small (s .args .cfg) (s .pre .valid);
-    })
+decode-requires c κs = let s = c .before .before .before .before .before in (
+  s .pre,
+  record {
+    valid = s .pre .valid;
+    within = s .pre .within;
+    elements = s .pre .elements;
+    numbers-room = omega (arith, s .pre .valid .k-high, s .pre .valid .n-high);
+    packed-room = board-small (s .args .cfg) (s .pre .valid);
+  },
+)
 
 same-length : tie.Need-same-length
 same-length c = search needs

@@ -1,0 +1,15 @@
+pub mod Answers
+pub mod Asked
+pub mod Bounds
+pub mod Counting
+pub mod Elements
+pub mod Gathering
+pub mod Phases
+pub mod Places
+pub mod Present
+pub mod Sending
+pub mod Sets
+pub mod Settling
+pub mod Showing
+pub mod Stepping
+pub mod Tags

@@ -1,0 +1,199 @@
+-- Sets of servers as bits: a server put in or taken out, the bounds of a set, and its size. Assumes nothing.
+use mathlib.Core.Path.{_≡_, refl, sym, ap, ap₂, _∙_, subst, fun-ext}
+use mathlib.Core.Bool.{Bool, true, false, cond, _&&_, true≢false}
+use Prim.Native.Nat.{ℕ, zero, suc, _+_, _-_, _*_, _/_, _%_, _^_, _≤_, _<_}
+use native.Mathlib.Nat.{mod-lt, mod-eq-of-lt, zero-lt-suc, zero-div, div-one, add-comm, le-div-iff-mul-le}
+use native.Mathlib.Numerals.{add-one, one-add}
+use native.Mathlib.Omega.{arith}
+use native.Mathlib.Decide.{decLt, ℕ-discrete}
+use borrow.Author.Tests.{eqb-true, eqb-false, eq-eqb, ne-eqb, ltb-true, lt-ltb}
+use lib.Arith.{bin-ind}
+use lib.Count.{ones, ones-cat}
+use lib.Dec.{eqb, ltb, eqb·suc-suc, eqb·suc-zero, eqb·zero-suc}
+use lib.Pow.{shr-shr, mod-pow-add, pow-mono, pow-pos}
+use Rattle.laws.proofs.Bools.{and-left, and-right}
+use Rattle.history.specs.Number.{upd, count, nobody}
+use Rattle.client.specs.Servers.{member, withinServers}
+
+two-pos : zero < 2
+two-pos = zero-lt-suc 1
+
+-- ---- a bit is that of half the number, one place lower
+
+low : (x : ℕ) → member x 0 ≡ eqb (x % 2) 1
+unfolding member
+low x = ap (λ (n : ℕ). eqb (n % 2) 1) (div-one x)
+
+low-as : (x d : ℕ) → x % 2 ≡ d → member x 0 ≡ eqb d 1
+low-as x d e = low x ∙ ap (λ (n : ℕ). eqb n 1) e
+
+up : (x t : ℕ) → member x (suc t) ≡ member (x / 2) t
+unfolding member
+up x t = ap (λ (n : ℕ). eqb (n % 2) 1) (ap (λ (n : ℕ). x / 2 ^ n) (sym (one-add t)) ∙ sym (shr-shr x 1 t))
+
+up-as : (x y t : ℕ) → x / 2 ≡ y → member x (suc t) ≡ member y t
+up-as x y t e = up x t ∙ ap (λ (n : ℕ). member n t) e
+
+-- the lowest bit, as a remainder
+low-out : (x : ℕ) → member x 0 ≡ false → x % 2 ≡ 0
+low-out x h = let ne = eqb-false (x % 2) 1 (sym (low x) ∙ h) in omega (arith, mod-lt x two-pos)
+
+low-in : (x : ℕ) → member x 0 ≡ true → x % 2 ≡ 1
+low-in x h = eqb-true (x % 2) 1 (sym (low x) ∙ h)
+
+-- the empty set has no member
+pub member-zero : member 0 ≡ nobody
+unfolding member
+member-zero = fun-ext (λ s. ap (λ (n : ℕ). eqb (n % 2) 1) (zero-div (2 ^ s)))
+
+-- a set with server s is at least 2 ^ s
+pub member-le : (s x : ℕ) → member x s ≡ true → 2 ^ s ≤ x
+member-le zero x h = omega (arith, low-in x h)
+member-le (suc s) x h = omega (arith, member-le s (x / 2) (sym (up x s) ∙ h))
+
+-- ---- one server put in or taken out
+
+upd-up : (f g : ℕ → Bool) (s t : ℕ) (b : Bool) → f (suc t) ≡ g t → upd f (suc s) b (suc t) ≡ upd g s b t
+unfolding upd
+upd-up f g s t b e = ap₂ (λ (c d : Bool). cond c b d) (eqb·suc-suc t s) e
+
+put-at : (s x : ℕ) → member x s ≡ false → (t : ℕ) → member (x + 2 ^ s) t ≡ upd (member x) s true t
+unfolding upd
+put-at zero x h zero = low-as (x + 1) 1 (omega (arith, low-out x h))
+put-at zero x h (suc t) =
+    up-as (x + 1) (x / 2) t (omega (arith, low-out x h)) ∙ sym (up x t)
+    ∙ ap (λ (c : Bool). cond c true (member x (suc t))) (sym (eqb·suc-zero t))
+put-at (suc s) x h zero =
+    low-as (x + 2 ^ suc s) (x % 2) (omega arith) ∙ sym (low x)
+    ∙ ap (λ (c : Bool). cond c true (member x 0)) (sym (eqb·zero-suc s))
+put-at (suc s) x h (suc t) =
+    up-as (x + 2 ^ suc s) (x / 2 + 2 ^ s) t (omega arith)
+    ∙ put-at s (x / 2) (sym (up x s) ∙ h) t
+    ∙ sym (upd-up (member x) (member (x / 2)) s t true (up x t))
+
+pub put-in : (s x : ℕ) → member x s ≡ false → member (x + 2 ^ s) ≡ upd (member x) s true
+put-in s x h = fun-ext (put-at s x h)
+
+out-at : (s x : ℕ) → member x s ≡ true → (t : ℕ) → member (x - 2 ^ s) t ≡ upd (member x) s false t
+unfolding upd
+out-at zero x h zero = low-as (x - 1) 0 (omega (arith, low-in x h))
+out-at zero x h (suc t) =
+    up-as (x - 1) (x / 2) t (omega (arith, low-in x h)) ∙ sym (up x t)
+    ∙ ap (λ (c : Bool). cond c false (member x (suc t))) (sym (eqb·suc-zero t))
+out-at (suc s) x h zero =
+    low-as (x - 2 ^ suc s) (x % 2) (omega (arith, member-le (suc s) x h)) ∙ sym (low x)
+    ∙ ap (λ (c : Bool). cond c false (member x 0)) (sym (eqb·zero-suc s))
+out-at (suc s) x h (suc t) =
+    up-as (x - 2 ^ suc s) (x / 2 - 2 ^ s) t (omega (arith, member-le (suc s) x h))
+    ∙ out-at s (x / 2) (sym (up x s) ∙ h) t
+    ∙ sym (upd-up (member x) (member (x / 2)) s t false (up x t))
+
+pub take-out : (s x : ℕ) → member x s ≡ true → member (x - 2 ^ s) ≡ upd (member x) s false
+take-out s x h = fun-ext (out-at s x h)
+
+-- what is there already, or is not
+same-at : (f : ℕ → Bool) (s : ℕ) (b : Bool) → f s ≡ b → (t : ℕ) → f t ≡ upd f s b t
+unfolding upd
+same-at f s b e t = elim (ℕ-discrete t s) as (λ _. f t ≡ cond (eqb t s) b (f t)) [
+  | yes p ↦ ap f p ∙ e ∙ ap (λ (c : Bool). cond c b (f t)) (sym (eq-eqb t s p))
+  | no n ↦ ap (λ (c : Bool). cond c b (f t)) (sym (ne-eqb t s n))
+]
+
+pub upd-same : (f : ℕ → Bool) (s : ℕ) (b : Bool) → f s ≡ b → f ≡ upd f s b
+upd-same f s b e = fun-ext (same-at f s b e)
+
+-- ---- bounds
+
+-- a server below k put into a set below 2 ^ k leaves it there
+pub put-lt : (k s x : ℕ) → s < k → x < 2 ^ k → member x s ≡ false → x + 2 ^ s < 2 ^ k
+put-lt zero s x l b h = absurd (omega arith)
+put-lt (suc k) zero x l b h = omega (arith, low-out x h)
+put-lt (suc k) (suc s) x l b h =
+    let half : x / 2 < 2 ^ k = omega arith in
+    omega (arith, put-lt k s (x / 2) (omega arith) half (sym (up x s) ∙ h))
+
+within-even : (n x : ℕ) → withinServers n x ≡ true → x % 2 ≡ 0
+within-even n x h = eqb-true (x % 2) 0 (and-left (eqb (x % 2) 0) (ltb x (2 ^ (n + 1))) h)
+
+within-lt : (n x : ℕ) → withinServers n x ≡ true → x < 2 ^ (n + 1)
+within-lt n x h = ltb-true x (2 ^ (n + 1)) (and-right (eqb (x % 2) 0) (ltb x (2 ^ (n + 1))) h)
+
+pub within-true : (n x : ℕ) → x % 2 ≡ 0 → x < 2 ^ (n + 1) → withinServers n x ≡ true
+within-true n x e l = rw (eq-eqb (x % 2) 0 e, lt-ltb x (2 ^ (n + 1)) l)
+
+-- every member of such a set is one of 1 to n
+pub within-members : (n x s : ℕ) → withinServers n x ≡ true → member x s ≡ true → (1 ≤ s) × (s ≤ n)
+within-members n x zero w h = absurd (omega (arith, low-in x h, within-even n x w))
+within-members n x (suc s) w h = elim (decLt n (suc s)) as (λ _. (1 ≤ suc s) × (suc s ≤ n)) [
+  | yes l ↦ absurd (omega (arith, member-le (suc s) x h, within-lt n x w, pow-mono {i = n + 1} {j = suc s} (omega arith)))
+  | no m ↦ (omega arith, omega arith)
+]
+
+-- a number that is not 0 has a bit set
+some-bit : (y : ℕ) → 0 < y → (s : ℕ) × (member y s ≡ true)
+some-bit =
+    bin-ind (λ (y : ℕ). 0 < y → (s : ℕ) × (member y s ≡ true)) (λ h. absurd (omega arith))
+    (λ y rest h. elim (ℕ-discrete (y % 2) 1) as (λ _. (s : ℕ) × (member y s ≡ true)) [
+      | yes e ↦ (0, low-as y 1 e)
+      | no n ↦ let r = rest (omega (arith, mod-lt y two-pos)) in (suc (r .0), up y (r .0) ∙ r .1)
+    ])
+
+far : (k x s : ℕ) → member (x / 2 ^ k) s ≡ member x (k + s)
+unfolding member
+far k x s = ap (λ (n : ℕ). eqb (n % 2) 1) (shr-shr x k s)
+
+-- a set with no other members is such a set
+pub members-within : (n x : ℕ) → ((s : ℕ) → member x s ≡ true → (1 ≤ s) × (s ≤ n)) → withinServers n x ≡ true
+members-within n x h = within-true n x even small
+  where
+    even : x % 2 ≡ 0
+    even = elim (ℕ-discrete (x % 2) 1) as (λ _. x % 2 ≡ 0) [
+      | yes e ↦ absurd (omega (arith, h 0 (low-as x 1 e)))
+      | no m ↦ omega (arith, mod-lt x two-pos)
+    ]
+
+    small : x < 2 ^ (n + 1)
+    small = elim (decLt x (2 ^ (n + 1))) as (λ _. x < 2 ^ (n + 1)) [
+      | yes l ↦ l
+      | no m ↦
+          let b = some-bit (x / 2 ^ (n + 1)) (le-div-iff-mul-le (pow-pos (n + 1)) .1 (omega arith)) in
+          absurd (omega (arith, h (n + 1 + b .0) (sym (far (n + 1) x (b .0)) ∙ b .1)))
+    ]
+
+-- ---- size
+
+bit-one : (d : ℕ) → d < 2 → ones d ≡ cond (eqb d 1) 1 0
+unfolding ones
+bit-one zero h = refl
+bit-one (suc zero) h = refl
+bit-one (suc (suc d)) h = absurd (omega arith)
+
+omega-one : (n : ℕ) → 1 + (n + 1) ≡ suc n + 1
+omega-one n = omega arith
+
+count-ones : (n x : ℕ) → x % 2 ≡ 0 → count (member x) n ≡ ones (x % 2 ^ (n + 1))
+unfolding count member ones
+count-ones zero x e = ap ones (sym e)
+count-ones (suc n) x e =
+    ap₂ (λ (a b : ℕ). a + b) (count-ones n x e)
+    (ap (λ (k : ℕ). cond (eqb (x / 2 ^ k % 2) 1) 1 0) (sym (add-one n)) ∙ sym (bit-one (x / 2 ^ (n + 1) % 2) (mod-lt (x / 2 ^ (n + 1)) two-pos)))
+    ∙ add-comm (ones (x % 2 ^ (n + 1))) (ones (x / 2 ^ (n + 1) % 2))
+    ∙ sym (ones-cat (n + 1) (x / 2 ^ (n + 1) % 2) (x % 2 ^ (n + 1)) (mod-lt x (pow-pos (n + 1))))
+    ∙ ap ones (sym (mod-pow-add x 1 (n + 1)) ∙ ap (λ (k : ℕ). x % 2 ^ k) (omega-one n))
+
+-- the size of a set of servers 1 to n is the number of its bits
+pub size-ones : (n x : ℕ) → withinServers n x ≡ true → count (member x) n ≡ ones x
+size-ones n x w = count-ones n x (within-even n x w) ∙ ap ones (mod-eq-of-lt (within-lt n x w))
+
+-- ---- a set changed at one server of 1 to n
+
+put-member : (f : ℕ → Bool) (s : ℕ) (b : Bool) (t : ℕ) → upd f s b t ≡ true → (t ≡ s → ⊥) → f t ≡ true
+unfolding upd
+put-member f s b t h n = rw (ne-eqb t s n) at h
+
+pub put-within : (n x y s : ℕ) (b : Bool) → withinServers n x ≡ true → 1 ≤ s → s ≤ n → member y ≡ upd (member x) s b → withinServers n y ≡ true
+put-within n x y s b w low high e =
+    members-within n y (λ t h. elim (ℕ-discrete t s) as (λ _. (1 ≤ t) × (t ≤ n)) [
+      | yes p ↦ (omega arith, omega arith)
+      | no m ↦ within-members n x t w (put-member (member x) s b t (ap (λ (f : ℕ → Bool). f t) (sym e) ∙ h) m)
+    ])

@@ -1,0 +1,166 @@
+// The client.
+use config::Client;
+use config::Config;
+use config::Refusal;
+use config::Verdict;
+use tag::Tag;
+ghost use mathlib.Core.List.{List};
+ghost use mathlib.Core.Option.{none, some};
+ghost use Prim.Native.Nat.{ℕ};
+ghost use Rattle.config.specs.Questions.{firstNo};
+ghost use Rattle.client.specs.Calls.{BeginPost, FreshPost, Held, StepPost};
+ghost use Rattle.client.specs.Questions.{beginReadQuestions, beginWriteQuestions, stepQuestions};
+
+mod answer;
+mod begin;
+mod count;
+mod gather;
+mod place;
+mod questions;
+mod send;
+mod servers;
+mod settle;
+mod show;
+
+// Where a client stands in its operation. A set of servers is the bits of a number: bit s is server s.
+pub enum Phase {
+    Idle,
+    // It writes or reads; the highest tag answered so far; the servers counted.
+    Asking {
+        writes: bool,
+        best: Tag,
+        counted: u32,
+    },
+    PreWriting {
+        tag: Tag,
+        counted: u32,
+    },
+    FinalisingWrite {
+        tag: Tag,
+        counted: u32,
+    },
+    // The servers that sent an element are a set of their own.
+    FinalisingRead {
+        tag: Tag,
+        counted: u32,
+        sent: u32,
+    },
+    Down,
+}
+
+// A client: its own number, its operation number and its phase.
+pub struct State {
+    pub me: Client,
+    pub operation: u32,
+    pub phase: Phase,
+}
+
+// How an operation ends, if a call ends it. What a read shows is in the lent board.
+pub enum Ended {
+    Nothing,
+    Written(Tag),
+    Spent,
+    Read(Tag),
+}
+
+// What a call leaves: its verdict, the client, how many records stand at the front of the sends, and how the operation ended.
+pub struct Moved {
+    pub verdict: Verdict,
+    pub state: State,
+    pub sent: usize,
+    pub ended: Ended,
+}
+
+// A client, fresh, or why there is none.
+pub enum NewState {
+    Made(State),
+    No(Refusal),
+}
+
+// A fresh client is idle, its operation number 0: questions 1 to 5, and 8, whether the client exists.
+pub fn fresh(cfg: Config, me: Client) -> NewState
+    ensures { λ r. ⌜ FreshPost cfg me r ⌝ }
+{
+    let no = cfg.ask();
+    if no != 0 {
+        return NewState::No(Refusal::of(no));
+    }
+    if !questions::own(cfg, me) {
+        return NewState::No(Refusal::Missing);
+    }
+    let state = State {
+        me,
+        operation: 0,
+        phase: Phase::Idle,
+    };
+    NewState::Made(state)
+}
+
+// Begins to write a board, which the client keeps: questions 1 to 6, 9, 10 and 11.
+pub fn begin_write(
+    cfg: Config,
+    state: State,
+    board: &[u8],
+    kept: &mut [u8],
+    sends: &mut [u8],
+) -> Moved
+    ensures { λ r. ⌜ ((es : List ℕ) → BeginPost cfg (firstNo (beginWriteQuestions cfg state (now (board .entry)) (now (kept .entry)) (now (sends .entry)))) state (some (now (board .entry))) (now (kept .entry)) (now (kept .exit)) es (now (sends .entry)) (now (sends .exit)) r) ⌝ }
+{
+    let no = questions::begin_write(cfg, state, board.len(), kept.len(), sends.len());
+    if no != 0 {
+        return held(state, no);
+    }
+    bytes::copy(board, kept);
+    begin::begin(cfg, state, true, board, sends)
+}
+
+// Begins to read: questions 1 to 6, 9, 10 and 11.
+pub fn begin_read(cfg: Config, state: State, sends: &mut [u8]) -> Moved
+    ensures { λ r. ⌜ ((kept es : List ℕ) → BeginPost cfg (firstNo (beginReadQuestions cfg state (now (sends .entry)))) state none kept kept es (now (sends .entry)) (now (sends .exit)) r) ⌝ }
+{
+    let no = questions::begin_read(cfg, state, sends.len());
+    if no != 0 {
+        return held(state, no);
+    }
+    let nothing = [0u8; 1];
+    begin::begin(cfg, state, false, &nothing, sends)
+}
+
+// The step on a record: questions 1 to 6, 12, 16 and 14. The answer is counted, and the client goes on if it has enough.
+pub fn step(
+    cfg: Config,
+    state: State,
+    message: &[u8],
+    kept: &[u8],
+    elements: &mut [u8],
+    sends: &mut [u8],
+    board: &mut [u8],
+) -> Moved
+    ensures { λ r. ⌜ StepPost cfg (firstNo (stepQuestions cfg state (now (message .entry)) (now (kept .entry)) (now (elements .entry)) (now (sends .entry)) (now (board .entry)))) state (now (message .entry)) (now (kept .entry)) (now (elements .entry)) (now (elements .exit)) (now (sends .entry)) (now (sends .exit)) (now (board .entry)) (now (board .exit)) r ⌝ }
+{
+    let no = questions::step(
+        cfg,
+        state,
+        message.len(),
+        kept.len(),
+        elements.len(),
+        sends.len(),
+        board.len(),
+    );
+    if no != 0 {
+        return held(state, no);
+    }
+    answer::hear(cfg, state, message, kept, elements, sends, board)
+}
+
+// A client that is as it was, with the refusal of a number: nothing is sent and nothing ends.
+pub(crate) fn held(x: State, no: u8) -> Moved
+    ensures { λ r. ⌜ Held x no r ⌝ }
+{
+    Moved {
+        verdict: Verdict::of(no),
+        state: x,
+        sent: 0,
+        ended: Ended::Nothing,
+    }
+}

@@ -237,7 +237,7 @@ pub struct Client {
     pub tag: Tag,
     /// Servers counted in this phase.
     pub counted: Vec<u8>,
-    /// Elements received, by server number.
+    /// Elements received, with their servers.
     pub elements: Vec<(u8, Element)>,
 }
 

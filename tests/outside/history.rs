@@ -1,0 +1,164 @@
+//! Histories, from events and printed answers only, and the search for an order that fits (Wing and
+//! Gong). The search knows operations, bytes and times; it knows no tags.
+
+use crate::maker::List;
+use std::collections::{HashMap, HashSet};
+
+#[derive(Clone, Debug)]
+pub struct Operation {
+    pub write: bool,
+    /// Those handed in at a write's begin, or those that a read shows.
+    pub bytes: Vec<u8>,
+    pub begin: usize,
+    pub end: Option<usize>,
+}
+
+/// Ended reads and writes and unended writes, by begin. Spent ones and unended reads are left out.
+#[derive(Clone, Debug)]
+pub struct History {
+    pub start: Vec<u8>,
+    pub operations: Vec<Operation>,
+}
+
+/// The lines don't print the client whose operation ended, so `list` names it.
+pub fn history(list: &List, lines: &str) -> Result<History, String> {
+    let mut operations: Vec<Operation> = vec![];
+    let mut open: [Option<usize>; 17] = [None; 17];
+    let mut left_out = vec![];
+    for (time, (event, line)) in list.events().zip(lines.lines()).enumerate() {
+        let words: Vec<&str> = line.split(' ').collect();
+        let (code, client) = (event[0], list.named[time] as usize);
+        if words[1] == "ok" && matches!(code, 1 | 2) {
+            open[event[1] as usize] = Some(operations.len());
+            let bytes = if code == 1 { event[4..].to_vec() } else { vec![] };
+            operations.push(Operation { write: code == 1, bytes, begin: time, end: None });
+        } else if matches!(words[1], "written" | "spent" | "read") {
+            let ended = open[client].take().ok_or(format!("nothing open for {client}: {line}"))?;
+            let operation = &mut operations[ended];
+            if operation.write == (words[1] == "read") {
+                return Err(format!("not the operation begun: {line}"));
+            }
+            operation.end = Some(time);
+            match words[1] {
+                "read" => operation.bytes = bytes(words[4]),
+                "written" if words[3] != client.to_string() => {
+                    return Err(format!("not its own tag: {line}"));
+                }
+                "written" => {}
+                _ => left_out.push(ended),
+            }
+        }
+    }
+    let kept = operations.into_iter().enumerate();
+    let kept = kept.filter(|(i, o)| !left_out.contains(i) && (o.write || o.end.is_some()));
+    Ok(History { start: list.start.clone(), operations: kept.map(|(_, o)| o).collect() })
+}
+
+fn bytes(digits: &str) -> Vec<u8> {
+    let pairs = digits.as_bytes().chunks(2);
+    pairs.map(|pair| u8::from_str_radix(std::str::from_utf8(pair).unwrap(), 16).unwrap()).collect()
+}
+
+/// Document 01's own words on an order that fits.
+pub fn fits(history: &History, order: &[usize]) -> bool {
+    let operations = &history.operations;
+    let mut times = vec![0; operations.len()];
+    order.iter().for_each(|i| times[*i] += 1);
+    let each_once = operations.iter().zip(&times).all(|(o, times)| match o.end {
+        Some(_) => *times == 1,
+        None => o.write && *times <= 1,
+    });
+    let ended_before = |a: usize, b: usize| operations[a].end.is_some_and(|end| end < operations[b].begin);
+    let in_time =
+        (0..order.len()).all(|p| order[p + 1..].iter().all(|later| !ended_before(*later, order[p])));
+    let mut state = &history.start;
+    let as_shown = order.iter().all(|i| {
+        let o = &operations[*i];
+        if o.write {
+            state = &o.bytes;
+        }
+        o.write || *state == o.bytes
+    });
+    each_once && in_time && as_shown
+}
+
+struct Search<'a> {
+    operations: &'a [Operation],
+    /// Each operation's bytes as a number.
+    boards: Vec<usize>,
+    /// Ended operations not yet done.
+    left: usize,
+    done: Vec<u64>,
+    order: Vec<usize>,
+    /// Sets of operations done, with the board's state, from which the search has gone on before.
+    tried: HashSet<(Vec<u64>, usize)>,
+}
+
+/// An order that fits, if there is one.
+pub fn search(history: &History) -> Option<Vec<usize>> {
+    let operations = &history.operations;
+    let mut numbers = HashMap::from([(&history.start, 0)]);
+    let boards = operations.iter().map(|o| {
+        let fresh = numbers.len();
+        *numbers.entry(&o.bytes).or_insert(fresh)
+    });
+    let boards = boards.collect();
+    let left = operations.iter().filter(|o| o.end.is_some()).count();
+    let done = vec![0; operations.len().div_ceil(64)];
+    let mut search = Search { operations, boards, left, done, order: vec![], tried: HashSet::new() };
+    search.go(0, 0).then_some(search.order)
+}
+
+impl Search<'_> {
+    fn is_done(&self, i: usize) -> bool {
+        self.done[i / 64] >> (i % 64) & 1 == 1
+    }
+
+    /// Operations that may stand next: none that isn't done ended before they began.
+    fn next(&self, first: usize) -> Vec<usize> {
+        let mut found = vec![];
+        let mut earliest_end = usize::MAX;
+        for i in first..self.operations.len() {
+            let o = &self.operations[i];
+            if o.begin > earliest_end {
+                break;
+            }
+            if !self.is_done(i) {
+                found.push(i);
+                earliest_end = earliest_end.min(o.end.unwrap_or(usize::MAX));
+            }
+        }
+        found
+    }
+
+    /// Everything before `first` is done.
+    fn go(&mut self, mut first: usize, state: usize) -> bool {
+        if self.left == 0 {
+            return true;
+        }
+        if !self.tried.insert((self.done.clone(), state)) {
+            return false;
+        }
+        while self.is_done(first) {
+            first += 1;
+        }
+        for i in self.next(first) {
+            let o = &self.operations[i];
+            if !o.write && self.boards[i] != state {
+                continue;
+            }
+            let ended = o.end.is_some() as usize;
+            let after = if o.write { self.boards[i] } else { state };
+            self.done[i / 64] ^= 1 << (i % 64);
+            self.left -= ended;
+            self.order.push(i);
+            if self.go(first, after) {
+                return true;
+            }
+            self.order.pop();
+            self.left += ended;
+            self.done[i / 64] ^= 1 << (i % 64);
+        }
+        false
+    }
+}

@@ -1,0 +1,75 @@
+//! Tests from outside: the programs `board` and `simulate` against an independent model of document 01.
+//! Called as `board` or `simulate` it is that program, run by the model.
+
+mod checks;
+mod compare;
+mod history;
+mod lists;
+mod maker;
+mod model;
+mod programs;
+mod random;
+mod speed;
+
+use std::io::{self, BufReader, BufWriter, Write};
+use std::path::Path;
+use std::process::exit;
+
+const USAGE: &str = "outside checks
+outside compare SEED LISTS DIRECTORY BOARD SIMULATE
+outside search SEED LISTS
+outside speed SEED DIRECTORY BOARD SIMULATE
+outside edit EDIT SOURCES DIRECTORY";
+
+fn main() {
+    let args: Vec<String> = std::env::args().collect();
+    let called = Path::new(&args[0]).file_name().unwrap_or_default();
+    let (mut input, mut out) =
+        (BufReader::with_capacity(1 << 16, io::stdin()), BufWriter::with_capacity(1 << 16, io::stdout()));
+    if called == "board" {
+        programs::board(&mut input, &mut out).and_then(|()| out.flush()).unwrap();
+        return;
+    }
+    if called == "simulate" {
+        programs::simulate(&mut input, &mut out).and_then(|()| out.flush()).unwrap();
+        return;
+    }
+    let number = |i: usize| args.get(i).and_then(|a| a.parse().ok()).unwrap_or_else(|| usage());
+    let word = |i: usize| args.get(i).map(String::as_str).unwrap_or_else(|| usage());
+    let failed = match word(1) {
+        "checks" => checks::all(),
+        "compare" => compare::compare(number(2), number(3), word(4), word(5), word(6)),
+        "search" => compare::search_all(number(2), number(3)),
+        "speed" => speed::speed(number(2), word(3), word(4), word(5)),
+        "edit" => edit(word(2), word(3), word(4)),
+        _ => usage(),
+    };
+    exit(if failed == 0 { 0 } else { 1 })
+}
+
+fn usage() -> ! {
+    eprintln!("{USAGE}");
+    exit(2)
+}
+
+/// Copies the sources with one line of one of them changed, as the edit says.
+fn edit(edit: &str, sources: &str, directory: &str) -> usize {
+    let text = std::fs::read_to_string(edit).expect("the edit");
+    let field = |name: &str| {
+        let line = text.lines().find_map(|line| line.strip_prefix(name)).expect("a field of the edit");
+        line.strip_prefix(": ").expect("a field's text").trim()
+    };
+    std::fs::create_dir_all(directory).expect("the directory");
+    for entry in std::fs::read_dir(sources).expect("the sources") {
+        let path = entry.expect("a source").path();
+        if path.extension().is_some_and(|e| e == "rs") {
+            let mut source = std::fs::read_to_string(&path).expect("a source");
+            if path.ends_with(field("file")) {
+                assert_eq!(source.matches(field("old")).count(), 1, "{edit}: old text stands once");
+                source = source.replace(field("old"), field("new"));
+            }
+            std::fs::write(Path::new(directory).join(path.file_name().unwrap()), source).expect("a copy");
+        }
+    }
+    0
+}

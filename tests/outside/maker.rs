@@ -1,0 +1,357 @@
+//! Makes a list of events. The model runs along, so that a draw can name what is in flight.
+
+use crate::model::{Answer, Client, Config, Phase, Record, Rig};
+use crate::random::Random;
+
+/// What a program is handed, and what the model knows beyond the lines that it prints.
+pub struct List {
+    /// For `simulate`; else for `board`.
+    pub general: bool,
+    pub input: Vec<u8>,
+    pub config: Config,
+    pub start: Vec<u8>,
+    /// The client that each event's answer names, or 0.
+    pub named: Vec<u8>,
+}
+
+impl List {
+    pub fn events(&self) -> impl Iterator<Item = &[u8]> {
+        let head = if self.general { 7 + self.start.len() } else { 0 };
+        self.input[head..].chunks_exact(4 + self.start.len())
+    }
+}
+
+/// What the lists made so far have met.
+#[derive(Default, Debug)]
+pub struct Seen {
+    pub ok: usize,
+    pub written: usize,
+    pub read: usize,
+    /// By number.
+    pub refused: [usize; 14],
+    pub refused_13_at_handing_over: usize,
+    pub handed_to_crashed: usize,
+    pub not_awaited: usize,
+    pub may_not_answer: usize,
+    pub most_in_flight: usize,
+}
+
+impl Seen {
+    /// Everything that a list can meet has been met.
+    pub fn all(&self) -> bool {
+        let refused = [7, 8, 9, 10, 13].map(|number| self.refused[number]);
+        let handed = [self.handed_to_crashed, self.not_awaited, self.may_not_answer];
+        let counts =
+            [&refused[..], &handed, &[self.ok, self.written, self.read, self.refused_13_at_handing_over]];
+        counts.concat().iter().all(|count| *count > 0) && self.most_in_flight == 512
+    }
+}
+
+#[derive(Clone, Copy)]
+pub enum Order {
+    Any,
+    First,
+    Last,
+}
+
+/// Chances of 1000 for each event, and how clients and positions are chosen.
+#[derive(Clone, Copy)]
+pub struct Mood {
+    pub begin: usize,
+    pub write: usize,
+    pub lose: usize,
+    pub double: usize,
+    pub crash_server: usize,
+    pub crash_client: usize,
+    pub junk: usize,
+    /// Servers crashed, at most.
+    pub crashes: usize,
+    /// Writes open at once, at most.
+    pub writers: usize,
+    /// One operation at a time.
+    pub alone: bool,
+    pub order: Order,
+    /// Each phase gets its messages through to a few servers drawn for it, before all others.
+    pub adverse: bool,
+    /// A board's bytes are all one of so many; 0: any bytes.
+    pub boards: usize,
+    /// First the messages in flight are doubled up to about M.
+    pub fill: bool,
+    /// In the end everything is handed over and each client reads.
+    pub settle: bool,
+}
+
+pub struct Maker<'a> {
+    pub random: &'a mut Random,
+    pub seen: &'a mut Seen,
+    pub mood: Mood,
+    pub rig: Rig,
+    pub list: List,
+    /// Fields that an event doesn't use are drawn; else they are 0.
+    littered: bool,
+    /// For each client: its operation and phase, and the servers that are quick in it, as bits.
+    quick: Vec<(u32, Phase, usize)>,
+}
+
+impl<'a> Maker<'a> {
+    pub fn new(
+        random: &'a mut Random,
+        seen: &'a mut Seen,
+        mood: Mood,
+        config: Config,
+        general: bool,
+    ) -> Self {
+        let start = if general { random.bytes(config.v()) } else { vec![0; config.v()] };
+        let input = if general { [header(&config), start.clone()].concat() } else { vec![] };
+        let rig = Rig::make(config, &start).expect("a configuration in range");
+        let list = List { general, input, config, start, named: vec![] };
+        let littered = random.chance(500);
+        Maker { random, seen, mood, rig, list, littered, quick: vec![(0, Phase::Idle, 0); config.c] }
+    }
+
+    /// Puts an event in the list and has the model run it.
+    fn put(&mut self, code: u8, party: u8, position: usize, board: &[u8]) {
+        self.note(code, position);
+        self.list.input.extend([code, party]);
+        self.list.input.extend((position as u16).to_le_bytes());
+        self.list.input.extend(board);
+        let (met, named) = match self.rig.event(code, party, position, board) {
+            Ok(Answer::Nothing) => (&mut self.seen.ok, 0),
+            Ok(Answer::Written(client, _)) => (&mut self.seen.written, client),
+            Ok(Answer::Read(client, ..)) => (&mut self.seen.read, client),
+            Ok(Answer::Spent(_)) => unreachable!("no list is that long"),
+            Err(number) => {
+                self.seen.refused_13_at_handing_over += (code == 3 && number == 13) as usize;
+                (&mut self.seen.refused[number as usize], 0)
+            }
+        };
+        *met += 1;
+        self.list.named.push(named);
+    }
+
+    /// Notes what a message about to be handed over meets.
+    fn note(&mut self, code: u8, position: usize) {
+        self.seen.most_in_flight = self.seen.most_in_flight.max(self.rig.flight.len());
+        let Some(r) = self.rig.flight.get(position).filter(|_| code == 3) else { return };
+        let server = &self.rig.servers[r.server as usize - 1];
+        let client = &self.rig.clients[r.client as usize - 1];
+        let up = if r.for_server() { server.up } else { client.phase != Phase::Down };
+        let silent = up && r.kind == 7 && server.clone().step(&self.rig.config, r).is_none();
+        self.seen.handed_to_crashed += !up as usize;
+        self.seen.may_not_answer += silent as usize;
+        self.seen.not_awaited += (up && !r.for_server() && !client.awaits(r)) as usize;
+    }
+
+    /// 0 or any number below `most`, for a field that isn't used.
+    fn unused(&mut self, most: usize) -> usize {
+        if self.littered { self.random.below(most) } else { 0 }
+    }
+
+    fn unused_board(&mut self) -> Vec<u8> {
+        (0..self.list.start.len()).map(|_| self.unused(256) as u8).collect()
+    }
+
+    /// An event that names a party.
+    pub fn party(&mut self, code: u8, party: u8) {
+        let (position, board) = (self.unused(65536), self.unused_board());
+        self.put(code, party, position, &board);
+    }
+
+    /// An event that names a position.
+    pub fn position(&mut self, code: u8, position: usize) {
+        let (party, board) = (self.unused(256) as u8, self.unused_board());
+        self.put(code, party, position, &board);
+    }
+
+    pub fn begin(&mut self, client: u8, write: bool) {
+        if !write {
+            return self.party(2, client);
+        }
+        let v = self.list.start.len();
+        let any = self.mood.boards == 0;
+        let board =
+            if any { self.random.bytes(v) } else { vec![self.random.below(self.mood.boards) as u8; v] };
+        let position = self.unused(65536);
+        self.put(1, client, position, &board);
+    }
+
+    fn clients(&self, fit: impl Fn(&Client) -> bool) -> Vec<u8> {
+        self.rig.clients.iter().filter(|client| fit(client)).map(|client| client.number).collect()
+    }
+
+    fn servers(&self, up: bool) -> Vec<u8> {
+        (1..).zip(&self.rig.servers).filter(|(_, server)| server.up == up).map(|(s, _)| s).collect()
+    }
+
+    /// Names one of the parties, if there are any.
+    fn one_of(&mut self, code: u8, parties: &[u8]) -> bool {
+        if !parties.is_empty() {
+            let party = self.random.pick(parties);
+            self.party(code, party);
+        }
+        !parties.is_empty()
+    }
+
+    /// Of its client's present phase, and to or from a server quick in it.
+    fn ready(&self, r: &Record) -> bool {
+        let phases = [Phase::Asking, Phase::PreWriting, Phase::FinalisingWrite, Phase::FinalisingRead];
+        let (operation, phase, quick) = self.quick[r.client as usize - 1];
+        let present = operation == r.operation && phase == phases[(r.kind as usize - 1) / 2];
+        !self.mood.adverse || present && quick >> r.server & 1 == 1
+    }
+
+    fn any_ready(&self) -> bool {
+        self.rig.flight.iter().any(|r| self.ready(r))
+    }
+
+    /// Draws the servers that are quick in a client's phase: a quorum, or often fewer.
+    fn draw_quick(&mut self, client: usize) {
+        let q = self.rig.config.q();
+        let fewer = self.random.pick(&[1, 1, 1, q - 1]);
+        let count = if self.random.chance(350) { fewer } else { q };
+        let mut servers: Vec<usize> = (1..=self.rig.config.n).collect();
+        while servers.len() > count {
+            servers.remove(self.random.below(servers.len()));
+        }
+        let Client { operation, phase, .. } = self.rig.clients[client];
+        self.quick[client] = (operation, phase, servers.iter().map(|s| 1 << s).sum());
+    }
+
+    /// Draws for phases just entered, for others now and then, and for anyone when all wait.
+    fn draw_all_quick(&mut self) {
+        for client in 0..self.rig.config.c {
+            let (operation, phase, _) = self.quick[client];
+            let now = &self.rig.clients[client];
+            if (now.operation, now.phase) != (operation, phase) || self.random.chance(5) {
+                self.draw_quick(client);
+            }
+        }
+        for _ in 0..8 {
+            if self.any_ready() || !self.clients(|client| client.phase == Phase::Idle).is_empty() {
+                break;
+            }
+            let client = self.random.below(self.rig.config.c);
+            self.draw_quick(client);
+        }
+    }
+
+    /// Hands over, loses or doubles a message, one that is ready if there is any.
+    fn message(&mut self, code: u8) {
+        let flight = &self.rig.flight;
+        let mut from: Vec<usize> = (0..flight.len()).filter(|p| self.ready(&flight[*p])).collect();
+        if from.is_empty() || self.random.chance(20) {
+            from = (0..flight.len()).collect();
+        }
+        let position = match self.mood.order {
+            Order::First => from[0],
+            Order::Last => from[from.len() - 1],
+            Order::Any => self.random.pick(&from),
+        };
+        self.position(code, position);
+    }
+
+    /// Codes, parties and positions that no sensible host names.
+    fn junk(&mut self) {
+        let Config { n, c, .. } = self.rig.config;
+        let flight = self.rig.flight.len();
+        let outside = |most: usize| [0, most as u8 + 1, most as u8 + 16, 255];
+        let begin_or_crash = self.random.pick(&[1, 2, 7]);
+        let made = match self.random.below(6) {
+            0 => self.one_of(begin_or_crash, &outside(c)),
+            1 => self.one_of(6, &outside(n)),
+            2 => self.one_of(begin_or_crash.min(2), &self.clients(|client| client.phase != Phase::Idle)),
+            3 => self.one_of(7, &self.clients(|client| client.phase == Phase::Down)),
+            4 => self.one_of(6, &self.servers(false)),
+            _ => false,
+        };
+        let code = self.random.pick(&[0, 3, 4, 5, 8, 128, 255]);
+        let position = self.random.pick(&[flight, flight + 1, flight + 256, 512, 32768, 65535]);
+        if !made {
+            self.position(code, position);
+        }
+    }
+
+    /// Any event, as the mood has it.
+    pub fn any(&mut self) {
+        let mood = self.mood;
+        if mood.adverse {
+            self.draw_all_quick();
+        }
+        if self.random.chance(mood.junk) {
+            return self.junk();
+        }
+        let up = self.servers(true);
+        if up.len() + mood.crashes > self.rig.config.n && self.random.chance(mood.crash_server) {
+            self.one_of(6, &up);
+            return;
+        }
+        let up = self.clients(|client| client.phase != Phase::Down);
+        if self.random.chance(mood.crash_client) && self.one_of(7, &up) {
+            return;
+        }
+        let idle = self.clients(|client| client.phase == Phase::Idle);
+        let may_begin = !idle.is_empty() && (!mood.alone || idle.len() == up.len());
+        if may_begin && (!self.any_ready() || self.random.chance(mood.begin)) {
+            let busy = |client: &Client| !matches!(client.phase, Phase::Idle | Phase::Down);
+            let writers = self.clients(|client| busy(client) && client.board.is_some());
+            let write = writers.len() < mood.writers && self.random.chance(mood.write);
+            let client = self.random.pick(&idle);
+            return self.begin(client, write);
+        }
+        if self.rig.flight.is_empty() {
+            return self.junk();
+        }
+        let lose = self.random.chance(mood.lose);
+        let double = self.random.chance(mood.double);
+        self.message(if lose { 4 } else { 3 + 2 * double as u8 });
+    }
+
+    /// Each client begins, then messages are doubled, nearly to M.
+    pub fn fill(&mut self) {
+        for client in 1..=self.rig.config.c as u8 {
+            let write = self.random.chance(self.mood.write);
+            self.begin(client, write);
+        }
+        let most = self.rig.config.m.saturating_sub(self.random.below(2 * self.rig.config.n));
+        while !self.rig.flight.is_empty() && self.rig.flight.len() < most {
+            let position = self.random.below(self.rig.flight.len());
+            self.position(5, position);
+        }
+    }
+
+    /// Everything is handed over, then each client that is idle reads.
+    pub fn settle(&mut self) {
+        self.mood.adverse = false;
+        self.hand_over_all();
+        for client in self.clients(|client| client.phase == Phase::Idle) {
+            self.begin(client, false);
+            self.hand_over_all();
+        }
+    }
+
+    /// What can't be handed over for lack of room is lost.
+    fn hand_over_all(&mut self) {
+        while !self.rig.flight.is_empty() {
+            let refused = self.seen.refused_13_at_handing_over;
+            self.message(3);
+            if self.seen.refused_13_at_handing_over > refused {
+                self.message(4);
+            }
+        }
+    }
+
+    /// A record of any bytes, small ones mostly.
+    pub fn noise(&mut self) {
+        let mut byte =
+            || if self.random.chance(950) { self.random.below(9) as u8 } else { self.random.byte() };
+        let (code, party, low) = (byte(), byte(), byte());
+        let high = if self.random.chance(950) { 0 } else { self.random.byte() };
+        let board = self.random.bytes(self.list.start.len());
+        self.put(code, party, u16::from_le_bytes([low, high]) as usize, &board);
+    }
+}
+
+pub fn header(config: &Config) -> Vec<u8> {
+    let [n, k, d, e, c] = [config.n, config.k, config.d, config.e, config.c].map(|x| x as u8);
+    [&[n, k, d, e, c], &(config.m as u16).to_le_bytes()[..]].concat()
+}

@@ -1,0 +1,443 @@
+//! An independent model of document 01, from its text alone: field, code, server, client, rig.
+//! A refusal is `Err` with the number of the first question answered no.
+
+use std::sync::LazyLock;
+
+// Configuration
+
+#[derive(Clone, Copy, Debug)]
+pub struct Config {
+    pub n: usize,
+    pub k: usize,
+    pub d: usize,
+    pub e: usize,
+    pub c: usize,
+    pub m: usize,
+}
+
+pub fn ask(yes: bool, number: u8) -> Result<(), u8> {
+    if yes { Ok(()) } else { Err(number) }
+}
+
+impl Config {
+    /// Questions 1 to 5, as the rig puts them.
+    pub fn ask(&self) -> Result<(), u8> {
+        ask((1..=16).contains(&self.n), 1)?;
+        ask((1..=self.n).contains(&self.k), 2)?;
+        ask(self.d <= 7, 3)?;
+        ask((1..=64).contains(&self.e), 4)?;
+        ask((1..=16).contains(&self.c) && (1..=512).contains(&self.m), 5)
+    }
+
+    /// Bytes in a board.
+    pub fn v(&self) -> usize {
+        self.k * self.e
+    }
+
+    /// Servers in a quorum.
+    pub fn q(&self) -> usize {
+        (self.n + self.k).div_ceil(2)
+    }
+}
+
+// Field and code
+
+/// Polynomials modulo hexadecimal 11D, by shift and add.
+pub fn product(a: u8, b: u8) -> u8 {
+    let (mut shifted, mut sum) = (a as u16, 0);
+    for i in 0..8 {
+        if b >> i & 1 == 1 {
+            sum ^= shifted;
+        }
+        shifted <<= 1;
+        if shifted > 255 {
+            shifted ^= 0x11D;
+        }
+    }
+    sum as u8
+}
+
+static PRODUCTS: LazyLock<Vec<[u8; 256]>> =
+    LazyLock::new(|| (0..=255).map(|a| std::array::from_fn(|b| product(a, b as u8))).collect());
+
+/// Zero past E.
+pub type Element = [u8; 64];
+
+/// Adds `factor` times each byte of `from` to `to`.
+fn add_times(to: &mut [u8], factor: u8, from: &[u8]) {
+    let row = &PRODUCTS[factor as usize];
+    for (t, f) in to.iter_mut().zip(from) {
+        *t ^= row[*f as usize];
+    }
+}
+
+/// 1, s, s squared and so on, k of them.
+fn powers(s: u8, k: usize) -> Vec<u8> {
+    std::iter::successors(Some(1), |p| Some(product(*p, s))).take(k).collect()
+}
+
+pub fn encode(config: &Config, board: &[u8], s: u8) -> Element {
+    let mut element = [0; 64];
+    for (part, power) in board.chunks(config.e).zip(powers(s, config.k)) {
+        add_times(&mut element[..config.e], power, part);
+    }
+    element
+}
+
+/// Solves the square of powers for the first k parts, whose server numbers rise strictly.
+pub fn decode(config: &Config, parts: &[(u8, Element)]) -> Vec<u8> {
+    // A row is the powers of a server number, then its element.
+    let mut rows: Vec<Vec<u8>> = parts[..config.k]
+        .iter()
+        .map(|(s, element)| [&powers(*s, config.k), &element[..config.e]].concat())
+        .collect();
+    for i in 0..config.k {
+        let inverse = PRODUCTS[rows[i][i] as usize].iter().position(|p| *p == 1).unwrap();
+        let mut row = vec![0; rows[i].len()];
+        add_times(&mut row, inverse as u8, &rows[i]);
+        for (j, other) in rows.iter_mut().enumerate() {
+            if j != i {
+                let factor = other[i];
+                add_times(other, factor, &row);
+            }
+        }
+        rows[i] = row;
+    }
+    rows.iter().flat_map(|row| &row[config.k..]).copied().collect()
+}
+
+// Tags and records
+
+/// The number decides, then the client number.
+#[derive(Clone, Copy, Debug, PartialEq, Eq, PartialOrd, Ord)]
+#[rustfmt::skip]
+pub struct Tag { pub number: u32, pub client: u8 }
+
+pub const START: Tag = Tag { number: 0, client: 0 };
+
+pub const QUERY: u8 = 1;
+pub const PRE_WRITE: u8 = 3;
+pub const WRITE_FINALISE: u8 = 5;
+pub const READ_FINALISE: u8 = 7;
+
+/// The kind of an answer is 1 above that of what it answers.
+#[derive(Clone, Copy, Debug)]
+pub struct Record {
+    pub kind: u8,
+    pub client: u8,
+    pub server: u8,
+    pub operation: u32,
+    pub tag: Tag,
+    pub element: Option<Element>,
+}
+
+impl Record {
+    pub fn well_formed(&self, config: &Config) -> bool {
+        (1..=8).contains(&self.kind)
+            && (1..=config.c).contains(&(self.client as usize))
+            && (1..=config.n).contains(&(self.server as usize))
+            && self.operation >= 1
+            && self.tag.client as usize <= config.c
+            && (self.tag.number == 0) == (self.tag.client == 0)
+            && (self.kind != QUERY || self.tag == START)
+            && (!(3..=6).contains(&self.kind) || self.tag.client == self.client)
+            && (self.kind == 8 || self.element.is_some() == (self.kind == PRE_WRITE))
+            && self.element.is_none_or(|e| e[config.e..].iter().all(|b| *b == 0))
+    }
+
+    pub fn for_server(&self) -> bool {
+        self.kind % 2 == 1
+    }
+}
+
+// Server
+
+#[derive(Clone, Debug)]
+pub struct Server {
+    pub up: bool,
+    pub highest: Tag,
+    pub floor: Option<Tag>,
+    pub stored: Vec<(Tag, Element)>,
+}
+
+impl Server {
+    pub fn fresh(element: Element) -> Server {
+        Server { up: true, highest: START, floor: None, stored: vec![(START, element)] }
+    }
+
+    fn stored(&self, t: Tag) -> Option<Element> {
+        self.stored.iter().find(|(tag, _)| *tag == t).map(|(_, element)| *element)
+    }
+
+    fn at_or_below_floor(&self, t: Tag) -> bool {
+        self.floor.is_some_and(|floor| t <= floor)
+    }
+
+    /// The answer, or nothing (15).
+    pub fn step(&mut self, config: &Config, r: &Record) -> Option<Record> {
+        let mut answer = Record { kind: r.kind + 1, element: None, ..*r };
+        if matches!(r.kind, WRITE_FINALISE | READ_FINALISE) {
+            self.highest = self.highest.max(r.tag);
+        }
+        match r.kind {
+            QUERY => answer.tag = self.highest,
+            PRE_WRITE => self.pre_write(config, r.tag, r.element.unwrap()),
+            READ_FINALISE => {
+                answer.element = self.stored(r.tag);
+                if answer.element.is_none() && self.at_or_below_floor(r.tag) {
+                    return None;
+                }
+            }
+            _ => {}
+        }
+        Some(answer)
+    }
+
+    fn pre_write(&mut self, config: &Config, t: Tag, element: Element) {
+        if self.stored(t).is_some() || self.at_or_below_floor(t) {
+            return;
+        }
+        self.stored.push((t, element));
+        if self.stored.len() > config.d + 1 {
+            let smallest = self.stored.iter().map(|(tag, _)| *tag).min().unwrap();
+            self.stored.retain(|(tag, _)| *tag != smallest);
+            self.floor = Some(smallest);
+        }
+    }
+}
+
+// Client
+
+#[derive(Clone, Copy, Debug, PartialEq)]
+pub enum Phase {
+    Idle,
+    Asking,
+    PreWriting,
+    FinalisingWrite,
+    FinalisingRead,
+    Down,
+}
+
+/// What an answer leads to.
+pub enum Next {
+    NotAwaited,
+    Count,
+    Send(Phase, Tag),
+    End(Answer),
+}
+
+#[derive(Clone, Debug)]
+pub struct Client {
+    pub number: u8,
+    pub phase: Phase,
+    pub operation: u32,
+    /// The bytes to write; none in a read.
+    pub board: Option<Vec<u8>>,
+    /// Asking: the highest tag answered so far. Afterwards the operation's tag.
+    pub tag: Tag,
+    /// Servers counted in this phase.
+    pub counted: Vec<u8>,
+    /// Elements received, with their servers.
+    pub elements: Vec<(u8, Element)>,
+}
+
+impl Client {
+    pub fn fresh(number: u8) -> Client {
+        let (phase, operation) = (Phase::Idle, 0);
+        Client { number, phase, operation, board: None, tag: START, counted: vec![], elements: vec![] }
+    }
+
+    /// Question 14.
+    pub fn awaits(&self, r: &Record) -> bool {
+        let kind = match self.phase {
+            Phase::Asking => 2,
+            Phase::PreWriting => 4,
+            Phase::FinalisingWrite => 6,
+            Phase::FinalisingRead => 8,
+            Phase::Idle | Phase::Down => return false,
+        };
+        r.kind == kind
+            && r.operation == self.operation
+            && !self.counted.contains(&r.server)
+            && (kind == 2 || r.tag == self.tag)
+    }
+
+    pub fn next(&self, config: &Config, r: &Record) -> Next {
+        if !self.awaits(r) {
+            return Next::NotAwaited;
+        }
+        if self.counted.len() + 1 < config.q() {
+            return Next::Count;
+        }
+        match self.phase {
+            Phase::Asking => {
+                let highest = self.tag.max(r.tag);
+                if self.board.is_none() {
+                    Next::Send(Phase::FinalisingRead, highest)
+                } else if highest.number == u32::MAX {
+                    Next::End(Answer::Spent(self.number))
+                } else {
+                    let tag = Tag { number: highest.number + 1, client: self.number };
+                    Next::Send(Phase::PreWriting, tag)
+                }
+            }
+            Phase::PreWriting => Next::Send(Phase::FinalisingWrite, self.tag),
+            Phase::FinalisingWrite => Next::End(Answer::Written(self.number, self.tag)),
+            _ => {
+                let mut elements = self.elements.clone();
+                elements.extend(r.element.map(|element| (r.server, element)));
+                if elements.len() < config.k {
+                    return Next::Count;
+                }
+                elements.sort_by_key(|(server, _)| *server);
+                Next::End(Answer::Read(self.number, self.tag, decode(config, &elements)))
+            }
+        }
+    }
+
+    fn count(&mut self, r: &Record) {
+        self.counted.push(r.server);
+        self.elements.extend(r.element.map(|element| (r.server, element)));
+        if self.phase == Phase::Asking {
+            self.tag = self.tag.max(r.tag);
+        }
+    }
+
+    /// Enters a phase and sends its records, in server order.
+    fn enter(&mut self, config: &Config, phase: Phase, tag: Tag, flight: &mut Vec<Record>) {
+        (self.phase, self.tag) = (phase, tag);
+        self.counted.clear();
+        self.elements.clear();
+        let kind = match phase {
+            Phase::Asking => QUERY,
+            Phase::PreWriting => PRE_WRITE,
+            Phase::FinalisingWrite => WRITE_FINALISE,
+            _ => READ_FINALISE,
+        };
+        let (client, operation) = (self.number, self.operation);
+        for server in 1..=config.n as u8 {
+            let board = self.board.as_ref().filter(|_| kind == PRE_WRITE);
+            let element = board.map(|board| encode(config, board, server));
+            flight.push(Record { kind, client, server, operation, tag, element });
+        }
+    }
+}
+
+// Rig
+
+/// Each answer but the first names the client whose operation ended.
+#[derive(Clone, Debug, PartialEq)]
+pub enum Answer {
+    Nothing,
+    Written(u8, Tag),
+    Spent(u8),
+    Read(u8, Tag, Vec<u8>),
+}
+
+pub struct Rig {
+    pub config: Config,
+    pub servers: Vec<Server>,
+    pub clients: Vec<Client>,
+    pub flight: Vec<Record>,
+}
+
+impl Rig {
+    pub fn make(config: Config, board: &[u8]) -> Result<Rig, u8> {
+        config.ask()?;
+        ask(board.len() == config.v(), 6)?;
+        let servers = (1..=config.n as u8).map(|s| Server::fresh(encode(&config, board, s)));
+        let clients = (1..=config.c as u8).map(Client::fresh);
+        Ok(Rig { config, servers: servers.collect(), clients: clients.collect(), flight: vec![] })
+    }
+
+    pub fn event(&mut self, code: u8, party: u8, position: usize, board: &[u8]) -> Result<Answer, u8> {
+        match code {
+            1 => self.begin(party, Some(board)),
+            2 => self.begin(party, None),
+            3 => self.hand_over(position),
+            4 => self.lose(position),
+            5 => self.double(position),
+            6 => self.crash_server(party),
+            7 => self.crash_client(party),
+            _ => Err(7),
+        }
+    }
+
+    fn begin(&mut self, party: u8, board: Option<&[u8]>) -> Result<Answer, u8> {
+        ask((1..=self.config.c).contains(&(party as usize)), 8)?;
+        let client = &mut self.clients[party as usize - 1];
+        let up = client.phase != Phase::Down;
+        ask(up, 9)?;
+        ask(client.phase == Phase::Idle, 10)?;
+        ask(client.operation < u32::MAX, 11)?;
+        ask(self.flight.len() + self.config.n <= self.config.m, 13)?;
+        client.operation += 1;
+        client.board = board.map(<[u8]>::to_vec);
+        client.enter(&self.config, Phase::Asking, START, &mut self.flight);
+        Ok(Answer::Nothing)
+    }
+
+    fn hand_over(&mut self, position: usize) -> Result<Answer, u8> {
+        ask(position < self.flight.len(), 8)?;
+        let r = self.flight[position];
+        ask(r.well_formed(&self.config), 12)?;
+        if r.for_server() { self.to_server(position, r) } else { self.to_client(position, r) }
+    }
+
+    /// One leaves and at most one comes, so 13 is never due.
+    fn to_server(&mut self, position: usize, r: Record) -> Result<Answer, u8> {
+        self.flight.remove(position);
+        let server = &mut self.servers[r.server as usize - 1];
+        if server.up {
+            self.flight.extend(server.step(&self.config, &r));
+        }
+        Ok(Answer::Nothing)
+    }
+
+    fn to_client(&mut self, position: usize, r: Record) -> Result<Answer, u8> {
+        let client = &mut self.clients[r.client as usize - 1];
+        let next = client.next(&self.config, &r);
+        let sent = if let Next::Send(..) = next { self.config.n } else { 0 };
+        ask(self.flight.len() - 1 + sent <= self.config.m, 13)?;
+        self.flight.remove(position);
+        match next {
+            Next::NotAwaited => {}
+            Next::Count => client.count(&r),
+            Next::Send(phase, tag) => client.enter(&self.config, phase, tag, &mut self.flight),
+            Next::End(answer) => {
+                client.phase = Phase::Idle;
+                return Ok(answer);
+            }
+        }
+        Ok(Answer::Nothing)
+    }
+
+    fn lose(&mut self, position: usize) -> Result<Answer, u8> {
+        ask(position < self.flight.len(), 8)?;
+        self.flight.remove(position);
+        Ok(Answer::Nothing)
+    }
+
+    fn double(&mut self, position: usize) -> Result<Answer, u8> {
+        ask(position < self.flight.len(), 8)?;
+        ask(self.flight.len() < self.config.m, 13)?;
+        self.flight.push(self.flight[position]);
+        Ok(Answer::Nothing)
+    }
+
+    fn crash_server(&mut self, party: u8) -> Result<Answer, u8> {
+        ask((1..=self.config.n).contains(&(party as usize)), 8)?;
+        let server = &mut self.servers[party as usize - 1];
+        ask(server.up, 9)?;
+        server.up = false;
+        Ok(Answer::Nothing)
+    }
+
+    fn crash_client(&mut self, party: u8) -> Result<Answer, u8> {
+        ask((1..=self.config.c).contains(&(party as usize)), 8)?;
+        let client = &mut self.clients[party as usize - 1];
+        ask(client.phase != Phase::Down, 9)?;
+        client.phase = Phase::Down;
+        Ok(Answer::Nothing)
+    }
+}

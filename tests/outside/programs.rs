@@ -1,0 +1,69 @@
+//! The programs `board` and `simulate` over the model: bytes in, lines out.
+
+use crate::model::{Answer, Config, Rig};
+use std::io::{self, Read, Write};
+
+/// Fills the buffer as far as the input goes; the count of bytes read.
+fn take(input: &mut impl Read, buffer: &mut [u8]) -> io::Result<usize> {
+    let mut got = 0;
+    while got < buffer.len() {
+        match input.read(&mut buffer[got..])? {
+            0 => break,
+            more => got += more,
+        }
+    }
+    Ok(got)
+}
+
+/// The program's configuration; its starting board is 0.
+pub const PROGRAM: Config = Config { n: 3, k: 1, d: 0, e: 1, c: 2, m: 64 };
+
+pub fn board(input: &mut impl Read, out: &mut impl Write) -> io::Result<()> {
+    let rig = Rig::make(PROGRAM, &[0]).expect("the program's configuration");
+    events(rig, input, out)
+}
+
+/// Questions 1 to 5 are put to the header, before the starting board is looked at.
+pub fn simulate(input: &mut impl Read, out: &mut impl Write) -> io::Result<()> {
+    let mut header = [0; 7];
+    if take(input, &mut header)? < 7 {
+        return writeln!(out, "0 short");
+    }
+    let [n, k, d, e, c] = std::array::from_fn(|i| header[i] as usize);
+    let config = Config { n, k, d, e, c, m: u16::from_le_bytes([header[5], header[6]]) as usize };
+    if let Err(number) = config.ask() {
+        return writeln!(out, "0 no {number}");
+    }
+    let mut board = vec![0; config.v()];
+    if take(input, &mut board)? < board.len() {
+        return writeln!(out, "0 short");
+    }
+    events(Rig::make(config, &board).expect("asked above"), input, out)
+}
+
+fn events(mut rig: Rig, input: &mut impl Read, out: &mut impl Write) -> io::Result<()> {
+    let mut record = vec![0; 4 + rig.config.v()];
+    for count in 1u64.. {
+        let got = take(input, &mut record)?;
+        if got < record.len() {
+            return if got == 0 { Ok(()) } else { writeln!(out, "{count} short") };
+        }
+        let position = u16::from_le_bytes([record[2], record[3]]) as usize;
+        match rig.event(record[0], record[1], position, &record[4..]) {
+            Ok(Answer::Nothing) => writeln!(out, "{count} ok")?,
+            Ok(Answer::Written(_, t)) => writeln!(out, "{count} written {} {}", t.number, t.client)?,
+            Ok(Answer::Spent(_)) => writeln!(out, "{count} spent")?,
+            Ok(Answer::Read(_, t, board)) => {
+                writeln!(out, "{count} read {} {} {}", t.number, t.client, digits(&board))?
+            }
+            Err(number) => writeln!(out, "{count} no {number}")?,
+        }
+    }
+    Ok(())
+}
+
+/// Two lower-case hexadecimal digits a byte.
+fn digits(board: &[u8]) -> String {
+    const DIGITS: &[u8; 16] = b"0123456789abcdef";
+    board.iter().flat_map(|b| [b >> 4, b & 15]).map(|d| DIGITS[d as usize] as char).collect()
+}

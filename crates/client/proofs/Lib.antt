@@ -4,12 +4,15 @@ pub mod Bounds
 pub mod Counting
 pub mod Elements
 pub mod Gathering
+pub mod Once
 pub mod Phases
 pub mod Places
 pub mod Present
+pub mod Quorum
 pub mod Sending
 pub mod Sets
 pub mod Settling
 pub mod Showing
 pub mod Stepping
 pub mod Tags
+pub mod Theorems

@@ -4,6 +4,7 @@ use mathlib.Core.Bool.{Bool, true, false, cond, _&&_}
 use mathlib.Core.List.{List, [], _∷_, _++_, append-assoc}
 use mathlib.Core.Option.{none, some}
 use Prim.Native.Nat.{ℕ, min, _+_, _*_, _≤_}
+use native.Mathlib.Decide.{ℕ-discrete}
 use native.Mathlib.Omega.{arith}
 use borrow.Author.Tests.{eq-eqb, ne-eqb, eqb-true, leb-true}
 use lib.Dec.{eqb, leb}
@@ -289,6 +290,14 @@ module _ (cfg : Config) (x : State) (message kept es sends board : List ℕ) whe
       let same : firstNo (stepQuestions cfg x message kept es sends board) ≡ n =
       ap firstNo in-two ∙ firstNo-stop shape (answerQuestions cfg x message kept es) (λ z. stop (e ∙ z)) ∙ sym e in
       as-number same (step-refused cfg x message kept es sends board n r stop (rw e (firstNo-high shape shape-numbered)) h)
+
+  -- where all are answered yes, both parts are
+  pub both-asked : firstNo (stepQuestions cfg x message kept es sends board) ≡ 0
+      → (firstNo shape ≡ 0) × (firstNo (answerQuestions cfg x message kept es) ≡ 0)
+  both-asked h = elim (ℕ-discrete (firstNo shape) 0) as (λ _. (firstNo shape ≡ 0) × (firstNo (answerQuestions cfg x message kept es) ≡ 0)) [
+    | yes z ↦ (z, sym (firstNo-pass shape (answerQuestions cfg x message kept es) shape-numbered z) ∙ sym (ap firstNo in-two) ∙ h)
+    | no s ↦ absurd (s (sym (firstNo-stop shape (answerQuestions cfg x message kept es) s) ∙ sym (ap firstNo in-two) ∙ h))
+  ]
 
   module _ (pass : firstNo shape ≡ 0) where
     pub asked-later : firstNo (stepQuestions cfg x message kept es sends board) ≡ firstNo (answerQuestions cfg x message kept es)

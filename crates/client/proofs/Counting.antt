@@ -36,7 +36,6 @@ use Rattle.client.proofs.Sets.{put-within}
 use Rattle.client.proofs.Tags.{same-key, small}
 
 same-kind : (k : Kind) → tags.kindNumber k ≡ kindNumber k
-
 same-kind Query = refl
 same-kind QueryAnswer = refl
 same-kind PreWrite = refl

@@ -1,5 +1,0 @@
-pub mod Calls
-pub mod Inner
-pub mod Questions
-pub mod Runs
-pub mod View

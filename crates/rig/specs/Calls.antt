@@ -1,0 +1,92 @@
+-- The rig's two calls: what each answers and leaves.
+use Prim.Native.Nat.{ℕ, _-_}
+use mathlib.Core.Bool.{Bool, true, false}
+use mathlib.Core.Path.{_≡_}
+use mathlib.Core.Option.{Option, none, some}
+use mathlib.Core.List.{List, [], _∷_, _++_, map}
+use lib.ListN.{length, drop, getElem?}
+use Rattle.config.specs.declared.Config.{Config}
+use Rattle.config.specs.Number.{clientNumber}
+use Rattle.config.specs.Questions.{firstNo}
+use Rattle.config.specs.Refusal.{numberOf, verdictNumber}
+use Rattle.code.specs.Element.{element}
+use Rattle.record.specs.Message.{Message}
+use Rattle.record.specs.Record.{recordOf}
+use Rattle.history.specs.Board as board
+use Rattle.history.specs.Board.{Call, refused, nothingEnded, writtenBy, spentBy, readBy}
+use Rattle.history.specs.Rig as protocol
+use Rattle.history.specs.Rig.{Code, beginWrite, beginRead, handOver, lose, double, crashServer, crashClient, codeOf, freshRig, listOf, unlessNo, without}
+use Rattle.rig.specs.declared.Answer.{Answer}
+use Rattle.rig.specs.declared.Made.{Made}
+use Rattle.rig.specs.declared.Rig.{Rig}
+use Rattle.rig.specs.declared.Turn.{Turn}
+use Rattle.rig.specs.View.{Lent, flight, view}
+use Rattle.rig.specs.Questions.{eventQuestions, makeQuestions, moveOf, rigKept, sized}
+
+-- the number of a making's verdict, or of its refusal
+abbrev pub makeNo : Config → ℕ → List ℕ → Lent → ℕ
+makeNo cfg m start l = firstNo (makeQuestions cfg m start l)
+
+-- Making a rig of a starting board, with the buffers as they were and as they are left.
+pub record MakePost (cfg : Config) (m : ℕ) (start : List ℕ) (l : Lent) (r : Made) (l′ : Lent) : Type 0 where
+  pub number : verdictNumber (r .verdict) ≡ makeNo cfg m start l
+  -- "It holds fresh servers and clients, a starting board, and the messages in flight": none
+  pub seen : makeNo cfg m start l ≡ 0 → view cfg start (r .rig) l′ ≡ freshRig (element cfg) start
+  -- the rig passes every question about a state
+  pub kept : makeNo cfg m start l ≡ 0 → rigKept cfg m (r .rig) ≡ true
+  pub lengths : sized cfg m l′ ≡ sized cfg m l
+  -- "The first "no" is returned; state and buffers hold their old content"
+  pub held : (makeNo cfg m start l ≡ 0 → ⊥) → l′ ≡ l
+
+-- An answer as the history sees it: a read's bytes are those in the lent buffer when the event returns.
+abbrev pub answerOf : Answer → List ℕ → board.Answer (List ℕ)
+answerOf Answer.Nothing read = nothingEnded
+answerOf (Answer.Written c t) read = writtenBy (clientNumber c) t
+answerOf (Answer.Spent c) read = spentBy (clientNumber c)
+answerOf (Answer.Read c t) read = readBy (clientNumber c) t read
+answerOf (Answer.No why) read = refused (numberOf why)
+
+abbrev pub isRead : Answer → Bool
+isRead Answer.Nothing = false
+isRead (Answer.Written c t) = false
+isRead (Answer.Spent c) = false
+isRead (Answer.Read c t) = true
+isRead (Answer.No why) = false
+
+-- the refusal's number, or 0
+abbrev pub eventNo : Config → ℕ → List ℕ → Rig → Call (List ℕ) → List ℕ → Lent → ℕ
+eventNo cfg m start r a read l = firstNo (eventQuestions cfg m start r a read l)
+
+-- what the protocol's event leaves and answers, or the refusal with all as it was
+abbrev pub outcome : Config → ℕ → List ℕ → Rig → Call (List ℕ) → List ℕ → Lent → protocol.Turn (List ℕ) (List ℕ)
+outcome cfg m start r a read l =
+    unlessNo (view cfg start r l) (moveOf cfg (view cfg start r l) a (codeOf (a .code))) (eventNo cfg m start r a read l)
+
+-- the records in flight after an event that was not refused, with the messages then in flight: those that stay are left byte for
+-- byte, "in order of sending", and what is sent stands at the end
+unfoldable pub recordsAfter : Config → List (List ℕ) → ℕ → List (Message (List ℕ)) → Option Code → List (List ℕ)
+recordsAfter cfg rs i ms none = rs
+recordsAfter cfg rs i ms (some beginWrite) = rs ++ map (recordOf cfg) (drop (length rs) ms)
+recordsAfter cfg rs i ms (some beginRead) = rs ++ map (recordOf cfg) (drop (length rs) ms)
+recordsAfter cfg rs i ms (some handOver) = without i rs ++ map (recordOf cfg) (drop (length rs - 1) ms)
+recordsAfter cfg rs i ms (some lose) = without i rs
+recordsAfter cfg rs i ms (some double) = rs ++ listOf (getElem? rs i)
+recordsAfter cfg rs i ms (some crashServer) = rs
+recordsAfter cfg rs i ms (some crashClient) = rs
+
+-- An event, with the lent buffers as they were and as they are left; the starting board is looked at where there is no server alone.
+pub record EventPost (cfg : Config) (m : ℕ) (start : List ℕ) (r : Rig) (a : Call (List ℕ)) (read : List ℕ) (l : Lent) (t : Turn) (read′ : List ℕ) (l′ : Lent) : Type 0 where
+  -- the refusal, or what the protocol's event answers
+  pub answer : answerOf (t .answer) read′ ≡ outcome cfg m start r a read l .answer
+  -- "A lent buffer, touched in no other answer"
+  pub untouched : isRead (t .answer) ≡ false → read′ ≡ read
+  -- the rig left is what the protocol's event leaves
+  pub seen : view cfg start (t .rig) l′ ≡ outcome cfg m start r a read l .rig
+  -- the records in flight, byte for byte
+  pub records : eventNo cfg m start r a read l ≡ 0
+      → flight (t .rig) l′ ≡ recordsAfter cfg (flight r l) (a .position) (outcome cfg m start r a read l .rig .inFlight) (codeOf (a .code))
+  -- the rig left passes every question about a state
+  pub kept : eventNo cfg m start r a read l ≡ 0 → rigKept cfg m (t .rig) ≡ true
+  pub lengths : sized cfg m l′ ≡ sized cfg m l
+  -- "The first "no" is returned; state and buffers hold their old content"
+  pub held : (eventNo cfg m start r a read l ≡ 0 → ⊥) → (t .rig ≡ r) × (l′ ≡ l)

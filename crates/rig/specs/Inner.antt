@@ -1,0 +1,144 @@
+-- What the inner functions of the rig take and give.
+use Prim.Native.Nat.{ℕ, _+_, _-_, _*_, _≤_, _<_}
+use mathlib.Core.Bool.{Bool, true, false, cond, _&&_}
+use mathlib.Core.Path.{_≡_}
+use mathlib.Core.Option.{Option, none, some}
+use mathlib.Core.List.{List, [], _∷_, _++_}
+use lib.Dec.{eqb}
+use lib.ListN.{length, set, getElem?}
+use Rattle.config.specs.declared.Config.{Config}
+use Rattle.config.specs.declared.Refusal.{Refusal}
+use Rattle.config.specs.declared.Verdict.{Verdict}
+use Rattle.config.specs.Config.{Valid, boardLength, rigQuestions}
+use Rattle.config.specs.Questions.{firstNo}
+use Rattle.config.specs.Refusal.{numberOf}
+use Rattle.client.specs.declared.Moved.{Moved}
+use Rattle.client.specs.declared.Phase.{Phase}
+use Rattle.client.specs.declared.State as client
+use Rattle.client.specs.Questions.{idleQuestions, isUp}
+use Rattle.history.specs.Board.{Call}
+use Rattle.history.specs.Rig.{isWithin, listOf, without}
+use Rattle.rig.specs.declared.Answer.{Answer}
+use Rattle.rig.specs.declared.Rig.{Rig}
+use Rattle.rig.specs.declared.Seat.{Seat}
+use Rattle.rig.specs.declared.Turn.{Turn}
+use Rattle.rig.specs.View.{Lent, place, records}
+use Rattle.rig.specs.Questions.{rigKept, sized}
+use Rattle.rig.specs.Calls.{EventPost}
+
+-- a refusal, with the rig as it was
+abbrev pub refusedFor : Refusal → Rig → Turn
+refusedFor why r = record { answer = Answer.No why; rig = r }
+
+-- nothing ended, and this is the rig
+abbrev pub quiet : Rig → Turn
+quiet r = record { answer = Answer.Nothing; rig = r }
+
+-- the rig with another count
+abbrev pub counted : Rig → ℕ → Rig
+counted r n = record { servers = r .servers; clients = r .clients; count = n }
+
+-- at most m records are in flight, and they are all in the messages
+pub record Flies (m : ℕ) (r : Rig) (messages : List ℕ) : Type 0 where
+  pub most : m ≤ 512
+  pub count : r .count ≤ m
+  pub fits : 80 * r .count ≤ length messages
+  pub room : 80 * m ≤ length messages
+
+pub record LosePost (r : Rig) (i : ℕ) (messages : List ℕ) (t : Turn) (after : List ℕ) : Type 0 where
+  pub missing : r .count ≤ i → (t ≡ refusedFor Refusal.Missing r) × (after ≡ messages)
+  pub lost : i < r .count → (t ≡ quiet (counted r (r .count - 1))) × (records (r .count - 1) after ≡ without i (records (r .count) messages))
+  pub long : length after ≡ length messages
+
+pub record DoublePost (m : ℕ) (r : Rig) (i : ℕ) (messages : List ℕ) (t : Turn) (after : List ℕ) : Type 0 where
+  pub missing : r .count ≤ i → (t ≡ refusedFor Refusal.Missing r) × (after ≡ messages)
+  pub full : i < r .count → m ≤ r .count → (t ≡ refusedFor Refusal.Full r) × (after ≡ messages)
+  pub doubled : i < r .count → r .count < m
+      → (t ≡ quiet (counted r (r .count + 1))) × (records (r .count + 1) after ≡ records (r .count) messages ++ listOf (getElem? (records (r .count) messages) i))
+  pub long : length after ≡ length messages
+
+-- the rig with another in the place of server s
+abbrev pub withSeat : Rig → ℕ → Seat → Rig
+withSeat r s x = record { servers = set (r .servers) (s - 1) x; clients = r .clients; count = r .count }
+
+-- a server that is down: its state is kept
+abbrev pub downSeat : Seat → Seat
+downSeat x = record { state = x .state; up = false }
+
+-- what crashing asks: a valid configuration, and every party in its place
+pub record Seated (cfg : Config) (r : Rig) : Type 0 where
+  pub valid : Valid cfg
+  pub servers : cfg .n ≤ length (r .servers)
+  pub clients : cfg .c ≤ length (r .clients)
+
+pub record CrashServerPost (cfg : Config) (r : Rig) (s : ℕ) (t : Turn) : Type 0 where
+  pub missing : isWithin s (cfg .n) ≡ false → t ≡ refusedFor Refusal.Missing r
+  pub down : (x : Seat) → place (cfg .n) s (r .servers) ≡ some x → x .up ≡ false → t ≡ refusedFor Refusal.Down r
+  pub crashed : (x : Seat) → place (cfg .n) s (r .servers) ≡ some x → x .up ≡ true → t ≡ quiet (withSeat r s (downSeat x))
+
+-- a client that is down
+abbrev pub downState : client.State → client.State
+downState x = record { me = x .me; operation = x .operation; phase = Phase.Down }
+
+-- the rig with another client c
+abbrev pub withClient : Rig → ℕ → client.State → Rig
+withClient r c x = record { servers = r .servers; clients = set (r .clients) (c - 1) x; count = r .count }
+
+pub record CrashClientPost (cfg : Config) (r : Rig) (c : ℕ) (t : Turn) : Type 0 where
+  pub missing : isWithin c (cfg .c) ≡ false → t ≡ refusedFor Refusal.Missing r
+  pub down : (x : client.State) → place (cfg .c) c (r .clients) ≡ some x → isUp (x .phase) ≡ false → t ≡ refusedFor Refusal.Down r
+  pub crashed : (x : client.State) → place (cfg .c) c (r .clients) ≡ some x → isUp (x .phase) ≡ true
+      → t ≡ quiet (withClient r c (downState x))
+
+-- questions 1 to 6 of an event are answered yes
+pub record Ready (cfg : Config) (m : ℕ) (r : Rig) (a : Call (List ℕ)) (read : List ℕ) (l : Lent) : Type 0 where
+  pub five : firstNo (rigQuestions cfg m) ≡ 0
+  pub shape : (eqb (length (a .board)) (boardLength cfg) && eqb (length read) (boardLength cfg) && sized cfg m l && rigKept cfg m r) ≡ true
+
+-- what beginning asks: what those questions show of the rig and the messages
+pub record Beginning (cfg : Config) (m : ℕ) (r : Rig) (messages : List ℕ) : Type 0 where
+  pub valid : Valid cfg
+  pub most : m ≤ 512
+  pub kept : rigKept cfg m r ≡ true
+  pub messages-length : length messages ≡ 80 * m
+
+-- and of the board to write and the boards kept
+pub record Writing (cfg : Config) (m : ℕ) (r : Rig) (board messages boards : List ℕ) : Type 0 where
+  pub beginning : Beginning cfg m r messages
+  pub board-length : length board ≡ boardLength cfg
+  pub boards-length : length boards ≡ cfg .c * boardLength cfg
+
+-- the client of a place has moved, with so many sends
+abbrev pub movedOn : Rig → ℕ → Moved → Rig
+movedOn r i x = record { servers = r .servers; clients = set (r .clients) i (x .state); count = r .count + x .sent }
+
+pub record BegunPost (r : Rig) (i : ℕ) (x : Moved) (t : Turn) : Type 0 where
+  pub refused : (why : Refusal) → x .verdict ≡ Verdict.No why → t ≡ refusedFor why r
+  pub begun : x .verdict ≡ Verdict.Accepted → t ≡ quiet (movedOn r i x)
+
+-- the number of a beginning without room: of 9, 10 and 11 the first that is answered no, or 13
+abbrev pub fullNumber : client.State → ℕ
+fullNumber x = cond (eqb (firstNo (idleQuestions x)) 0) 13 (firstNo (idleQuestions x))
+
+abbrev pub FullPost : client.State → Refusal → Type 0
+FullPost x why = numberOf why ≡ fullNumber x
+
+-- Event 1, whatever else it is handed: where questions 1 to 6 are answered yes, it is the protocol's.
+abbrev pub WritePost : Config → ℕ → Rig → ℕ → List ℕ → List ℕ → List ℕ → Turn → List ℕ → List ℕ → Type 0
+WritePost cfg m r c board messages boards t messages′ boards′ =
+    (start read stores elements : List ℕ) (position : ℕ)
+    → Ready cfg m r (record { code = 1; party = c; position = position; board = board }) read
+    (record { messages = messages; stores = stores; boards = boards; elements = elements })
+    → EventPost cfg m start r (record { code = 1; party = c; position = position; board = board }) read
+    (record { messages = messages; stores = stores; boards = boards; elements = elements })
+    t read (record { messages = messages′; stores = stores; boards = boards′; elements = elements })
+
+-- Event 2, likewise.
+abbrev pub ReadPost : Config → ℕ → Rig → ℕ → List ℕ → Turn → List ℕ → Type 0
+ReadPost cfg m r c messages t messages′ =
+    (start board read stores boards elements : List ℕ) (position : ℕ)
+    → Ready cfg m r (record { code = 2; party = c; position = position; board = board }) read
+    (record { messages = messages; stores = stores; boards = boards; elements = elements })
+    → EventPost cfg m start r (record { code = 2; party = c; position = position; board = board }) read
+    (record { messages = messages; stores = stores; boards = boards; elements = elements })
+    t read (record { messages = messages′; stores = stores; boards = boards; elements = elements })

@@ -5,7 +5,7 @@ use mathlib.Core.Path.{_≡_}
 use mathlib.Core.Option.{Option, none, some}
 use mathlib.Core.List.{List, [], _∷_, _++_}
 use lib.Dec.{eqb}
-use lib.ListN.{length, set, getElem?}
+use lib.ListN.{length, set, getElem?, take, drop}
 use Rattle.config.specs.declared.Config.{Config}
 use Rattle.config.specs.declared.Refusal.{Refusal}
 use Rattle.config.specs.declared.Verdict.{Verdict}
@@ -17,7 +17,9 @@ use Rattle.client.specs.declared.Phase.{Phase}
 use Rattle.client.specs.declared.State as client
 use Rattle.client.specs.Questions.{idleQuestions, isUp}
 use Rattle.history.specs.Board.{Call}
-use Rattle.history.specs.Rig.{isWithin, listOf, without}
+use Rattle.history.specs.Rig.{isForServer, isWithin, listOf, without}
+use Rattle.record.specs.Record.{messageOf, wellFormed}
+use Rattle.server.specs.Calls.{storeLength}
 use Rattle.rig.specs.declared.Answer.{Answer}
 use Rattle.rig.specs.declared.Rig.{Rig}
 use Rattle.rig.specs.declared.Seat.{Seat}
@@ -142,3 +144,65 @@ ReadPost cfg m r c messages t messages′ =
     → EventPost cfg m start r (record { code = 2; party = c; position = position; board = board }) read
     (record { messages = messages; stores = stores; boards = boards; elements = elements })
     t read (record { messages = messages′; stores = stores; boards = boards; elements = elements })
+
+-- the record at a position of the messages
+abbrev pub recordAt : ℕ → List ℕ → List ℕ
+recordAt i messages = take 80 (drop (80 * i) messages)
+
+-- event 3, at a position, with a board handed in that it does not look at
+abbrev pub handing : ℕ → ℕ → List ℕ → Call (List ℕ)
+handing party i board = record { code = 3; party = party; position = i; board = board }
+
+-- Event 3 of a well-formed record: what the questions before showed, where at most `most` may be in flight.
+pub record Handing (cfg : Config) (r : Rig) (i : ℕ) (bytes messages : List ℕ) : Type 0 where
+  pub most : ℕ
+  pub most-high : most ≤ 512
+  pub valid : Valid cfg
+  pub kept : rigKept cfg most r ≡ true
+  pub inside : i < r .count
+  pub stands : bytes ≡ recordAt i messages
+  pub well : wellFormed cfg bytes ≡ true
+  pub messages-length : length messages ≡ 80 * most
+
+-- it is for server s
+pub record Serving (cfg : Config) (r : Rig) (i s : ℕ) (bytes messages stores : List ℕ) : Type 0 where
+  pub handing : Handing cfg r i bytes messages
+  pub kind : isForServer (messageOf cfg bytes .kind) ≡ true
+  pub server : messageOf cfg bytes .server ≡ s
+  pub stores-length : length stores ≡ cfg .n * storeLength cfg
+
+-- it is for client c
+pub record Answering (cfg : Config) (r : Rig) (i c : ℕ) (bytes read messages boards elements : List ℕ) : Type 0 where
+  pub handing : Handing cfg r i bytes messages
+  pub kind : isForServer (messageOf cfg bytes .kind) ≡ false
+  pub client : messageOf cfg bytes .client ≡ c
+  pub read-length : length read ≡ boardLength cfg
+  pub boards-length : length boards ≡ cfg .c * boardLength cfg
+  pub elements-length : length elements ≡ cfg .c * (cfg .n * cfg .e)
+
+-- Event 3 to a server: where questions 1 to 6 are answered yes, it is the protocol's.
+abbrev pub ServePost : Config → Rig → ℕ → List ℕ → List ℕ → Turn → List ℕ → List ℕ → Type 0
+ServePost cfg r i messages stores t messages′ stores′ =
+    (m : ℕ) (start board read boards elements : List ℕ) (party : ℕ)
+    → Ready cfg m r (handing party i board) read (record { messages = messages; stores = stores; boards = boards; elements = elements })
+    → EventPost cfg m start r (handing party i board) read
+    (record { messages = messages; stores = stores; boards = boards; elements = elements })
+    t read (record { messages = messages′; stores = stores′; boards = boards; elements = elements })
+
+-- Event 3 to a client, likewise.
+abbrev pub AnswerPost : Config → ℕ → Rig → ℕ → List ℕ → List ℕ → List ℕ → List ℕ → Turn → List ℕ → List ℕ → List ℕ → Type 0
+AnswerPost cfg m r i read messages boards elements t read′ messages′ elements′ =
+    (start board stores : List ℕ) (party : ℕ)
+    → Ready cfg m r (handing party i board) read (record { messages = messages; stores = stores; boards = boards; elements = elements })
+    → EventPost cfg m start r (handing party i board) read
+    (record { messages = messages; stores = stores; boards = boards; elements = elements })
+    t read′ (record { messages = messages′; stores = stores; boards = boards; elements = elements′ })
+
+-- Event 3, whatever else it is handed.
+abbrev pub HandPost : Config → ℕ → Rig → ℕ → List ℕ → List ℕ → List ℕ → List ℕ → List ℕ → Turn → List ℕ → List ℕ → List ℕ → List ℕ → Type 0
+HandPost cfg m r i read messages stores boards elements t read′ messages′ stores′ elements′ =
+    (start board : List ℕ) (party : ℕ)
+    → Ready cfg m r (handing party i board) read (record { messages = messages; stores = stores; boards = boards; elements = elements })
+    → EventPost cfg m start r (handing party i board) read
+    (record { messages = messages; stores = stores; boards = boards; elements = elements })
+    t read′ (record { messages = messages′; stores = stores′; boards = boards; elements = elements′ })

@@ -16,14 +16,14 @@ use Rattle.code.specs.Decoded.{decodedPairs}
 use Rattle.history.specs.Board.{Answer, Call, Event, Atomic}
 use Rattle.history.specs.Rig as protocol
 use Rattle.history.specs.Rig.{Code, codeOf, unlessNo, fresh, moves, refuses}
-use Rattle.history.proofs.Theorem as protocolTheorem
+use Rattle.history.specs.Boards.{IsBoard}
+use Rattle.history.proofs.Boards as boards
 use Rattle.rig.specs.declared.Rig.{Rig}
 use Rattle.rig.specs.View.{Lent, flight, view}
 use Rattle.rig.specs.Questions.{codeQuestions, eventQuestions, makeQuestions, moveOf}
 use Rattle.rig.specs.Calls.{answerOf, eventNo, outcome}
-use Rattle.rig.specs.Runs.{IsBoard, Runs, made, event}
+use Rattle.rig.specs.Runs.{Runs, made, event}
 use Rattle.rig.proofs.Asked.{event-board, event-later, make-board, make-valid, party-asked}
-use Rattle.rig.proofs.Parameters.{coding, tag-order}
 
 abbrev eventOf : Call (List ℕ) → Answer (List ℕ) → Event (List ℕ)
 eventOf a x = record { call = a; answer = x }
@@ -73,5 +73,4 @@ module _ (cfg : Config) (m : ℕ) (start : List ℕ) where
   pub atomic : {r : Rig} {l : Lent} {events : List (Event (List ℕ))} → Runs cfg m start r l events → Atomic key start events
   atomic runs =
       let o = origin runs in
-      protocolTheorem.atomic cfg key (tag-order cfg (o .0)) (IsBoard cfg) (element cfg) (decodedPairs cfg) (coding cfg (o .0))
-      (o .0 .k-low) start (o .1) (seen runs)
+      boards.atomic cfg (o .0) start (o .1) (seen runs)

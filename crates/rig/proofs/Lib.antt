@@ -1,3 +1,4 @@
+pub mod Accepted
 pub mod Always
 pub mod Asked
 pub mod Atomic
@@ -10,7 +11,6 @@ pub mod Handed
 pub mod Moved
 pub mod Numbered
 pub mod Opened
-pub mod Parameters
 pub mod Parties
 pub mod Places
 pub mod Quiet
@@ -18,4 +18,5 @@ pub mod Records
 pub mod Shaped
 pub mod Sizes
 pub mod Starts
+pub mod Taken
 pub mod Turned

@@ -1,28 +1,31 @@
 -- The head of an event: what the answer to questions 1 to 6 says of the whole list of questions, and 7.
-use Prim.Native.Nat.{ℕ}
+use Prim.Native.Nat.{ℕ, _≤_}
 use mathlib.Core.Path.{_≡_, refl, sym, ap, _∙_}
 use mathlib.Core.Bool.{Bool, true, false, cond, _&&_}
 use mathlib.Core.Option.{Option, none, some}
 use mathlib.Core.List.{List, [], _∷_, _++_, append-assoc}
 use native.Mathlib.Omega.{arith}
-use borrow.Author.Tests.{ne-eqb}
+use borrow.Author.Tests.{eqb-true, ne-eqb}
 use lib.Dec.{eqb}
 use lib.ListN.{length}
 use Rattle.config.specs.declared.Config.{Config}
 use Rattle.config.specs.declared.Refusal.{Refusal}
-use Rattle.config.specs.Config.{boardLength, rigQuestions}
-use Rattle.config.specs.Questions.{ask, firstNo}
-use Rattle.config.specs.Refusal.{numberOf}
-use Rattle.config.proofs.Questions.{firstNo-stop}
+use Rattle.laws.proofs.Bools.{and-left, and-right}
+use Rattle.config.specs.Config.{boardLength, questions, rigQuestions}
+use Rattle.config.specs.Questions.{ask, firstNo, numbered}
+use Rattle.config.specs.Refusal.{clamped, numberOf}
+use Rattle.config.proofs.Questions.{firstNo-high, firstNo-stop}
 use Rattle.history.specs.Board.{Call}
 use Rattle.history.specs.Rig.{codeOf}
 use Rattle.rig.specs.declared.Rig.{Rig}
-use Rattle.rig.specs.View.{Lent, flight, view}
-use Rattle.rig.specs.Questions.{codeQuestions, eventQuestions, rigKept, sized}
-use Rattle.rig.specs.Calls.{EventPost, eventNo}
-use Rattle.rig.specs.Inner.{Ready, refusedFor}
+use Rattle.rig.specs.View.{Lent, flight, lent, view}
+use Rattle.rig.specs.Questions.{codeQuestions, eventQuestions, rigKept, sized, sizedBy}
+use Rattle.rig.specs.Calls.{EventPost, called, eventNo}
+use Rattle.rig.specs.Inner.{Accepting, Ready, refusedFor}
 use Rattle.rig.proofs.Asked.{none-first, six}
 use Rattle.rig.proofs.Quiet.{number-is}
+use Rattle.rig.proofs.Shaped.{five-most, five-valid}
+use Rattle.rig.proofs.Sizes.{boards-are, elements-are, messages-are, stores-are}
 use Rattle.rig.proofs.Turned.{refused-post}
 
 module _ (cfg : Config) (m : ℕ) (start : List ℕ) (r : Rig) (a : Call (List ℕ)) (read : List ℕ) (l : Lent) where
@@ -50,6 +53,48 @@ module _ (cfg : Config) (m : ℕ) (start : List ℕ) (r : Rig) (a : Call (List �
       refused-post cfg m start r a read l Refusal.Event 7
       (number-is cfg m start r a read l ready ∙ ap (λ w. firstNo (codeQuestions cfg m (view cfg start r l) (flight r l) a w)) e) (λ z. omega (arith, z)) refl
       (refusedFor Refusal.Event r) read l refl refl refl
+
+-- what those questions show
+module _ (cfg : Config) (m : ℕ) (r : Rig) (code party position : ℕ) (board read messages stores boards elements : List ℕ)
+    (ready : Ready cfg m r (called code party position board) read (lent messages stores boards elements)) where
+  abbrev A : Bool
+  A = eqb (length board) (boardLength cfg)
+
+  abbrev B : Bool
+  B = eqb (length read) (boardLength cfg)
+
+  abbrev S : Bool
+  S = sizedBy cfg m (length messages) (length stores) (length boards) (length elements)
+
+  sizes : S ≡ true
+  sizes = and-right (A && B) S (and-left (A && B && S) (rigKept cfg m r) (ready .shape))
+
+  both : (A && B) ≡ true
+  both = and-left (A && B) S (and-left (A && B && S) (rigKept cfg m r) (ready .shape))
+
+  pub accepting : Accepting cfg m r board read messages stores boards elements
+  accepting =
+      record {
+        holding = record {
+          valid = five-valid cfg m 0 (sym (ready .five)) refl;
+          most = five-most cfg m 0 (sym (ready .five)) refl;
+          kept = and-right (A && B && S) (rigKept cfg m r) (ready .shape);
+          read-length = eqb-true (length read) (boardLength cfg) (and-right A B both);
+          messages-length = messages-are cfg m (length messages) (length stores) (length boards) (length elements) sizes;
+          stores-length = stores-are cfg m (length messages) (length stores) (length boards) (length elements) sizes;
+          boards-length = boards-are cfg m (length messages) (length stores) (length boards) (length elements) sizes;
+          elements-length = elements-are cfg m (length messages) (length stores) (length boards) (length elements) sizes;
+        };
+        board-length = eqb-true (length board) (boardLength cfg) (and-left A B both);
+      }
+
+-- the number of 1 to 6 is that of a refusal
+pub six-number : (cfg : Config) (m : ℕ) (holds : Bool) (got : ℕ) (why : Refusal) → got ≡ firstNo (rigQuestions cfg m ++ ask 6 holds ∷ []) → (got ≡ 0 → ⊥)
+    → numberOf why ≡ clamped got → numberOf why ≡ firstNo (rigQuestions cfg m ++ ask 6 holds ∷ [])
+unfolding numbered rigQuestions questions
+six-number cfg m holds got why e ne w =
+    let high : firstNo (rigQuestions cfg m ++ ask 6 holds ∷ []) ≤ 18 = firstNo-high (rigQuestions cfg m ++ ask 6 holds ∷ []) refl in
+    omega (arith, w, e, ne, high)
 
 -- there are seven events
 pub no-code : (n : ℕ) → (n ≡ 1 → ⊥) → (n ≡ 2 → ⊥) → (n ≡ 3 → ⊥) → (n ≡ 4 → ⊥) → (n ≡ 5 → ⊥) → (n ≡ 6 → ⊥) → (n ≡ 7 → ⊥) → codeOf n ≡ none

@@ -53,6 +53,10 @@ isRead (Answer.Spent c) = false
 isRead (Answer.Read c t) = true
 isRead (Answer.No why) = false
 
+-- an event as it is called: its code, party and position, and the board handed in
+abbrev pub called : ℕ → ℕ → ℕ → List ℕ → Call (List ℕ)
+called code party position board = record { code = code; party = party; position = position; board = board }
+
 -- the refusal's number, or 0
 abbrev pub eventNo : Config → ℕ → List ℕ → Rig → Call (List ℕ) → List ℕ → Lent → ℕ
 eventNo cfg m start r a read l = firstNo (eventQuestions cfg m start r a read l)

@@ -24,9 +24,9 @@ use Rattle.rig.specs.declared.Answer.{Answer}
 use Rattle.rig.specs.declared.Rig.{Rig}
 use Rattle.rig.specs.declared.Seat.{Seat}
 use Rattle.rig.specs.declared.Turn.{Turn}
-use Rattle.rig.specs.View.{Lent, place, records}
+use Rattle.rig.specs.View.{Lent, lent, place, records}
 use Rattle.rig.specs.Questions.{rigKept, sized}
-use Rattle.rig.specs.Calls.{EventPost}
+use Rattle.rig.specs.Calls.{EventPost, called}
 
 -- a refusal, with the rig as it was
 abbrev pub refusedFor : Refusal → Rig → Turn
@@ -129,21 +129,42 @@ FullPost x why = numberOf why ≡ fullNumber x
 abbrev pub WritePost : Config → ℕ → Rig → ℕ → List ℕ → List ℕ → List ℕ → Turn → List ℕ → List ℕ → Type 0
 WritePost cfg m r c board messages boards t messages′ boards′ =
     (start read stores elements : List ℕ) (position : ℕ)
-    → Ready cfg m r (record { code = 1; party = c; position = position; board = board }) read
-    (record { messages = messages; stores = stores; boards = boards; elements = elements })
-    → EventPost cfg m start r (record { code = 1; party = c; position = position; board = board }) read
-    (record { messages = messages; stores = stores; boards = boards; elements = elements })
-    t read (record { messages = messages′; stores = stores; boards = boards′; elements = elements })
+    → Ready cfg m r (called 1 c position board) read
+    (lent messages stores boards elements)
+    → EventPost cfg m start r (called 1 c position board) read
+    (lent messages stores boards elements)
+    t read (lent messages′ stores boards′ elements)
 
 -- Event 2, likewise.
 abbrev pub ReadPost : Config → ℕ → Rig → ℕ → List ℕ → Turn → List ℕ → Type 0
 ReadPost cfg m r c messages t messages′ =
     (start board read stores boards elements : List ℕ) (position : ℕ)
-    → Ready cfg m r (record { code = 2; party = c; position = position; board = board }) read
-    (record { messages = messages; stores = stores; boards = boards; elements = elements })
-    → EventPost cfg m start r (record { code = 2; party = c; position = position; board = board }) read
-    (record { messages = messages; stores = stores; boards = boards; elements = elements })
-    t read (record { messages = messages′; stores = stores; boards = boards; elements = elements })
+    → Ready cfg m r (called 2 c position board) read
+    (lent messages stores boards elements)
+    → EventPost cfg m start r (called 2 c position board) read
+    (lent messages stores boards elements)
+    t read (lent messages′ stores boards elements)
+
+-- what every event asks: what questions 1 to 6 show of the rig and of the lent buffers
+pub record Holding (cfg : Config) (m : ℕ) (r : Rig) (read messages stores boards elements : List ℕ) : Type 0 where
+  pub valid : Valid cfg
+  pub most : m ≤ 512
+  pub kept : rigKept cfg m r ≡ true
+  pub read-length : length read ≡ boardLength cfg
+  pub messages-length : length messages ≡ 80 * m
+  pub stores-length : length stores ≡ cfg .n * storeLength cfg
+  pub boards-length : length boards ≡ cfg .c * boardLength cfg
+  pub elements-length : length elements ≡ cfg .c * (cfg .n * cfg .e)
+
+-- and of the board handed in
+pub record Accepting (cfg : Config) (m : ℕ) (r : Rig) (board read messages stores boards elements : List ℕ) : Type 0 where
+  pub holding : Holding cfg m r read messages stores boards elements
+  pub board-length : length board ≡ boardLength cfg
+
+-- An event: where questions 1 to 6 are answered yes, it is the protocol's.
+abbrev pub AcceptPost : Config → ℕ → Rig → Call (List ℕ) → List ℕ → Lent → Turn → List ℕ → Lent → Type 0
+AcceptPost cfg m r a read l t read′ l′ =
+    (start : List ℕ) → Ready cfg m r a read l → EventPost cfg m start r a read l t read′ l′
 
 -- the record at a position of the messages
 abbrev pub recordAt : ℕ → List ℕ → List ℕ
@@ -151,7 +172,7 @@ recordAt i messages = take 80 (drop (80 * i) messages)
 
 -- event 3, at a position, with a board handed in that it does not look at
 abbrev pub handing : ℕ → ℕ → List ℕ → Call (List ℕ)
-handing party i board = record { code = 3; party = party; position = i; board = board }
+handing party i board = called 3 party i board
 
 -- Event 3 of a well-formed record: what the questions before showed, where at most `most` may be in flight.
 pub record Handing (cfg : Config) (r : Rig) (i : ℕ) (bytes messages : List ℕ) : Type 0 where
@@ -184,25 +205,25 @@ pub record Answering (cfg : Config) (r : Rig) (i c : ℕ) (bytes read messages b
 abbrev pub ServePost : Config → Rig → ℕ → List ℕ → List ℕ → Turn → List ℕ → List ℕ → Type 0
 ServePost cfg r i messages stores t messages′ stores′ =
     (m : ℕ) (start board read boards elements : List ℕ) (party : ℕ)
-    → Ready cfg m r (handing party i board) read (record { messages = messages; stores = stores; boards = boards; elements = elements })
+    → Ready cfg m r (handing party i board) read (lent messages stores boards elements)
     → EventPost cfg m start r (handing party i board) read
-    (record { messages = messages; stores = stores; boards = boards; elements = elements })
-    t read (record { messages = messages′; stores = stores′; boards = boards; elements = elements })
+    (lent messages stores boards elements)
+    t read (lent messages′ stores′ boards elements)
 
 -- Event 3 to a client, likewise.
 abbrev pub AnswerPost : Config → ℕ → Rig → ℕ → List ℕ → List ℕ → List ℕ → List ℕ → Turn → List ℕ → List ℕ → List ℕ → Type 0
 AnswerPost cfg m r i read messages boards elements t read′ messages′ elements′ =
     (start board stores : List ℕ) (party : ℕ)
-    → Ready cfg m r (handing party i board) read (record { messages = messages; stores = stores; boards = boards; elements = elements })
+    → Ready cfg m r (handing party i board) read (lent messages stores boards elements)
     → EventPost cfg m start r (handing party i board) read
-    (record { messages = messages; stores = stores; boards = boards; elements = elements })
-    t read′ (record { messages = messages′; stores = stores; boards = boards; elements = elements′ })
+    (lent messages stores boards elements)
+    t read′ (lent messages′ stores boards elements′)
 
 -- Event 3, whatever else it is handed.
 abbrev pub HandPost : Config → ℕ → Rig → ℕ → List ℕ → List ℕ → List ℕ → List ℕ → List ℕ → Turn → List ℕ → List ℕ → List ℕ → List ℕ → Type 0
 HandPost cfg m r i read messages stores boards elements t read′ messages′ stores′ elements′ =
     (start board : List ℕ) (party : ℕ)
-    → Ready cfg m r (handing party i board) read (record { messages = messages; stores = stores; boards = boards; elements = elements })
+    → Ready cfg m r (handing party i board) read (lent messages stores boards elements)
     → EventPost cfg m start r (handing party i board) read
-    (record { messages = messages; stores = stores; boards = boards; elements = elements })
-    t read′ (record { messages = messages′; stores = stores′; boards = boards; elements = elements′ })
+    (lent messages stores boards elements)
+    t read′ (lent messages′ stores′ boards elements′)

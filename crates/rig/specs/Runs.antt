@@ -2,9 +2,7 @@
 use Prim.Native.Nat.{ℕ}
 use mathlib.Core.Path.{_≡_}
 use mathlib.Core.List.{List, [], _∷_, _++_}
-use lib.ListN.{length}
 use Rattle.config.specs.declared.Config.{Config}
-use Rattle.config.specs.Config.{boardLength}
 use Rattle.config.specs.Refusal.{verdictNumber}
 use Rattle.code.specs.Lists.{Bytes}
 use Rattle.history.specs.Board.{Call, Event}
@@ -13,10 +11,6 @@ use Rattle.rig.specs.declared.Rig.{Rig}
 use Rattle.rig.specs.declared.Turn.{Turn}
 use Rattle.rig.specs.View.{Lent}
 use Rattle.rig.specs.Calls.{MakePost, EventPost, answerOf}
-
--- V bytes
-abbrev pub IsBoard : Config → List ℕ → Type 0
-IsBoard cfg v = (length v ≡ boardLength cfg) × Bytes v
 
 -- A list of events, from a making, with the rig and the buffers as its last event left them.
 pub data Runs (cfg : Config) (m : ℕ) (start : List ℕ) : Rig → Lent → List (Event (List ℕ)) → Type 0 where

@@ -32,6 +32,9 @@ pub record Lent : Type 0 where
   -- the elements that clients have received, N × E each
   pub elements : List ℕ
 
+abbrev pub lent : List ℕ → List ℕ → List ℕ → List ℕ → Lent
+lent messages stores boards elements = record { messages = messages; stores = stores; boards = boards; elements = elements }
+
 -- part i of a buffer of parts of n bytes
 abbrev pub part : ℕ → ℕ → List ℕ → List ℕ
 part n i bytes = take n (drop (i * n) bytes)

@@ -43,7 +43,7 @@ pub(crate) fn lay(messages: &mut [u8], at: usize, bytes: [u8; 80])
 
 // Event 4: "lose it". Question 8.
 pub(crate) fn lose(mut rig: Rig, position: usize, messages: &mut [u8]) -> Turn
-    requires { ⌜ Flies 512 rig (now messages) ⌝ }
+    requires { ⌜ Flies (rig .count) rig (now messages) ⌝ }
     ensures { λ r. ⌜ LosePost rig position (now (messages .entry)) r (now (messages .exit)) ⌝ }
 {
     let count = rig.count;

@@ -2,16 +2,25 @@
 // each call: the messages in flight (80 × M), the servers' stores, the boards that clients keep to write and the elements that
 // they have received, each the parties' parts joined in order of their numbers. Every function is proved, nothing is assumed,
 // and no public function has a `requires`.
+mod accept;
 mod begin;
 mod crash;
 mod flight;
+mod hand;
+mod hear;
 mod kept;
 mod questions;
+mod serve;
 
 use config::Client;
+use config::Config;
 use config::Refusal;
 use config::Verdict;
 use tag::Tag;
+ghost use Prim.Native.Nat.{ℕ};
+ghost use mathlib.Core.List.{List};
+ghost use Rattle.rig.specs.Calls.{EventPost, called};
+ghost use Rattle.rig.specs.View.{lent};
 
 // A server in its place: its state, and whether it is up. A crash keeps the state.
 pub struct Seat {
@@ -48,4 +57,55 @@ pub struct Turn {
 pub struct Made {
     pub verdict: Verdict,
     pub rig: Rig,
+}
+
+// An event of the rig: questions 1 to 13. `board` is the board handed in, `read` the buffer lent for a read; each has V bytes,
+// whatever the event.
+pub fn event(
+    cfg: Config,
+    m: usize,
+    rig: Rig,
+    code: u8,
+    party: u8,
+    position: usize,
+    board: &[u8],
+    read: &mut [u8],
+    messages: &mut [u8],
+    stores: &mut [u8],
+    boards: &mut [u8],
+    elements: &mut [u8],
+) -> Turn
+    ensures { λ r. ⌜ ((start : List ℕ) → EventPost cfg m start rig (called code party position (now (board .entry))) (now (read .entry)) (lent (now (messages .entry)) (now (stores .entry)) (now (boards .entry)) (now (elements .entry))) r (now (read .exit)) (lent (now (messages .exit)) (now (stores .exit)) (now (boards .exit)) (now (elements .exit)))) ⌝ }
+{
+    let no = questions::event(
+        cfg,
+        m,
+        rig,
+        board.len(),
+        read.len(),
+        messages.len(),
+        stores,
+        boards.len(),
+        elements.len(),
+    );
+    if no != 0 {
+        return Turn {
+            answer: Answer::No(Refusal::of(no)),
+            rig,
+        };
+    }
+    accept::event(
+        cfg,
+        m,
+        rig,
+        code,
+        party,
+        position,
+        board,
+        read,
+        messages,
+        stores,
+        boards,
+        elements,
+    )
 }

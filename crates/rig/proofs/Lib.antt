@@ -6,6 +6,7 @@ pub mod Begun
 pub mod Crashed
 pub mod Downed
 pub mod Flown
+pub mod Formed
 pub mod Handed
 pub mod Moved
 pub mod Numbered

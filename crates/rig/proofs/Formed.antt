@@ -31,6 +31,7 @@ use Rattle.history.specs.Number.{nothingYet}
 use Rattle.history.specs.Rig.{isWithin, listOf}
 use Rattle.history.specs.Server.{Server, Stored, addLast, answerTo, atOrBelowFloor, dropSmallest, elementOf, finalised, inPlaceOf, isStored, others, preWrite, query, readAnswer, readFinalise, serverStep, serverStepOf, smallest, store, storeElement, writeFinalise}
 use Rattle.history.specs.Tags.{higher, same}
+use Rattle.history.proofs.Basics.{cond-elim}
 use Rattle.rig.proofs.Begun.{sound-toEach}
 use Rattle.rig.proofs.Moved.{Sound}
 use Rattle.rig.proofs.Places.{within-high, within-low}
@@ -57,14 +58,9 @@ pub record ServerFits (cfg : Config) (v : Server (List ℕ)) : Type 0 where
   pub highest : TagFits cfg (v .highest)
   pub stored : StoredFits cfg (v .stored)
 
--- either way
-either : {A : Type 0} (P : A → Type 0) (b : Bool) (x y : A) → P x → P y → P (cond b x y)
-either P true x y p q = p
-either P false x y p q = q
-
 higher-fits : (cfg : Config) (t u : Tag) → TagFits cfg t → TagFits cfg u → TagFits cfg (higher key t u)
 unfolding higher
-higher-fits cfg t u a b = either (TagFits cfg) (ltb (key t) (key u)) u t b a
+higher-fits cfg t u a b = cond-elim (TagFits cfg) (ltb (key t) (key u)) u t (λ _. b) (λ _. a)
 
 -- one key, one tag
 one-tag : (cfg : Config) → Valid cfg → (t u : Tag) → TagFits cfg t → TagFits cfg u → same key t u ≡ true → t ≡ u
@@ -94,11 +90,11 @@ module _ (cfg : Config) (m : Message (List ℕ)) (h : ofConfig cfg m ≡ true) w
   unfolding messageClauses
   own-clause = rule 4
 
-  client-within : within 1 (cfg .c) (m .client) ≡ true
+  pub client-within : within 1 (cfg .c) (m .client) ≡ true
   unfolding messageClauses
   client-within = rule 6
 
-  server-within : within 1 (cfg .n) (m .server) ≡ true
+  pub server-within : within 1 (cfg .n) (m .server) ≡ true
   unfolding messageClauses
   server-within = rule 7
 
@@ -132,7 +128,7 @@ module _ (cfg : Config) (valid : Valid cfg) (c : ℕ) (inside : isWithin c (cfg 
   own-within : within 1 (cfg .c) c ≡ true
   own-within = config.within-true 1 (cfg .c) c (within-low c (cfg .c) inside) (within-high c (cfg .c) inside)
 
-  each-sound : (kind : Kind) (o : ℕ) (t : Tag) (e : ℕ → Option (List ℕ)) → within 1 highestNumber o ≡ true → TagFits cfg t
+  pub each-sound : (kind : Kind) (o : ℕ) (t : Tag) (e : ℕ → Option (List ℕ)) → within 1 highestNumber o ≡ true → TagFits cfg t
       → ((s : ℕ) → sized cfg (e s) ≡ true) → queryTag (kindNumber kind) t ≡ true → ownTag (kindNumber kind) c t ≡ true
       → ((s : ℕ) → presence (kindNumber kind) (isPresent (e s)) ≡ true)
       → Sound cfg (sendEach cfg kind c o t e)
@@ -162,11 +158,9 @@ module _ (cfg : Config) (valid : Valid cfg) (c : ℕ) (inside : isWithin c (cfg 
     asked-fine : (b : Option (List ℕ)) (t : Tag) → TagFits cfg t → Fine (asked (element cfg) cfg c o b t)
     unfolding asked
     asked-fine none t h = reads-fine t h
-    asked-fine (some v) t h = go (ltb (t .number) highestNumber) refl
-      where
-        go : (b : Bool) → ltb (t .number) highestNumber ≡ b → Fine (cond b (sendPreWrites (element cfg) cfg c o v (nextTag t c)) (ends o protocol.spent))
-        go true e = pre-writes-fine v t (ltb-true (t .number) highestNumber e)
-        go false e = fine-ends o protocol.spent
+    asked-fine (some v) t h =
+        cond-elim Fine (ltb (t .number) highestNumber) (sendPreWrites (element cfg) cfg c o v (nextTag t c)) (ends o protocol.spent)
+        (λ e. pre-writes-fine v t (ltb-true (t .number) highestNumber e)) (λ _. fine-ends o protocol.spent)
 
     writes-fine : (t : Tag) → TagFits cfg t → t .client ≡ c → Fine (sendWriteFinalises cfg c o t)
     unfolding Fine sendWriteFinalises PhaseFits
@@ -189,15 +183,16 @@ module _ (cfg : Config) (valid : Valid cfg) (c : ℕ) (inside : isWithin c (cfg 
       settled-fine idle h a = fine-stays _ tt
       settled-fine (asking b t cs) h a =
           let f = higher-fits cfg t (m .tag) h (message-fits cfg m good) in
-          either Fine (enough cfg _) _ _ (asked-fine b (higher key t (m .tag)) f) (fine-stays _ f)
-      settled-fine (preWriting t cs) h a = either Fine (enough cfg _) _ _ (writes-fine t h (own-tag t cs h a)) (fine-stays _ h)
-      settled-fine (finalisingWrite t cs) h a = either Fine (enough cfg _) _ _ (fine-ends o _) (fine-stays _ h)
-      settled-fine (finalisingRead t cs es) h a = either Fine (enoughToRead cfg _ _) _ _ (fine-ends o _) (fine-stays _ h)
+          cond-elim Fine (enough cfg _) _ _ (λ _. asked-fine b (higher key t (m .tag)) f) (λ _. fine-stays _ f)
+      settled-fine (preWriting t cs) h a = cond-elim Fine (enough cfg _) _ _ (λ _. writes-fine t h (own-tag t cs h a)) (λ _. fine-stays _ h)
+      settled-fine (finalisingWrite t cs) h a = cond-elim Fine (enough cfg _) _ _ (λ _. fine-ends o _) (λ _. fine-stays _ h)
+      settled-fine (finalisingRead t cs es) h a = cond-elim Fine (enoughToRead cfg _ _) _ _ (λ _. fine-ends o _) (λ _. fine-stays _ h)
       settled-fine down h a = fine-stays _ tt
 
 module _ (cfg : Config) (valid : Valid cfg) (c : ℕ) (inside : isWithin c (cfg .c) ≡ true) (x : protocol.Client (List ℕ) (List ℕ)) (fits : PhaseFits cfg (x .phase))
     (m : Message (List ℕ)) (good : ofConfig cfg m ≡ true) (mine : m .client ≡ c) where
-  operation-within : (eqb (m .operation) (x .operation) && awaits key (x .phase) m) ≡ true → within 1 highestNumber (x .operation) ≡ true
+  operation-within : awaited key x m ≡ true → within 1 highestNumber (x .operation) ≡ true
+  unfolding awaited
   operation-within a =
       let e = eqb-true (m .operation) (x .operation) (and-left (eqb (m .operation) (x .operation)) (awaits key (x .phase) m) a) in
       subst (λ n. within 1 highestNumber n ≡ true) e
@@ -205,14 +200,12 @@ module _ (cfg : Config) (valid : Valid cfg) (c : ℕ) (inside : isWithin c (cfg 
 
   step-fine : Fine cfg valid c inside (clientStep key (element cfg) (decodedPairs cfg) cfg c x m)
   unfolding clientStep settle counted awaited
-  step-fine = go (eqb (m .operation) (x .operation) && awaits key (x .phase) m) refl
-    where
-      go : (b : Bool) → (eqb (m .operation) (x .operation) && awaits key (x .phase) m) ≡ b
-          → Fine cfg valid c inside (cond b (settling (element cfg) (decodedPairs cfg) cfg c (x .operation) (counting key (x .phase) m)) (stays x))
-      go true a =
-          settled-fine cfg valid c inside (x .operation) (operation-within a) m good mine (x .phase) fits
-          (and-right (eqb (m .operation) (x .operation)) (awaits key (x .phase) m) a)
-      go false a = fine-stays cfg valid c inside x fits
+  step-fine =
+      cond-elim (Fine cfg valid c inside) (awaited key x m)
+      (settling (element cfg) (decodedPairs cfg) cfg c (x .operation) (counting key (x .phase) m)) (stays x)
+      (λ a. settled-fine cfg valid c inside (x .operation) (operation-within a) m good mine (x .phase) fits
+      (and-right (eqb (m .operation) (x .operation)) (awaits key (x .phase) m) a))
+      (λ _. fine-stays cfg valid c inside x fits)
 
   -- what a client sends at an answer
   pub step-sound : Sound cfg (clientStep key (element cfg) (decodedPairs cfg) cfg c x m .sends)
@@ -237,23 +230,23 @@ module _ (cfg : Config) where
   unfolding StoredFits inPlaceOf
   in-place-fits u [] y h k = tt
   in-place-fits u (x ∷ xs) y h k =
-      either (StoredFits cfg) (same key (x .tag) u) (y ∷ xs) (x ∷ inPlaceOf key u y xs) (k, h .1) (h .0, in-place-fits u xs y (h .1) k)
+      cond-elim (StoredFits cfg) (same key (x .tag) u) (y ∷ xs) (x ∷ inPlaceOf key u y xs) (λ _. (k, h .1)) (λ _. (h .0, in-place-fits u xs y (h .1) k))
 
   others-fits : (u : Tag) (xs : List (Stored (List ℕ))) (y : Stored (List ℕ)) → StoredFits cfg xs → TagFits cfg (y .tag) × (length (y .element) ≡ cfg .e)
       → StoredFits cfg (others key u y xs)
   unfolding others
   others-fits u xs y h k =
-      either (StoredFits cfg) (same key u (y .tag)) xs (inPlaceOf key u y xs) h (in-place-fits u xs y h k)
+      cond-elim (StoredFits cfg) (same key u (y .tag)) xs (inPlaceOf key u y xs) (λ _. h) (λ _. in-place-fits u xs y h k)
 
   store-fits : (d : ℕ) (v : Server (List ℕ)) (y : Stored (List ℕ)) → ServerFits cfg v → TagFits cfg (y .tag) × (length (y .element) ≡ cfg .e)
       → ServerFits cfg (store key d v y)
   unfolding store addLast dropSmallest
   store-fits d v y h k =
-      either (ServerFits cfg) (isStored key (y .tag) (v .stored) || atOrBelowFloor key (y .tag) (v .floor)) v
-      (cond (ltb (length (v .stored)) (d + 1)) (addLast v y) (dropSmallest key v y)) h
-      (either (ServerFits cfg) (ltb (length (v .stored)) (d + 1)) (addLast v y) (dropSmallest key v y)
-      (record { highest = h .highest; stored = add-fits (v .stored) y (h .stored) k })
-      (record { highest = h .highest; stored = others-fits (smallest key (y .tag) (v .stored)) (v .stored) y (h .stored) k }))
+      cond-elim (ServerFits cfg) (isStored key (y .tag) (v .stored) || atOrBelowFloor key (y .tag) (v .floor)) v
+      (cond (ltb (length (v .stored)) (d + 1)) (addLast v y) (dropSmallest key v y)) (λ _. h)
+      (λ _. cond-elim (ServerFits cfg) (ltb (length (v .stored)) (d + 1)) (addLast v y) (dropSmallest key v y)
+      (λ _. record { highest = h .highest; stored = add-fits (v .stored) y (h .stored) k })
+      (λ _. record { highest = h .highest; stored = others-fits (smallest key (y .tag) (v .stored)) (v .stored) y (h .stored) k }))
 
   element-fits : (d : ℕ) (v : Server (List ℕ)) (t : Tag) (e : Option (List ℕ)) → ServerFits cfg v → TagFits cfg t → sized cfg e ≡ true
       → ServerFits cfg (storeElement key d v t e)
@@ -270,8 +263,8 @@ module _ (cfg : Config) where
   unfolding StoredFits elementOf
   stored-sized t [] h = refl
   stored-sized t (x ∷ xs) h =
-      either (λ o. sized cfg o ≡ true) (same key (x .tag) t) (some (x .element)) (elementOf key t xs)
-      (eq-eqb (length (x .element)) (cfg .e) (h .0 .1)) (stored-sized t xs (h .1))
+      cond-elim (λ o. sized cfg o ≡ true) (same key (x .tag) t) (some (x .element)) (elementOf key t xs)
+      (λ _. eq-eqb (length (x .element)) (cfg .e) (h .0 .1)) (λ _. stored-sized t xs (h .1))
 
 module _ (cfg : Config) (valid : Valid cfg) (s : ℕ) (v : Server (List ℕ)) (fits : ServerFits cfg v) (m : Message (List ℕ)) (good : ofConfig cfg m ≡ true) (mine : m .server ≡ s) where
   -- an answer that carries a tag and an element within the limits
@@ -294,9 +287,9 @@ module _ (cfg : Config) (valid : Valid cfg) (s : ℕ) (v : Server (List ℕ)) (f
   read-sound : (e : Option (List ℕ)) → sized cfg e ≡ true → Sound cfg (listOf (readAnswer key s (v .floor) m e))
   unfolding readAnswer listOf Sound
   read-sound none h =
-      either (λ (o : Option (Message (List ℕ))). Sound cfg (listOf o)) (atOrBelowFloor key (m .tag) (v .floor)) none
-      (some (answerTo s m ReadFinaliseAnswer (m .tag) none)) tt
-      (answer-is-of ReadFinaliseAnswer (m .tag) none (message-fits cfg m good) refl refl refl refl)
+      cond-elim (λ (o : Option (Message (List ℕ))). Sound cfg (listOf o)) (atOrBelowFloor key (m .tag) (v .floor)) none
+      (some (answerTo s m ReadFinaliseAnswer (m .tag) none)) (λ _. tt)
+      (λ _. answer-is-of ReadFinaliseAnswer (m .tag) none (message-fits cfg m good) refl refl refl refl)
   read-sound (some e) h = answer-is-of ReadFinaliseAnswer (m .tag) (some e) (message-fits cfg m good) h refl refl refl
 
   sound-of : (kind : Kind) → m .kind ≡ kind → Sound cfg (listOf (serverStepOf kind key (cfg .d) s v m .answer))

@@ -9,6 +9,7 @@ pub mod Flown
 pub mod Formed
 pub mod Handed
 pub mod Moved
+pub mod Never
 pub mod Numbered
 pub mod Opened
 pub mod Parameters

@@ -12,11 +12,13 @@ pub mod Moved
 pub mod Never
 pub mod Numbered
 pub mod Opened
+pub mod Owned
 pub mod Parameters
 pub mod Parties
 pub mod Places
 pub mod Quiet
 pub mod Records
+pub mod Served
 pub mod Shaped
 pub mod Sizes
 pub mod Starts

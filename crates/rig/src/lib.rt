@@ -7,6 +7,7 @@ mod crash;
 mod flight;
 mod kept;
 mod questions;
+mod serve;
 
 use config::Client;
 use config::Refusal;

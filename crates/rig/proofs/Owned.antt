@@ -1,6 +1,6 @@
 -- What the types of a rig's parts tell: the bytes of a record are bytes, and the numbers of a server's tags have four bytes.
 use Prim.Native.Nat.{ℕ, zero, suc, _<_, _≤_}
-use mathlib.Core.Path.{_≡_, refl, sym, ap, subst}
+use mathlib.Core.Path.{_≡_, sym, ap, subst}
 use mathlib.Core.List.{List, [], _∷_, map}
 use native.Mathlib.Omega.{arith}
 use native.Mathlib.Decide.{decLt}
@@ -34,7 +34,7 @@ each-at R (x ∷ xs) (u ∷ us) h zero l d = (u, h .0)
 each-at R (x ∷ xs) (u ∷ us) h (suc j) l d = each-at R xs us (h .1) j (omega (arith, l)) d
 
 -- the same of an array in a struct
-field-at : (F : Field) (n : ℕ) (xs : List (F .Value)) (vs : List Val) → Is (array-field F n .row) (map (F .into) xs) vs
+pub field-at : (F : Field) (n : ℕ) (xs : List (F .Value)) (vs : List Val) → Is (array-field F n .row) (map (F .into) xs) vs
     → (j : ℕ) → j < length xs → (d : F .Value) → (u : Val) × Is (F .row) (F .into (getD xs j d)) (u ∷ [])
 field-at F n xs vs p j l d =
     subst (λ z. (u : Val) × Is (F .row) z (u ∷ [])) (List·getD-map (F .into) xs j d)
@@ -48,7 +48,7 @@ bytes-are n bs vs p j = elim (decLt j (length bs)) as (λ _. getD bs j 0 < 256) 
 ]
 
 -- a tag's number
-tag-number : (t : Tag) (vs : List Val) → Is (tag.the-field .row) (tag.the-field .into t) vs → t .number ≤ highestNumber
+pub tag-number : (t : Tag) (vs : List Val) → Is (tag.the-field .row) (tag.the-field .into t) vs → t .number ≤ highestNumber
 tag-number t vs p = omega (arith, p .1 .1 .0 .1)
 
 tags-numbers : (n : ℕ) (ts : List Tag) (vs : List Val) → Is (array-field tag.the-field n .row) (map (tag.the-field .into) ts) vs

@@ -1,9 +1,9 @@
 -- Event 3 of a message for a server, from what the server's step leaves.
 use Prim.Native.Nat.{ℕ, zero, suc, _+_, _-_, _*_, _≤_, _<_}
 use mathlib.Core.Path.{_≡_, refl, sym, ap, ap₂, subst, _∙_}
-use mathlib.Core.Bool.{Bool, true, false, cond, _&&_}
+use mathlib.Core.Bool.{true, false, cond, _&&_}
 use mathlib.Core.Option.{Option, none, some}
-use mathlib.Core.List.{List, [], _∷_, _++_, map, append-nil}
+use mathlib.Core.List.{List, _++_, map, append-nil}
 use native.Mathlib.Omega.{arith}
 use native.Mathlib.Nat.{mul-le-mul-right}
 use borrow.Author.Tests.{eq-eqb, eqb-true, le-leb}
@@ -19,8 +19,6 @@ use Rattle.config.specs.Questions.{within}
 use Rattle.config.specs.Refusal.{verdictNumber}
 use Rattle.tag.specs.declared.Tag.{Tag}
 use Rattle.tag.specs.Tag.{allowed, key}
-use Rattle.code.specs.Element.{element}
-use Rattle.code.specs.Decoded.{decodedPairs}
 use Rattle.record.specs.declared.Kind.{Kind}
 use Rattle.record.specs.declared.Kind.the-variants.{Query, QueryAnswer, PreWrite, PreWriteAnswer, WriteFinalise, WriteFinaliseAnswer, ReadFinalise, ReadFinaliseAnswer}
 use Rattle.record.specs.Message.{Message}
@@ -33,14 +31,14 @@ use Rattle.server.specs.Calls.{StepPost, answers, answerBytes, forServer, outco
 use Rattle.server.specs.Inner.{Held}
 use Rattle.server.specs.Kept.{every, stateKept}
 use Rattle.server.specs.View as serverView
-use Rattle.server.specs.View.{each, placeAt, tagAt, tagsUsed}
+use Rattle.server.specs.View.{each, placeAt, tagAt}
 use Rattle.server.proofs.Held.{state-allowed, state-count, state-highest}
 use Rattle.server.proofs.Laws.{OnMessage, on-message}
 use Rattle.client.specs.Send as send
 use Rattle.history.specs.Board.{Call}
 use Rattle.history.specs.Rig as protocol
 use Rattle.history.specs.Rig.{handOver, hasRoom, isForServer, isWithin, listOf, only, withFlight, without}
-use Rattle.history.specs.Server.{Served, Server, Stored, serverStep}
+use Rattle.history.specs.Server.{Served, serverStep}
 use Rattle.rig.specs.declared.Rig.{Rig}
 use Rattle.rig.specs.declared.Seat.{Seat}
 use Rattle.rig.specs.View.{Lent, flight, messagesOf, part, place, records, serverOf, serverSeen, upOf, upSeen, view}
@@ -54,14 +52,14 @@ use Rattle.rig.proofs.Handed.{hand-moves, hand-number, is-hand, left-li
 use Rattle.rig.proofs.Moved.{Sound, messages-sent, records-sent, server-moved}
 use Rattle.rig.proofs.Owned.{Numbered}
 use Rattle.rig.proofs.Parties.{count-most, seat-kept, server-kept, servers-seated}
-use Rattle.rig.proofs.Places.{part-other, part-own, within-both, within-high, within-low}
-use Rattle.rig.proofs.Quiet.{inFlight-is, length-without, many, map-without, ready-kept, recount-kept, withMessages}
+use Rattle.rig.proofs.Places.{part-other, part-own, within-high, within-low}
+use Rattle.rig.proofs.Quiet.{length-without, many, ready-kept, recount-kept, withMessages}
 use Rattle.rig.proofs.Records.{length-records}
 use Rattle.rig.proofs.Sizes.{part-fits}
 use Rattle.rig.proofs.Starts.{length-mid, length-put, mid, put, put-form}
 use Rattle.rig.proofs.Turned.{moved-post}
 
--- what a server keeps is within the limits of a record
+-- what a server keeps is within the limits of a record: what is seen of its state fits
 module _ (cfg : Config) (tags : List Tag) (store : List ℕ) (numbers : (j : ℕ) → tagAt tags j .number ≤ highestNumber) where
   stored-fits : (i n : ℕ) → every (allowed (cfg .c)) (each (tagAt tags) i n) ≡ true → (i + n) * cfg .e ≤ length store
       → StoredFits cfg (each (placeAt cfg tags store) i n)
@@ -79,9 +77,9 @@ module _ (cfg : Config) (tags : List Tag) (store : List ℕ) (numbers : (j : ℕ
         stored-fits (suc i) n (and-right (allowed (cfg .c) t) rest h) (subst (λ k. k * cfg .e ≤ length store) (sym next) l),
       )
 
-pub server-fits : (cfg : Config) (x : State) (store : List ℕ) → Held cfg x store → Numbered x → ServerFits cfg (serverView.view cfg x store)
+pub seen-fits : (cfg : Config) (x : State) (store : List ℕ) → Held cfg x store → Numbered x → ServerFits cfg (serverView.view cfg x store)
 unfolding serverView.view
-server-fits cfg x store held numbered =
+seen-fits cfg x store held numbered =
     let none-before : 0 + x .count ≡ x .count = omega arith in
     let fits : x .count * cfg .e ≤ storeLength cfg = mul-le-mul-right (cfg .e) (state-count cfg x (held .kept)) in
     record {
@@ -223,7 +221,7 @@ module _ (cfg : Config) (r : Rig) (i s : ℕ) (bytes messages stores closed : Li
         (subst (λ j. StepPost cfg (x .state) bytes (mid ((s - 1) * wide) j stores) blank store′ answer′ stepped) own-wide post))
 
     sound : Sound cfg (listOf (o .answer))
-    sound = answer-sound cfg (h .valid) (serverNumber (x .state .me)) (serverView.view cfg (x .state) old) (server-fits cfg (x .state) old held numbered) m ok (to-it ∙ sym own-number)
+    sound = answer-sound cfg (h .valid) (serverNumber (x .state .me)) (serverView.view cfg (x .state) old) (seen-fits cfg (x .state) old held numbered) m ok (to-it ∙ sym own-number)
 
     abbrev y : Seat
     y = record { state = stepped .state; up = true }

@@ -36,7 +36,8 @@ use Rattle.rig.specs.declared.Rig.{Rig}
 use Rattle.rig.specs.View.{Lent, flight, messagesOf, view}
 use Rattle.rig.specs.Questions.{asked, codeQuestions, eventQuestions, formed, formedFor, moveOf}
 use Rattle.rig.specs.Calls.{eventNo, outcome, recordsAfter}
-use Rattle.rig.specs.Runs.{IsBoard, Runs, made, event}
+use Rattle.history.specs.Boards.{IsBoard}
+use Rattle.rig.specs.Runs.{Runs, made, event}
 use Rattle.rig.proofs.Asked.{event-later, party-asked}
 use Rattle.rig.proofs.Atomic.{origin, seen}
 use Rattle.rig.proofs.Begun.{sound-append}

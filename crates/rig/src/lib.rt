@@ -6,6 +6,7 @@ mod begin;
 mod crash;
 mod flight;
 mod kept;
+mod make;
 mod questions;
 
 use config::Client;

@@ -1,6 +1,6 @@
 pub mod Calls
+pub mod Fresh
 pub mod Inner
-pub mod Make
 pub mod Questions
 pub mod Runs
 pub mod View

@@ -5,14 +5,16 @@
 mod begin;
 mod crash;
 mod flight;
+mod fresh;
 mod kept;
-mod make;
 mod questions;
 
 use config::Client;
+use config::Config;
 use config::Refusal;
 use config::Verdict;
 use tag::Tag;
+ghost use Rattle.rig.specs.Calls.{MakePost};
 
 // A server in its place: its state, and whether it is up. A crash keeps the state.
 pub struct Seat {
@@ -49,4 +51,38 @@ pub struct Turn {
 pub struct Made {
     pub verdict: Verdict,
     pub rig: Rig,
+}
+
+// A fresh rig: questions 1 to 5, and 6. The servers' elements of the starting board go into their stores. On a refusal the rig is of
+// no use.
+pub fn make(
+    cfg: Config,
+    m: usize,
+    start: &[u8],
+    messages: &mut [u8],
+    stores: &mut [u8],
+    boards: &mut [u8],
+    elements: &mut [u8],
+) -> Made
+    ensures { λ r. ⌜ MakePost cfg m (now (start .entry)) (record { messages = now (messages .entry); stores = now (stores .entry); boards = now (boards .entry); elements = now (elements .entry) }) r (record { messages = now (messages .exit); stores = now (stores .exit); boards = now (boards .exit); elements = now (elements .exit) }) ⌝ }
+{
+    let no = questions::make(
+        cfg,
+        m,
+        start.len(),
+        messages.len(),
+        stores.len(),
+        boards.len(),
+        elements.len(),
+    );
+    if no != 0 {
+        return Made {
+            verdict: Verdict::of(no),
+            rig: fresh::least(),
+        };
+    }
+    Made {
+        verdict: Verdict::Accepted,
+        rig: fresh::rig(cfg, start, stores),
+    }
 }

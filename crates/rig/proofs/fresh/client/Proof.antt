@@ -1,14 +1,14 @@
-use mathlib.Core.Path.{_≡_, sym, subst, _∙_}
+use mathlib.Core.Path.{_≡_, subst}
 use mathlib.Core.Option.{some}
 use Prim.Native.Nat.{ℕ, _+_}
 use native.Mathlib.Omega.{arith}
 use Rattle.config.proofs.Questions.{within-true}
 use Rattle.client.specs.declared.State as client
-use Rattle.rig.specs.Make.{FreshClient}
+use Rattle.rig.specs.Fresh.{FreshClient}
 use Rattle.rig.proofs.Making.{client-is, client-made}
 use borrow.Author.Needs.{needs}
-use Rattle.rig.proofs.make.client.Statement.{statement}
-use Rattle.rig.proofs.make.client.Tie as tie
+use Rattle.rig.proofs.fresh.client.Statement.{statement}
+use Rattle.rig.proofs.fresh.client.Tie as tie
 
 -- the branch is never taken
 abbrev Inv-loop : tie.InvT-loop
@@ -40,7 +40,6 @@ loop-holds : tie.Need-loop-holds Inv-loop μ-loop
 loop-holds c =
     let s = c .before .before .before .before in
     let is = client-is (s .args .cfg) (s .pre .0) (s .args .i) (s .pre .1) _ (c .before .before .before .client-number .ensures) _ (c .before .before .fresh .ensures) in
-    let no = c .enum-told .given .1 in
     let z : _≡_ {A = ℕ} 0 1 = cc is in
     omega (arith, z)
 

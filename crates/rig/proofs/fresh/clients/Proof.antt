@@ -2,11 +2,11 @@ use Prim.Native.Nat.{_-_, _≤_}
 use mathlib.Core.Path.{_≡_, subst, _∙_}
 use native.Mathlib.Omega.{arith}
 use lib.ListN.{length, length-set}
-use Rattle.rig.specs.Make.{FreshClients}
+use Rattle.rig.specs.Fresh.{FreshClients}
 use Rattle.rig.proofs.Making.{clients-more}
 use borrow.Author.Needs.{needs}
-use Rattle.rig.proofs.make.clients.Statement.{statement}
-use Rattle.rig.proofs.make.clients.Tie as tie
+use Rattle.rig.proofs.fresh.clients.Statement.{statement}
+use Rattle.rig.proofs.fresh.clients.Tie as tie
 
 abbrev Inv-loop : tie.InvT-loop
 Inv-loop cfg states₀ i₀ states i = (i ≤ cfg .c) × FreshClients cfg i states × (length states ≡ 16)

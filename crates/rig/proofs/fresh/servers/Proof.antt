@@ -1,6 +1,6 @@
 use Prim.Native.Nat.{ℕ, _+_, _-_, _*_, _≤_}
 use denote.Ref.{now}
-use mathlib.Core.Path.{_≡_, refl, ap, subst, _∙_}
+use mathlib.Core.Path.{_≡_, refl, subst, _∙_}
 use mathlib.Core.List.{List}
 use native.Mathlib.Omega.{arith}
 use borrow.Author.Needs.{needs}
@@ -9,11 +9,11 @@ use lib.ListN.{length, length-set}
 use Rattle.config.specs.declared.Config.{Config}
 use Rattle.server.specs.Calls.{storeLength}
 use Rattle.rig.specs.declared.Seat.{Seat}
-use Rattle.rig.specs.Make.{FreshServers}
+use Rattle.rig.specs.Fresh.{FreshServers}
 use Rattle.rig.proofs.Making.{servers-more}
 use Rattle.rig.proofs.Sizes.{part-fits, part-length, store-small, stores-small}
-use Rattle.rig.proofs.make.servers.Statement.{statement}
-use Rattle.rig.proofs.make.servers.Tie as tie
+use Rattle.rig.proofs.fresh.servers.Statement.{statement}
+use Rattle.rig.proofs.fresh.servers.Tie as tie
 
 -- the servers of the places below i are fresh
 record Now (cfg : Config) (start stores₀ stores : List ℕ) (seats : List Seat) (i : ℕ) : Type 0 where

@@ -15,9 +15,9 @@ ghost use lib.ListN.{length};
 ghost use Rattle.config.specs.Config.{Valid};
 ghost use Rattle.config.specs.Number.{clientNumber, serverNumber};
 ghost use Rattle.config.specs.Questions.{within};
-ghost use Rattle.rig.specs.Make.{FreshClient, FreshClients, FreshPost, Making, Placing, ServerPost, ServersPost};
+ghost use Rattle.rig.specs.Fresh.{FreshClient, FreshClients, FreshPost, Making, Placing, ServerPost, ServersPost};
 
-// The number of a server of the configuration: that it is none never happens.
+// The number of a server of the configuration. There is one, so the other branch is never taken.
 fn server_number(cfg: Config, s: u8) -> Server
     requires { ⌜ (Valid cfg) × (within 1 (cfg .n) s ≡ true) ⌝ }
     ensures { λ r. ⌜ serverNumber r ≡ s ⌝ }
@@ -39,7 +39,7 @@ fn client_number(cfg: Config, c: u8) -> Client
     me
 }
 
-// A fresh server for place i, with its element of the starting board, encoded in a buffer of E bytes, in its store.
+// A fresh server for place i. Its element of the starting board is encoded in a buffer of E bytes and goes into its store.
 fn seat(cfg: Config, start: &[u8], i: usize, element: &mut [u8], store: &mut [u8]) -> Seat
     requires { ⌜ (Placing cfg (now start) i (now store)) × (length (now element) ≡ cfg .e) ⌝ }
     ensures { λ r. ⌜ ServerPost cfg (now (start .entry)) i (now (store .entry)) (now (store .exit)) r ⌝ }
@@ -52,7 +52,7 @@ fn seat(cfg: Config, start: &[u8], i: usize, element: &mut [u8], store: &mut [u8
     Seat { state, up: true }
 }
 
-// The same, with a buffer of its own.
+// The same, without a buffer.
 fn server(cfg: Config, start: &[u8], i: usize, store: &mut [u8]) -> Seat
     requires { ⌜ Placing cfg (now start) i (now store) ⌝ }
     ensures { λ r. ⌜ ServerPost cfg (now (start .entry)) i (now (store .entry)) (now (store .exit)) r ⌝ }
@@ -62,7 +62,7 @@ fn server(cfg: Config, start: &[u8], i: usize, store: &mut [u8]) -> Seat
     seat(cfg, start, i, &mut element[0..end], store)
 }
 
-// A fresh client for place i: that there is none never happens.
+// A fresh client for place i. There is one, so the other branch is never taken.
 fn client(cfg: Config, i: usize) -> client::State
     requires { ⌜ (Valid cfg) × (i < cfg .c) ⌝ }
     ensures { λ r. ⌜ FreshClient cfg i (some r) ⌝ }
@@ -105,7 +105,7 @@ fn clients(cfg: Config, mut states: [client::State; 16]) -> [client::State; 16]
     states
 }
 
-// A rig of the least configuration in every place: what a refused making gives, and what a making fills.
+// Server 1 and client 1 of the least configuration in every place: what a refused making gives, and what stands past N and C.
 pub(crate) fn least() -> Rig {
     let cfg = Config {
         n: 1,
@@ -126,7 +126,7 @@ pub(crate) fn least() -> Rig {
 }
 
 // "It holds fresh servers and clients, a starting board, and the messages in flight": none.
-pub(crate) fn fresh(cfg: Config, start: &[u8], stores: &mut [u8]) -> Rig
+pub(crate) fn rig(cfg: Config, start: &[u8], stores: &mut [u8]) -> Rig
     requires { ⌜ Making cfg (now start) (now stores) ⌝ }
     ensures { λ r. ⌜ FreshPost cfg (now (start .entry)) (now (stores .entry)) (now (stores .exit)) r ⌝ }
 {

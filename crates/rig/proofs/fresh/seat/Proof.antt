@@ -1,8 +1,8 @@
 use denote.Ref.{now}
 use Rattle.rig.proofs.Making.{encoded, number-within, server-made}
 use borrow.Author.Needs.{needs}
-use Rattle.rig.proofs.make.seat.Statement.{statement}
-use Rattle.rig.proofs.make.seat.Tie as tie
+use Rattle.rig.proofs.fresh.seat.Statement.{statement}
+use Rattle.rig.proofs.fresh.seat.Tie as tie
 
 add-s : tie.Need-add-s
 add-s c = search needs

@@ -9,6 +9,7 @@ pub mod Downed
 pub mod Flown
 pub mod Formed
 pub mod Handed
+pub mod Making
 pub mod Moved
 pub mod Never
 pub mod Numbered

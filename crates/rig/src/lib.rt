@@ -6,6 +6,7 @@ mod accept;
 mod begin;
 mod crash;
 mod flight;
+mod fresh;
 mod hand;
 mod hear;
 mod kept;
@@ -19,7 +20,7 @@ use config::Verdict;
 use tag::Tag;
 ghost use Prim.Native.Nat.{ℕ};
 ghost use mathlib.Core.List.{List};
-ghost use Rattle.rig.specs.Calls.{EventPost, called};
+ghost use Rattle.rig.specs.Calls.{EventPost, MakePost, called};
 ghost use Rattle.rig.specs.View.{lent};
 
 // A server in its place: its state, and whether it is up. A crash keeps the state.
@@ -57,6 +58,40 @@ pub struct Turn {
 pub struct Made {
     pub verdict: Verdict,
     pub rig: Rig,
+}
+
+// A fresh rig: questions 1 to 5, and 6. The servers' elements of the starting board go into their stores. On a refusal the rig is of
+// no use.
+pub fn make(
+    cfg: Config,
+    m: usize,
+    start: &[u8],
+    messages: &mut [u8],
+    stores: &mut [u8],
+    boards: &mut [u8],
+    elements: &mut [u8],
+) -> Made
+    ensures { λ r. ⌜ MakePost cfg m (now (start .entry)) (lent (now (messages .entry)) (now (stores .entry)) (now (boards .entry)) (now (elements .entry))) r (lent (now (messages .exit)) (now (stores .exit)) (now (boards .exit)) (now (elements .exit))) ⌝ }
+{
+    let no = questions::make(
+        cfg,
+        m,
+        start.len(),
+        messages.len(),
+        stores.len(),
+        boards.len(),
+        elements.len(),
+    );
+    if no != 0 {
+        return Made {
+            verdict: Verdict::of(no),
+            rig: fresh::least(),
+        };
+    }
+    Made {
+        verdict: Verdict::Accepted,
+        rig: fresh::rig(cfg, start, stores),
+    }
 }
 
 // An event of the rig: questions 1 to 13. `board` is the board handed in, `read` the buffer lent for a read; each has V bytes,

@@ -1,4 +1,5 @@
 pub mod Always
+pub mod Answered
 pub mod Asked
 pub mod Atomic
 pub mod Beginnings
@@ -7,6 +8,7 @@ pub mod Crashed
 pub mod Downed
 pub mod Flown
 pub mod Handed
+pub mod Hearing
 pub mod Moved
 pub mod Numbered
 pub mod Opened

@@ -1,4 +1,5 @@
 pub mod Calls
+pub mod Heard
 pub mod Inner
 pub mod Questions
 pub mod Runs

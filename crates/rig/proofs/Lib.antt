@@ -7,9 +7,11 @@ pub mod Begun
 pub mod Crashed
 pub mod Downed
 pub mod Flown
+pub mod Formed
 pub mod Handed
 pub mod Hearing
 pub mod Moved
+pub mod Never
 pub mod Numbered
 pub mod Opened
 pub mod Parameters

@@ -3,23 +3,25 @@ use Prim.Native.Nat.{ℕ, zero, suc, _+_, _-_, _*_, _≤_, _<_}
 use mathlib.Core.Path.{_≡_, refl, sym, ap, ap₂, subst, _∙_}
 use mathlib.Core.Bool.{Bool, true, false, cond, _&&_, true≢false}
 use mathlib.Core.Option.{Option, none, some}
-use mathlib.Core.List.{List, [], _∷_, _++_, map}
+use mathlib.Core.List.{List, [], _∷_, _++_, append-assoc, append-nil, map}
 use native.Mathlib.Omega.{arith}
 use borrow.Author.Tests.{eq-eqb, eqb-true, le-leb, lt-leb}
 use lib.Dec.{eqb, leb}
-use lib.ListN.{length, take, drop, set, length-append}
-use lib.Seq.{drop-at}
+use lib.ListN.{length, take, drop, set, length-append, length-drop, drop-of-length-le}
+use lib.Seq.{drop-at, drop-drop, take-all, take-at, take-length}
 use Rattle.laws.proofs.Bools.{and-left}
-use Rattle.config.specs.declared.Client as config
+use Rattle.config.specs.declared.Client.{Client}
 use Rattle.config.specs.declared.Config.{Config}
 use Rattle.config.specs.declared.Refusal.{Refusal}
 use Rattle.config.specs.Config.{Valid, boardLength}
 use Rattle.config.specs.Number.{clientNumber}
+use Rattle.config.proofs.Questions as config
 use Rattle.tag.specs.Tag.{key}
 use Rattle.code.specs.Element.{element}
 use Rattle.code.specs.Decoded.{decodedPairs}
 use Rattle.record.specs.Message.{Message}
-use Rattle.record.specs.Record.{messageOf, recordOf, wellFormed}
+use Rattle.record.specs.Record.{clientAt, messageOf, recordOf, wellFormed}
+use Rattle.record.proofs.Clauses.{its-client}
 use Rattle.client.specs.declared.Ended.{Ended}
 use Rattle.client.specs.declared.Ended.the-variants.{Nothing, Written, Spent, Read}
 use Rattle.client.specs.declared.Moved.{Moved}
@@ -37,16 +39,17 @@ use Rattle.rig.specs.declared.Turn.{Turn}
 use Rattle.rig.specs.View.{Lent, flight, messagesOf, part, place, records, view}
 use Rattle.rig.specs.Questions.{clientKept, moveOf, rigKept, sizedBy}
 use Rattle.rig.specs.Calls.{EventPost, answerOf, eventNo, isRead, recordsAfter}
-use Rattle.rig.specs.Heard.{endedBy, settled}
-use Rattle.rig.specs.Inner.{Ready, counted, recordAt, refusedFor, withClient}
-use Rattle.rig.proofs.Answered.{Stepped}
+use Rattle.rig.specs.Heard.{HeardPost, Hears, Stepped, closedUp, endedBy, replaced, settled, stepOf}
+use Rattle.rig.specs.Inner.{AnswerPost, Answering, Ready, counted, handing, recordAt, refusedFor, withClient}
 use Rattle.rig.proofs.Downed.{client-at}
+use Rattle.rig.proofs.Flown.{lose-done}
 use Rattle.rig.proofs.Handed.{hand-moves, hand-number, is-hand, left-list}
-use Rattle.rig.proofs.Moved.{Sound, client-moved, messages-sent, records-sent}
-use Rattle.rig.proofs.Parties.{client-changed, client-kept, clients-seated, count-most}
-use Rattle.rig.proofs.Places.{within-high, within-low}
+use Rattle.rig.proofs.Moved.{Sound, client-moved, length-sends, messages-sent, records-sent}
+use Rattle.rig.proofs.Parties.{client-changed, client-kept, clients-seated, count-most, within-at}
+use Rattle.rig.proofs.Places.{within-both, within-high, within-low}
 use Rattle.rig.proofs.Quiet.{length-without, many, ready-kept, recount-kept, withMessages}
 use Rattle.rig.proofs.Records.{length-records}
+use Rattle.rig.proofs.Starts.{length-put, put-form}
 use Rattle.rig.proofs.Turned.{moved-post, refused-post}
 
 -- a client's own number is its place's
@@ -59,7 +62,7 @@ number-at cfg m r kept c x inside stood =
     omega (arith, e, within-low c (cfg .c) inside)
 
 -- the answer is the protocol's
-its-answer : (me : config.Client) (e : Ended) (read : List ℕ) → answerOf (endedBy me e) read ≡ protocol.answerOf (clientNumber me) (endedOf e read)
+its-answer : (me : Client) (e : Ended) (read : List ℕ) → answerOf (endedBy me e) read ≡ protocol.answerOf (clientNumber me) (endedOf e read)
 unfolding protocol.answerOf
 its-answer me Nothing read = refl
 its-answer me (Written t) read = refl
@@ -67,7 +70,7 @@ its-answer me Spent read = refl
 its-answer me (Read t) read = refl
 
 -- the lent board stays but where a read ends
-not-read : (me : config.Client) (e : Ended) (read read′ : List ℕ) → isRead (endedBy me e) ≡ false → shown (endedOf e read′) read ≡ read
+not-read : (me : Client) (e : Ended) (read read′ : List ℕ) → isRead (endedBy me e) ≡ false → shown (endedOf e read′) read ≡ read
 not-read me Nothing read read′ h = refl
 not-read me (Written t) read read′ h = refl
 not-read me Spent read read′ h = refl
@@ -228,3 +231,89 @@ module _ (cfg : Config) (valid : Valid cfg) (m : ℕ) (start : List ℕ) (r : Ri
         (number ∙ ap (λ z. cond z 0 13) (le-leb (few + length (move .sends)) m fits))
         t read′ l′ answers touches sees flies keeps
         (ap₂ (λ n k. sizedBy cfg m n (length (l .stores)) (length (l .boards)) k) messages-long elements-long)
+
+-- what the event asks of the client's step, and what follows from the step
+module _ (cfg : Config) (m : ℕ) (r : Rig) (i c : ℕ) (bytes read messages boards elements : List ℕ) (asks : Answering cfg m r i c bytes read messages boards elements) where
+  pub client-there : isWithin c (cfg .c) ≡ true
+  unfolding messageOf
+  client-there =
+      let h = its-client cfg bytes (asks .handing .well) in
+      within-both c (cfg .c)
+      (omega (arith, asks .client, config.within-low 1 (cfg .c) (clientAt bytes) h))
+      (omega (arith, asks .client, config.within-high 1 (cfg .c) (clientAt bytes) h))
+
+  module _ (x : client.State) (stood : place (cfg .c) c (r .clients) ≡ some x) where
+    pub hears : (sends : List ℕ) → length sends ≡ 80 * cfg .n → Hears cfg x c bytes read boards elements sends
+    hears sends long =
+        record {
+          valid = asks .handing .valid;
+          low = within-low c (cfg .c) client-there;
+          high = within-high c (cfg .c) client-there;
+          me = number-at cfg (asks .handing .most) r (asks .handing .kept) c x client-there stood;
+          within = within-at cfg (asks .handing .most) r (asks .handing .kept) c x client-there stood;
+          well = asks .handing .well;
+          kind = asks .kind;
+          client = asks .client;
+          read-length = asks .read-length;
+          boards-length = asks .boards-length;
+          elements-length = asks .elements-length;
+          sends-length = long;
+        }
+
+    module _ (sends sends′ read′ elements′ : List ℕ) (y : Moved) (post : HeardPost cfg x c (messageOf cfg bytes) boards elements elements′ sends sends′ read read′ y) where
+      abbrev its-move : protocolClient.Moved (List ℕ) (List ℕ)
+      its-move = stepOf cfg c x (messageOf cfg bytes) (part (boardLength cfg) (c - 1) boards) (part (cfg .n * cfg .e) (c - 1) elements)
+
+      abbrev left-over : ℕ
+      left-over = r .count - 1
+
+      at-most : r .count ≤ m
+      at-most = omega (arith, count-most cfg (asks .handing .most) r (asks .handing .kept), asks .most)
+
+      -- there is no room: the client's step has sent something
+      pub answer-full : m < left-over + y .sent → AnswerPost cfg m r i read messages boards elements (refusedFor Refusal.Full r) read′ messages elements′
+      answer-full over start board stores party ready =
+          let alone = post .still (λ e. omega (arith, e, over, at-most, asks .handing .inside)) in
+          full-event cfg (asks .handing .valid) m start r (handing party i board) read
+          (record { messages = messages; stores = stores; boards = boards; elements = elements }) ready refl (asks .handing .inside) bytes (asks .handing .stands) c (asks .client)
+          (asks .handing .well) (asks .kind) x client-there stood (omega (arith, over, post .stepped .many)) read′ elements′ (alone .1) (alone .0)
+
+      -- the records sent
+      sent-long : length (send.records cfg (its-move .sends)) ≡ 80 * y .sent
+      sent-long = length-sends cfg (asks .handing .valid .e-high) (its-move .sends) (post .sound) ∙ ap (λ n. 80 * n) (sym (post .stepped .many))
+
+      pub sent-are : (n : ℕ) (rest : List ℕ) → n ≡ 80 * y .sent → take n (sends′ ++ rest) ≡ send.records cfg (its-move .sends)
+      sent-are n rest e =
+          let recs = send.records cfg (its-move .sends) in
+          ap (λ z. take n (z ++ rest)) (post .stepped .out)
+          ∙ ap (take n) (append-assoc recs (drop (length recs) sends) rest)
+          ∙ take-at recs (drop (length recs) sends ++ rest) n (sent-long ∙ sym e)
+
+      -- there is room
+      pub answer-moved : left-over + y .sent ≤ m → length elements′ ≡ length elements → (out : List ℕ) → out ≡ send.records cfg (its-move .sends)
+          → AnswerPost cfg m r i read messages boards elements (settled r (c - 1) (left-over + y .sent) y) read′ (replaced i left-over messages out) elements′
+      answer-moved fits elements-long out out-is start board stores party ready =
+          let long : length messages ≡ 80 * m = asks .handing .messages-length ∙ ap (λ n. 80 * n) (asks .most) in
+          let shut = lose-done r i messages (closedUp i left-over messages) (asks .handing .inside) (omega (arith, long, at-most)) refl in
+          let size : length out ≡ 80 * y .sent = ap length out-is ∙ sent-long in
+          let room : 80 * left-over + length out ≤ length (closedUp i left-over messages) = omega (arith, fits, long, size, shut .long) in
+          heard-event cfg (asks .handing .valid) m start r (handing party i board) read
+          (record { messages = messages; stores = stores; boards = boards; elements = elements }) ready refl (asks .handing .inside) bytes (asks .handing .stands) c (asks .client)
+          (asks .handing .well) (asks .kind) x client-there stood (post .sound) y (part (cfg .n * cfg .e) (c - 1) elements′) sends sends′ read′ (post .stepped)
+          (omega (arith, fits, post .stepped .many)) long (closedUp i left-over messages) (shut .lost (asks .handing .inside) .1) (shut .long)
+          (drop (80 * left-over + length out) (closedUp i left-over messages)) (replaced i left-over messages out) elements′
+          (ap (λ z. take (80 * left-over) (closedUp i left-over messages) ++ (z ++ drop (80 * left-over + length out) (closedUp i left-over messages))) out-is)
+          (ap length (sym (put-form (80 * left-over) (length out) (closedUp i left-over messages) out))
+          ∙ length-put (80 * left-over) (length out) (closedUp i left-over messages) out room refl ∙ shut .long)
+          refl (λ p h ne. post .others (p - 1) (λ e. ne (omega (arith, e, within-low p (cfg .c) h, within-low c (cfg .c) client-there)))) elements-long
+
+-- bytes written behind a place of the messages
+pub laid-behind : (ms : List ℕ) (at : ℕ) (bs new : List ℕ) → at + length bs ≤ length ms
+    → new ≡ take (length bs) bs ++ drop (length bs) (take (length ms - at) (drop at ms))
+    → take at ms ++ (new ++ drop (length ms - at) (drop at ms)) ≡ take at ms ++ (bs ++ drop (at + length bs) ms)
+laid-behind ms at bs new h e =
+    ap (λ z. take at ms ++ z)
+    (ap₂ _++_ e (drop-of-length-le (drop at ms) {i = length ms - at} (omega (arith, length-drop at ms)))
+    ∙ append-nil (take (length bs) bs ++ drop (length bs) (take (length ms - at) (drop at ms)))
+    ∙ ap₂ _++_ (take-length bs)
+    (ap (drop (length bs)) (take-all (length ms - at) (drop at ms) (omega (arith, length-drop at ms))) ∙ drop-drop (length bs) at ms))

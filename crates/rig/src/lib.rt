@@ -5,6 +5,7 @@
 mod begin;
 mod crash;
 mod flight;
+mod hear;
 mod kept;
 mod questions;
 

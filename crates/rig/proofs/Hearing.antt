@@ -7,8 +7,8 @@ use mathlib.Core.List.{List, [], _∷_, _++_, append-assoc, append-nil, map}
 use native.Mathlib.Omega.{arith}
 use borrow.Author.Tests.{eq-eqb, eqb-true, le-leb, lt-leb}
 use lib.Dec.{eqb, leb}
-use lib.ListN.{length, take, drop, set, length-append, length-drop, drop-of-length-le}
-use lib.Seq.{drop-at, drop-drop, take-all, take-at, take-length}
+use lib.ListN.{length, take, drop, set, getD, length-append, length-drop, length-replicate, replicate, drop-of-length-le}
+use lib.Seq.{drop-at, drop-drop, length-take-le, take-all, take-at, take-length}
 use Rattle.laws.proofs.Bools.{and-left}
 use Rattle.config.specs.declared.Client.{Client}
 use Rattle.config.specs.declared.Config.{Config}
@@ -41,6 +41,7 @@ use Rattle.rig.specs.Questions.{clientKept, moveOf, rigKept, sizedBy}
 use Rattle.rig.specs.Calls.{EventPost, answerOf, eventNo, isRead, recordsAfter}
 use Rattle.rig.specs.Heard.{HeardPost, Hears, Stepped, closedUp, endedBy, replaced, settled, stepOf}
 use Rattle.rig.specs.Inner.{AnswerPost, Answering, Ready, counted, handing, recordAt, refusedFor, withClient}
+use Rattle.rig.proofs.Crashed.{place-some}
 use Rattle.rig.proofs.Downed.{client-at}
 use Rattle.rig.proofs.Flown.{lose-done}
 use Rattle.rig.proofs.Handed.{hand-moves, hand-number, is-hand, left-list}
@@ -242,6 +243,21 @@ module _ (cfg : Config) (m : ℕ) (r : Rig) (i c : ℕ) (bytes read messages boa
       (omega (arith, asks .client, config.within-low 1 (cfg .c) (clientAt bytes) h))
       (omega (arith, asks .client, config.within-high 1 (cfg .c) (clientAt bytes) h))
 
+  pub client-low : 1 ≤ c
+  client-low = within-low c (cfg .c) client-there
+
+  pub client-high : c ≤ 16
+  client-high = omega (arith, within-high c (cfg .c) client-there, asks .handing .valid .c-high)
+
+  pub client-stood : (d : client.State) → place (cfg .c) c (r .clients) ≡ some (getD (r .clients) (c - 1) d)
+  client-stood d = place-some (cfg .c) c (r .clients) d client-there (clients-seated cfg (asks .handing .most) r (asks .handing .kept))
+
+  pub count-high : r .count ≤ 512
+  count-high = omega (arith, count-most cfg (asks .handing .most) r (asks .handing .kept), asks .handing .most-high)
+
+  pub left-fit : 80 * (r .count - 1) + 80 ≤ length messages
+  left-fit = omega (arith, count-most cfg (asks .handing .most) r (asks .handing .kept), asks .handing .inside, asks .handing .messages-length)
+
   module _ (x : client.State) (stood : place (cfg .c) c (r .clients) ≡ some x) where
     pub hears : (sends : List ℕ) → length sends ≡ 80 * cfg .n → Hears cfg x c bytes read boards elements sends
     hears sends long =
@@ -289,10 +305,16 @@ module _ (cfg : Config) (m : ℕ) (r : Rig) (i c : ℕ) (bytes read messages boa
           ∙ ap (take n) (append-assoc recs (drop (length recs) sends) rest)
           ∙ take-at recs (drop (length recs) sends ++ rest) n (sent-long ∙ sym e)
 
+      -- they fit behind those left
+      pub sent-fit : left-over + y .sent ≤ m → (n : ℕ) (rest : List ℕ) → n ≡ 80 * y .sent → 80 * left-over + length (take n (sends′ ++ rest)) ≤ length messages
+      sent-fit fits n rest e =
+          let size : length (take n (sends′ ++ rest)) ≡ 80 * y .sent = ap length (sent-are n rest e) ∙ sent-long in
+          omega (arith, fits, size, asks .handing .messages-length, asks .most)
+
       -- there is room
-      pub answer-moved : left-over + y .sent ≤ m → length elements′ ≡ length elements → (out : List ℕ) → out ≡ send.records cfg (its-move .sends)
+      moved-on : left-over + y .sent ≤ m → length elements′ ≡ length elements → (out : List ℕ) → out ≡ send.records cfg (its-move .sends)
           → AnswerPost cfg m r i read messages boards elements (settled r (c - 1) (left-over + y .sent) y) read′ (replaced i left-over messages out) elements′
-      answer-moved fits elements-long out out-is start board stores party ready =
+      moved-on fits elements-long out out-is start board stores party ready =
           let long : length messages ≡ 80 * m = asks .handing .messages-length ∙ ap (λ n. 80 * n) (asks .most) in
           let shut = lose-done r i messages (closedUp i left-over messages) (asks .handing .inside) (omega (arith, long, at-most)) refl in
           let size : length out ≡ 80 * y .sent = ap length out-is ∙ sent-long in
@@ -307,6 +329,14 @@ module _ (cfg : Config) (m : ℕ) (r : Rig) (i c : ℕ) (bytes read messages boa
           ∙ length-put (80 * left-over) (length out) (closedUp i left-over messages) out room refl ∙ shut .long)
           refl (λ p h ne. post .others (p - 1) (λ e. ne (omega (arith, e, within-low p (cfg .c) h, within-low c (cfg .c) client-there)))) elements-long
 
+      pub answer-moved : left-over + y .sent ≤ m → length elements′ ≡ length elements → (out : List ℕ) → out ≡ send.records cfg (its-move .sends)
+          → (t : Turn) (messages′ : List ℕ) → t ≡ settled r (c - 1) (left-over + y .sent) y → messages′ ≡ replaced i left-over messages out
+          → AnswerPost cfg m r i read messages boards elements t read′ messages′ elements′
+      answer-moved fits elements-long out out-is t messages′ turn are =
+          subst (λ q. AnswerPost cfg m r i read messages boards elements q read′ messages′ elements′) (sym turn)
+          (subst (λ q. AnswerPost cfg m r i read messages boards elements (settled r (c - 1) (left-over + y .sent) y) read′ q elements′) (sym are)
+          (moved-on fits elements-long out out-is))
+
 -- bytes written behind a place of the messages
 pub laid-behind : (ms : List ℕ) (at : ℕ) (bs new : List ℕ) → at + length bs ≤ length ms
     → new ≡ take (length bs) bs ++ drop (length bs) (take (length ms - at) (drop at ms))
@@ -317,3 +347,13 @@ laid-behind ms at bs new h e =
     ∙ append-nil (take (length bs) bs ++ drop (length bs) (take (length ms - at) (drop at ms)))
     ∙ ap₂ _++_ (take-length bs)
     (ap (drop (length bs)) (take-all (length ms - at) (drop at ms) (omega (arith, length-drop at ms))) ∙ drop-drop (length bs) at ms))
+
+-- the front of the code's buffer for sends
+pub zeros-front : (n : ℕ) → n ≤ 16 → length (take (80 * n - 0) (drop 0 (replicate {A = ℕ} 1280 0))) ≡ 80 * n
+zeros-front n h =
+    let e : 80 * n - 0 ≡ 80 * n = omega arith in
+    ap (λ k. length (take k (replicate {A = ℕ} 1280 0))) e
+    ∙ length-take-le (80 * n) (replicate {A = ℕ} 1280 0) (omega (arith, h, length-replicate {A = ℕ} 1280 0))
+
+pub front-room : (k : ℕ) (new rest : List ℕ) → k ≤ length new → k ≤ length (new ++ rest)
+front-room k new rest h = omega (arith, h, length-append new rest)

@@ -74,7 +74,15 @@ fn step(
     let wide = cfg.n * cfg.e;
     let start = i * wide;
     let stop = start + wide;
-    client::step(cfg, x, message, &boards[at..to], &mut elements[start..stop], sends, read)
+    client::step(
+        cfg,
+        x,
+        message,
+        &boards[at..to],
+        &mut elements[start..stop],
+        sends,
+        read,
+    )
 }
 
 // Event 3 of a message for client c: it leaves the list, the client takes its step, and what it sends goes to the end. Question 13.
@@ -97,7 +105,16 @@ pub(crate) fn hand(
     let x = rig.clients[i];
     let mut sends = [0u8; 1280];
     let end = 80 * cfg.n;
-    let moved = step(cfg, x, c, &bytes, read, boards, elements, &mut sends[0..end]);
+    let moved = step(
+        cfg,
+        x,
+        c,
+        &bytes,
+        read,
+        boards,
+        elements,
+        &mut sends[0..end],
+    );
     let left = rig.count - 1;
     let count = left + moved.sent;
     if m < count {

@@ -1,15 +1,29 @@
+use Prim.Native.Nat.{_+_, _-_, _*_}
+use native.Mathlib.Omega.{arith}
+use denote.Ref.{now}
+use Rattle.client.specs.declared.Phase.{Phase}
+use Rattle.rig.proofs.Hearing.{answer-full, answer-moved, client-high, client-low, client-stood, count-high, hears, front-room, left-fit, sent-are, sent-fit, zeros-front}
 use borrow.Author.Needs.{needs}
 use Rattle.rig.proofs.hear.hand.Statement.{statement}
 use Rattle.rig.proofs.hear.hand.Tie as tie
 
 sub-i : tie.Need-sub-i
-sub-i c = ?
+sub-i c =
+    let s = c .before .before .before .before in
+    let a = s .args in
+    client-low (a .cfg) (a .m) (a .t3) (a .position) (a .c) (a .t6) (now (a .read)) (now (a .messages)) (now (a .boards)) (now (a .elements)) (s .pre)
 
 mul-x : tie.Need-mul-x
-mul-x c = ?
+mul-x c =
+    let s = c .before .before .before .before in
+    let a = s .args in
+    omega (arith, client-high (a .cfg) (a .m) (a .t3) (a .position) (a .c) (a .t6) (now (a .read)) (now (a .messages)) (now (a .boards)) (now (a .elements)) (s .pre))
 
 element-copy-out-x : tie.Need-element-copy-out-x
-element-copy-out-x c = ?
+element-copy-out-x c =
+    let s = c .before .before .before .before in
+    let a = s .args in
+    omega (arith, client-low (a .cfg) (a .m) (a .t3) (a .position) (a .c) (a .t6) (now (a .read)) (now (a .messages)) (now (a .boards)) (now (a .elements)) (s .pre), client-high (a .cfg) (a .m) (a .t3) (a .position) (a .c) (a .t6) (now (a .read)) (now (a .messages)) (now (a .boards)) (now (a .elements)) (s .pre))
 
 mul-end : tie.Need-mul-end
 mul-end c = search needs
@@ -27,13 +41,19 @@ part-sends-end : tie.Need-part-sends-end
 part-sends-end c = search needs
 
 step-requires : tie.Need-step-requires
-step-requires c κs = ?
+step-requires c κs =
+    let s = c .before .before .before .before .before .before .before .before .before .before in
+    let a = s .args in
+    hears (a .cfg) (a .m) (a .t3) (a .position) (a .c) (a .t6) (now (a .read)) (now (a .messages)) (now (a .boards)) (now (a .elements)) (s .pre) _ (client-stood (a .cfg) (a .m) (a .t3) (a .position) (a .c) (a .t6) (now (a .read)) (now (a .messages)) (now (a .boards)) (now (a .elements)) (s .pre) (record { me = record { 0 = 0 }; operation = 0; phase = Phase.Idle })) _ (zeros-front (a .cfg .n) (s .pre .handing .valid .n-high))
 
 sub-left : tie.Need-sub-left
 sub-left c = search needs
 
 add-count : tie.Need-add-count
-add-count c = ?
+add-count c =
+    let s = c .before .before .before .before .before .before .before .before .before .before .before .before .before .before .before .before .before in
+    let a = s .args in
+    omega (arith, count-high (a .cfg) (a .m) (a .t3) (a .position) (a .c) (a .t6) (now (a .read)) (now (a .messages)) (now (a .boards)) (now (a .elements)) (s .pre), c .before .before .before .before .before .before .step .ensures .few, s .pre .handing .valid .n-high)
 
 same-length : tie.Need-same-length
 same-length c = search needs
@@ -42,10 +62,17 @@ same-length-2 : tie.Need-same-length-2
 same-length-2 c = search needs
 
 returns : tie.Need-returns
-returns c = ?
+returns c =
+    let s = c .before .before .before .before .before .before .before .before .before .before .before .before .before .before .before .before .before .before in
+    let a = s .args in
+    let y = c .before .before .before .before .before .before .before .step in
+    answer-full (a .cfg) (a .m) (a .t3) (a .position) (a .c) (a .t6) (now (a .read)) (now (a .messages)) (now (a .boards)) (now (a .elements)) (s .pre) _ (client-stood (a .cfg) (a .m) (a .t3) (a .position) (a .c) (a .t6) (now (a .read)) (now (a .messages)) (now (a .boards)) (now (a .elements)) (s .pre) (record { me = record { 0 = 0 }; operation = 0; phase = Phase.Idle })) _ (y .last .1 .1 .1 .1 .1 .1 .1 .0) (y .last .1 .1 .1 .1 .0) (y .last .1 .1 .1 .1 .1 .1 .0) (y .result) (y .ensures) (c .if1 .taken)
 
 mul-sent : tie.Need-mul-sent
-mul-sent c = ?
+mul-sent c =
+    let s = c .before .before .before .before .before .before .before .before .before .before .before .before .before .before .before .before .before .before .before in
+    let a = s .args in
+    omega (arith, c .before .before .before .before .before .before .before .before .step .ensures .few, s .pre .handing .valid .n-high)
 
 sub-replace : tie.Need-sub-replace
 sub-replace c = search needs
@@ -54,13 +81,28 @@ part-replace-start : tie.Need-part-replace-start
 part-replace-start c = search needs
 
 part-replace-end : tie.Need-part-replace-end
-part-replace-end c = ?
+part-replace-end c =
+    let s = c .before .before .before .before .before .before .before .before .before .before .before .before .before .before .before .before .before .before .before .before .before in
+    let a = s .args in
+    let y = c .before .before .before .before .before .before .before .before .before .before .step in
+    front-room (80 * y .result .sent) (y .last .1 .1 .1 .1 .1 .1 .1 .0) _ (omega (arith, y .kept .1 .1 .1 .1 .1 .1 .1 .0, y .ensures .few, zeros-front (a .cfg .n) (s .pre .handing .valid .n-high)))
 
 replace-requires : tie.Need-replace-requires
-replace-requires c κs = ?
+replace-requires c κs =
+    let s = c .before .before .before .before .before .before .before .before .before .before .before .before .before .before .before .before .before .before .before .before .before .before in
+    let a = s .args in
+    let y = c .before .before .before .before .before .before .before .before .before .before .before .step in (
+      omega (arith, s .pre .handing .inside),
+      omega (arith, count-high (a .cfg) (a .m) (a .t3) (a .position) (a .c) (a .t6) (now (a .read)) (now (a .messages)) (now (a .boards)) (now (a .elements)) (s .pre)),
+      left-fit (a .cfg) (a .m) (a .t3) (a .position) (a .c) (a .t6) (now (a .read)) (now (a .messages)) (now (a .boards)) (now (a .elements)) (s .pre),
+      sent-fit (a .cfg) (a .m) (a .t3) (a .position) (a .c) (a .t6) (now (a .read)) (now (a .messages)) (now (a .boards)) (now (a .elements)) (s .pre) _ (client-stood (a .cfg) (a .m) (a .t3) (a .position) (a .c) (a .t6) (now (a .read)) (now (a .messages)) (now (a .boards)) (now (a .elements)) (s .pre) (record { me = record { 0 = 0 }; operation = 0; phase = Phase.Idle })) _ (y .last .1 .1 .1 .1 .1 .1 .1 .0) (y .last .1 .1 .1 .1 .0) (y .last .1 .1 .1 .1 .1 .1 .0) (y .result) (y .ensures) (c .before .before .before .before .if1 .left) (80 * y .result .sent - 0) _ (omega arith),
+    )
 
 settle-requires : tie.Need-settle-requires
-settle-requires c κs = ?
+settle-requires c κs =
+    let s = c .before .before .before .before .before .before .before .before .before .before .before .before .before .before .before .before .before .before .before .before .before .before .before .before .before in
+    let a = s .args in
+    omega (arith, client-low (a .cfg) (a .m) (a .t3) (a .position) (a .c) (a .t6) (now (a .read)) (now (a .messages)) (now (a .boards)) (now (a .elements)) (s .pre), client-high (a .cfg) (a .m) (a .t3) (a .position) (a .c) (a .t6) (now (a .read)) (now (a .messages)) (now (a .boards)) (now (a .elements)) (s .pre))
 
 same-length-3 : tie.Need-same-length-3
 same-length-3 c = search needs
@@ -72,7 +114,12 @@ same-length-5 : tie.Need-same-length-5
 same-length-5 c = search needs
 
 returns-2 : tie.Need-returns-2
-returns-2 c = ?
+returns-2 c =
+    let s = c .before .before .before .before .before .before .before .before .before .before .before .before .before .before .before .before .before .before .before .before .before .before .before .before .before .before in
+    let a = s .args in
+    let y = c .before .before .before .before .before .before .before .before .before .before .before .before .before .before .before .step in
+    answer-moved (a .cfg) (a .m) (a .t3) (a .position) (a .c) (a .t6) (now (a .read)) (now (a .messages)) (now (a .boards)) (now (a .elements)) (s .pre) _ (client-stood (a .cfg) (a .m) (a .t3) (a .position) (a .c) (a .t6) (now (a .read)) (now (a .messages)) (now (a .boards)) (now (a .elements)) (s .pre) (record { me = record { 0 = 0 }; operation = 0; phase = Phase.Idle })) _ (y .last .1 .1 .1 .1 .1 .1 .1 .0) (y .last .1 .1 .1 .1 .0) (y .last .1 .1 .1 .1 .1 .1 .0) (y .result) (y .ensures) (c .before .before .before .before .before .before .before .before .if1 .left) (y .kept .1 .1 .1 .1 .1 .1 .0) _
+    (sent-are (a .cfg) (a .m) (a .t3) (a .position) (a .c) (a .t6) (now (a .read)) (now (a .messages)) (now (a .boards)) (now (a .elements)) (s .pre) _ (client-stood (a .cfg) (a .m) (a .t3) (a .position) (a .c) (a .t6) (now (a .read)) (now (a .messages)) (now (a .boards)) (now (a .elements)) (s .pre) (record { me = record { 0 = 0 }; operation = 0; phase = Phase.Idle })) _ (y .last .1 .1 .1 .1 .1 .1 .1 .0) (y .last .1 .1 .1 .1 .0) (y .last .1 .1 .1 .1 .1 .1 .0) (y .result) (y .ensures) (80 * y .result .sent - 0) _ (omega arith)) (c .settle .result) (c .before .before .before .replace .last .0) (c .settle .ensures) (c .before .before .before .replace .ensures)
 
 pub hand-spec : {M : Type 1} → statement M
 hand-spec =

@@ -1,10 +1,10 @@
 -- What a client's step on an answer gives: it is the protocol's, whether the answer is awaited or not; one that sends something takes no
 -- element and ends nothing.
-use Prim.Native.Nat.{ℕ, zero, suc, _+_, _-_, _*_, _≤_, _<_}
+use Prim.Native.Nat.{ℕ, _+_, _-_, _*_, _≤_, _<_}
 use mathlib.Core.Path.{_≡_, refl, sym, ap, ap₂, subst, _∙_}
 use mathlib.Core.Bool.{Bool, true, false, cond, not, _&&_, true≢false}
 use mathlib.Core.Option.{Option, none, some}
-use mathlib.Core.List.{List, [], _∷_, _++_}
+use mathlib.Core.List.{List, [], _++_}
 use native.Mathlib.Omega.{arith}
 use mir.Val.{Val}
 use borrow.Author.Tests.{eq-eqb, eqb-true}
@@ -15,7 +15,7 @@ use Rattle.laws.proofs.Bools.{and-left, and-right}
 use Rattle.config.specs.declared.Config.{Config}
 use Rattle.config.specs.Config.{Valid, boardLength, questions}
 use Rattle.config.specs.Number.{clientNumber}
-use Rattle.config.specs.Questions.{ask, firstNo, within}
+use Rattle.config.specs.Questions.{firstNo, within}
 use Rattle.config.proofs.Questions.{last-yes, questions-numbered}
 use Rattle.config.proofs.Valid.{valid-asked}
 use Rattle.tag.specs.declared.Tag.{Tag}
@@ -37,13 +37,13 @@ use Rattle.client.specs.Count.{placed, placedAt}
 use Rattle.client.specs.Questions.{answerQuestions, isAnswer, isFor, shapeQuestions, stepQuestions, stepSized}
 use Rattle.client.specs.Send as send
 use Rattle.client.specs.Servers.{withinServers}
-use Rattle.client.specs.Settle.{endedOf, shown}
+use Rattle.client.specs.Settle.{shown}
 use Rattle.client.specs.State as clientView
 use Rattle.client.specs.State.{phaseOf, phaseWithin, stateWithin, tagWithin}
 use Rattle.client.proofs.Phase as phase
 use Rattle.client.proofs.Stepping.{asked-later}
 use Rattle.history.specs.Client as protocol
-use Rattle.history.specs.Client.{Client, Ended, Phase, idle, asking, preWriting, finalisingWrite, finalisingRead, down, nothing, spent, asked, awaited, awaits, counted, counting, endRead, ends, enough, enoughToRead, highestNumber, isFirst, sendEach, sendPreWrites, sendReadFinalises, sendWriteFinalises, settle, settling, stays}
+use Rattle.history.specs.Client.{Client, Phase, idle, asking, preWriting, finalisingWrite, finalisingRead, down, nothing, spent, asked, awaited, awaits, counted, counting, endRead, ends, enough, enoughToRead, highestNumber, isFirst, sendEach, sendPreWrites, sendReadFinalises, sendWriteFinalises, settle, settling, stays}
 use Rattle.history.specs.Rig.{isForServer}
 use Rattle.history.proofs.Basics.{cond-elim}
 use Rattle.rig.specs.Heard.{HeardPost, Hears, Stepped, stepOf}

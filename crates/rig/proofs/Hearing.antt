@@ -1,13 +1,13 @@
 -- Event 3 of a message for a client, from what the client's step gives.
-use Prim.Native.Nat.{ℕ, zero, suc, _+_, _-_, _*_, _≤_, _<_}
+use Prim.Native.Nat.{ℕ, _+_, _-_, _*_, _≤_, _<_}
 use mathlib.Core.Path.{_≡_, refl, sym, ap, ap₂, subst, _∙_}
-use mathlib.Core.Bool.{Bool, true, false, cond, _&&_, true≢false}
-use mathlib.Core.Option.{Option, none, some}
-use mathlib.Core.List.{List, [], _∷_, _++_, append-assoc, append-nil, map}
+use mathlib.Core.Bool.{true, false, cond, _&&_, true≢false}
+use mathlib.Core.Option.{some}
+use mathlib.Core.List.{List, _++_, append-assoc, append-nil, map}
 use native.Mathlib.Omega.{arith}
 use borrow.Author.Tests.{eq-eqb, eqb-true, le-leb, lt-leb}
 use lib.Dec.{eqb, leb}
-use lib.ListN.{length, take, drop, set, getD, length-append, length-drop, length-replicate, replicate, drop-of-length-le}
+use lib.ListN.{length, take, drop, getD, length-append, length-drop, length-replicate, replicate, drop-of-length-le}
 use lib.Seq.{drop-at, drop-drop, length-take-le, take-all, take-at, take-length}
 use Rattle.laws.proofs.Bools.{and-left}
 use Rattle.config.specs.declared.Client.{Client}
@@ -33,7 +33,7 @@ use Rattle.client.specs.State.{stateWithin}
 use Rattle.history.specs.Board.{Call}
 use Rattle.history.specs.Client as protocolClient
 use Rattle.history.specs.Rig as protocol
-use Rattle.history.specs.Rig.{answered, codeOf, handOver, handed, hasRoom, isForServer, isWithin, withFlight, without}
+use Rattle.history.specs.Rig.{answered, handOver, handed, hasRoom, isForServer, isWithin, withFlight, without}
 use Rattle.rig.specs.declared.Rig.{Rig}
 use Rattle.rig.specs.declared.Turn.{Turn}
 use Rattle.rig.specs.View.{Lent, flight, messagesOf, part, place, records, view}

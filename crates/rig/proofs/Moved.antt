@@ -11,7 +11,7 @@ use Rattle.laws.proofs.Bools.{and-left, and-right}
 use Rattle.config.specs.declared.Config.{Config}
 use Rattle.config.specs.Config.{boardLength}
 use Rattle.record.specs.Message.{Message}
-use Rattle.record.specs.Record.{messageOf, ofConfig, recordOf}
+use Rattle.record.specs.Record.{messageOf, recordOf}
 use Rattle.record.proofs.Laws.{reads-back, record-long}
 use Rattle.server.specs.Calls.{storeLength}
 use Rattle.server.specs.View as serverView

@@ -251,7 +251,7 @@ phase-fits cfg (FinalisingRead tag counted sent) kept es h n =
 phase-fits cfg Down kept es h n = tt
 
 -- the client's parts of the boards and the elements end within them
-module _ (cfg : Config) (x : client.State) (c : ℕ) (message read boards elements sends : List ℕ) (asks : Hears cfg x c message read boards elements sends) where
+module _ {cfg : Config} {x : client.State} {c : ℕ} {message read boards elements sends : List ℕ} (asks : Hears cfg x c message read boards elements sends) where
   inside : c - 1 < cfg .c
   inside = omega (arith, asks .low, asks .high)
 
@@ -268,7 +268,7 @@ module _ (cfg : Config) (x : client.State) (c : ℕ) (message read boards elemen
   elements-fit = omega (arith, elements-end, asks .elements-length, elements-small cfg (asks .valid))
 
 -- the step of client c, with those parts
-module _ (cfg : Config) (x : client.State) (c : ℕ) (message read boards elements sends : List ℕ) (asks : Hears cfg x c message read boards elements sends)
+module _ {cfg : Config} {x : client.State} {c : ℕ} {message read boards elements sends : List ℕ} (asks : Hears cfg x c message read boards elements sends)
     (bytes : Bytes message) (numbered : Numbered (x .phase)) where
   abbrev says : Message (List ℕ)
   says = messageOf cfg message
@@ -283,10 +283,10 @@ module _ (cfg : Config) (x : client.State) (c : ℕ) (message read boards elemen
   own-elements = part wide (c - 1) elements
 
   board-room : (c - 1) * boardLength cfg + boardLength cfg ≤ length boards
-  board-room = board-ends cfg x c message read boards elements sends asks
+  board-room = board-ends asks
 
   elements-room : (c - 1) * wide + wide ≤ length elements
-  elements-room = elements-end cfg x c message read boards elements sends asks
+  elements-room = elements-end asks
 
   of : ofConfig cfg says ≡ true
   of = message-of-config cfg (asks .valid .e-high) message bytes (asks .well)

@@ -234,7 +234,7 @@ module _ (cfg : Config) (valid : Valid cfg) (m : ℕ) (start : List ℕ) (r : Ri
         (ap₂ (λ n k. sizedBy cfg m n (length (l .stores)) (length (l .boards)) k) messages-long elements-long)
 
 -- what the event asks of the client's step, and what follows from the step
-module _ (cfg : Config) (m : ℕ) (r : Rig) (i c : ℕ) (bytes read messages boards elements : List ℕ) (asks : Answering cfg m r i c bytes read messages boards elements) where
+module _ {cfg : Config} {m : ℕ} {r : Rig} {i c : ℕ} {bytes read messages boards elements : List ℕ} (asks : Answering cfg m r i c bytes read messages boards elements) where
   pub client-there : isWithin c (cfg .c) ≡ true
   unfolding messageOf
   client-there =
@@ -258,7 +258,7 @@ module _ (cfg : Config) (m : ℕ) (r : Rig) (i c : ℕ) (bytes read messages boa
   pub left-fit : 80 * (r .count - 1) + 80 ≤ length messages
   left-fit = omega (arith, count-most cfg (asks .handing .most) r (asks .handing .kept), asks .handing .inside, asks .handing .messages-length)
 
-  module _ (x : client.State) (stood : place (cfg .c) c (r .clients) ≡ some x) where
+  module _ {x : client.State} (stood : place (cfg .c) c (r .clients) ≡ some x) where
     pub hears : (sends : List ℕ) → length sends ≡ 80 * cfg .n → Hears cfg x c bytes read boards elements sends
     hears sends long =
         record {
@@ -276,7 +276,7 @@ module _ (cfg : Config) (m : ℕ) (r : Rig) (i c : ℕ) (bytes read messages boa
           sends-length = long;
         }
 
-    module _ (sends sends′ read′ elements′ : List ℕ) (y : Moved) (post : HeardPost cfg x c (messageOf cfg bytes) boards elements elements′ sends sends′ read read′ y) where
+    module _ {sends sends′ read′ elements′ : List ℕ} {y : Moved} (post : HeardPost cfg x c (messageOf cfg bytes) boards elements elements′ sends sends′ read read′ y) where
       abbrev its-move : protocolClient.Moved (List ℕ) (List ℕ)
       its-move = stepOf cfg c x (messageOf cfg bytes) (part (boardLength cfg) (c - 1) boards) (part (cfg .n * cfg .e) (c - 1) elements)
 

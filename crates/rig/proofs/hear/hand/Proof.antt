@@ -1,6 +1,5 @@
 use Prim.Native.Nat.{_-_, _*_}
 use native.Mathlib.Omega.{arith}
-use denote.Ref.{now}
 use Rattle.client.specs.declared.Phase.{Phase}
 use Rattle.rig.proofs.Hearing.{answer-full, answer-moved, client-high, client-low, client-stood, count-high, hears, front-room, left-fit, sent-are, sent-fit, zeros-front}
 use borrow.Author.Needs.{needs}
@@ -8,22 +7,15 @@ use Rattle.rig.proofs.hear.hand.Statement.{statement}
 use Rattle.rig.proofs.hear.hand.Tie as tie
 
 sub-i : tie.Need-sub-i
-sub-i c =
-    let s = c .before .before .before .before in
-    let a = s .args in
-    client-low (a .cfg) (a .m) (a .t3) (a .position) (a .c) (a .t6) (now (a .read)) (now (a .messages)) (now (a .boards)) (now (a .elements)) (s .pre)
+sub-i c = client-low (c .before .before .before .before .pre)
 
 mul-x : tie.Need-mul-x
-mul-x c =
-    let s = c .before .before .before .before in
-    let a = s .args in
-    omega (arith, client-high (a .cfg) (a .m) (a .t3) (a .position) (a .c) (a .t6) (now (a .read)) (now (a .messages)) (now (a .boards)) (now (a .elements)) (s .pre))
+mul-x c = omega (arith, client-high (c .before .before .before .before .pre))
 
 element-copy-out-x : tie.Need-element-copy-out-x
 element-copy-out-x c =
     let s = c .before .before .before .before in
-    let a = s .args in
-    omega (arith, client-low (a .cfg) (a .m) (a .t3) (a .position) (a .c) (a .t6) (now (a .read)) (now (a .messages)) (now (a .boards)) (now (a .elements)) (s .pre), client-high (a .cfg) (a .m) (a .t3) (a .position) (a .c) (a .t6) (now (a .read)) (now (a .messages)) (now (a .boards)) (now (a .elements)) (s .pre))
+    omega (arith, client-low (s .pre), client-high (s .pre))
 
 mul-end : tie.Need-mul-end
 mul-end c = search needs
@@ -44,7 +36,7 @@ step-requires : tie.Need-step-requires
 step-requires c κs =
     let s = c .before .before .before .before .before .before .before .before .before .before in
     let a = s .args in
-    hears (a .cfg) (a .m) (a .t3) (a .position) (a .c) (a .t6) (now (a .read)) (now (a .messages)) (now (a .boards)) (now (a .elements)) (s .pre) _ (client-stood (a .cfg) (a .m) (a .t3) (a .position) (a .c) (a .t6) (now (a .read)) (now (a .messages)) (now (a .boards)) (now (a .elements)) (s .pre) (record { me = record { 0 = 0 }; operation = 0; phase = Phase.Idle })) _ (zeros-front (a .cfg .n) (s .pre .handing .valid .n-high))
+    hears (s .pre) (client-stood (s .pre) (record { me = record { 0 = 0 }; operation = 0; phase = Phase.Idle })) _ (zeros-front (a .cfg .n) (s .pre .handing .valid .n-high))
 
 sub-left : tie.Need-sub-left
 sub-left c = search needs
@@ -52,8 +44,7 @@ sub-left c = search needs
 add-count : tie.Need-add-count
 add-count c =
     let s = c .before .before .before .before .before .before .before .before .before .before .before .before .before .before .before .before .before in
-    let a = s .args in
-    omega (arith, count-high (a .cfg) (a .m) (a .t3) (a .position) (a .c) (a .t6) (now (a .read)) (now (a .messages)) (now (a .boards)) (now (a .elements)) (s .pre), c .before .before .before .before .before .before .step .ensures .few, s .pre .handing .valid .n-high)
+    omega (arith, count-high (s .pre), c .before .before .before .before .before .before .step .ensures .few, s .pre .handing .valid .n-high)
 
 same-length : tie.Need-same-length
 same-length c = search needs
@@ -64,14 +55,12 @@ same-length-2 c = search needs
 returns : tie.Need-returns
 returns c =
     let s = c .before .before .before .before .before .before .before .before .before .before .before .before .before .before .before .before .before .before in
-    let a = s .args in
     let y = c .before .before .before .before .before .before .before .step in
-    answer-full (a .cfg) (a .m) (a .t3) (a .position) (a .c) (a .t6) (now (a .read)) (now (a .messages)) (now (a .boards)) (now (a .elements)) (s .pre) _ (client-stood (a .cfg) (a .m) (a .t3) (a .position) (a .c) (a .t6) (now (a .read)) (now (a .messages)) (now (a .boards)) (now (a .elements)) (s .pre) (record { me = record { 0 = 0 }; operation = 0; phase = Phase.Idle })) _ (y .last .1 .1 .1 .1 .1 .1 .1 .0) (y .last .1 .1 .1 .1 .0) (y .last .1 .1 .1 .1 .1 .1 .0) (y .result) (y .ensures) (c .if1 .taken)
+    answer-full (s .pre) (client-stood (s .pre) (record { me = record { 0 = 0 }; operation = 0; phase = Phase.Idle })) (y .ensures) (c .if1 .taken)
 
 mul-sent : tie.Need-mul-sent
 mul-sent c =
     let s = c .before .before .before .before .before .before .before .before .before .before .before .before .before .before .before .before .before .before .before in
-    let a = s .args in
     omega (arith, c .before .before .before .before .before .before .before .before .step .ensures .few, s .pre .handing .valid .n-high)
 
 sub-replace : tie.Need-sub-replace
@@ -90,19 +79,17 @@ part-replace-end c =
 replace-requires : tie.Need-replace-requires
 replace-requires c κs =
     let s = c .before .before .before .before .before .before .before .before .before .before .before .before .before .before .before .before .before .before .before .before .before .before in
-    let a = s .args in
     let y = c .before .before .before .before .before .before .before .before .before .before .before .step in (
       omega (arith, s .pre .handing .inside),
-      omega (arith, count-high (a .cfg) (a .m) (a .t3) (a .position) (a .c) (a .t6) (now (a .read)) (now (a .messages)) (now (a .boards)) (now (a .elements)) (s .pre)),
-      left-fit (a .cfg) (a .m) (a .t3) (a .position) (a .c) (a .t6) (now (a .read)) (now (a .messages)) (now (a .boards)) (now (a .elements)) (s .pre),
-      sent-fit (a .cfg) (a .m) (a .t3) (a .position) (a .c) (a .t6) (now (a .read)) (now (a .messages)) (now (a .boards)) (now (a .elements)) (s .pre) _ (client-stood (a .cfg) (a .m) (a .t3) (a .position) (a .c) (a .t6) (now (a .read)) (now (a .messages)) (now (a .boards)) (now (a .elements)) (s .pre) (record { me = record { 0 = 0 }; operation = 0; phase = Phase.Idle })) _ (y .last .1 .1 .1 .1 .1 .1 .1 .0) (y .last .1 .1 .1 .1 .0) (y .last .1 .1 .1 .1 .1 .1 .0) (y .result) (y .ensures) (c .before .before .before .before .if1 .left) (80 * y .result .sent - 0) _ (omega arith),
+      omega (arith, count-high (s .pre)),
+      left-fit (s .pre),
+      sent-fit (s .pre) (client-stood (s .pre) (record { me = record { 0 = 0 }; operation = 0; phase = Phase.Idle })) (y .ensures) (c .before .before .before .before .if1 .left) (80 * y .result .sent - 0) _ (omega arith),
     )
 
 settle-requires : tie.Need-settle-requires
 settle-requires c κs =
     let s = c .before .before .before .before .before .before .before .before .before .before .before .before .before .before .before .before .before .before .before .before .before .before .before .before .before in
-    let a = s .args in
-    omega (arith, client-low (a .cfg) (a .m) (a .t3) (a .position) (a .c) (a .t6) (now (a .read)) (now (a .messages)) (now (a .boards)) (now (a .elements)) (s .pre), client-high (a .cfg) (a .m) (a .t3) (a .position) (a .c) (a .t6) (now (a .read)) (now (a .messages)) (now (a .boards)) (now (a .elements)) (s .pre))
+    omega (arith, client-low (s .pre), client-high (s .pre))
 
 same-length-3 : tie.Need-same-length-3
 same-length-3 c = search needs
@@ -116,10 +103,9 @@ same-length-5 c = search needs
 returns-2 : tie.Need-returns-2
 returns-2 c =
     let s = c .before .before .before .before .before .before .before .before .before .before .before .before .before .before .before .before .before .before .before .before .before .before .before .before .before .before in
-    let a = s .args in
     let y = c .before .before .before .before .before .before .before .before .before .before .before .before .before .before .before .step in
-    answer-moved (a .cfg) (a .m) (a .t3) (a .position) (a .c) (a .t6) (now (a .read)) (now (a .messages)) (now (a .boards)) (now (a .elements)) (s .pre) _ (client-stood (a .cfg) (a .m) (a .t3) (a .position) (a .c) (a .t6) (now (a .read)) (now (a .messages)) (now (a .boards)) (now (a .elements)) (s .pre) (record { me = record { 0 = 0 }; operation = 0; phase = Phase.Idle })) _ (y .last .1 .1 .1 .1 .1 .1 .1 .0) (y .last .1 .1 .1 .1 .0) (y .last .1 .1 .1 .1 .1 .1 .0) (y .result) (y .ensures) (c .before .before .before .before .before .before .before .before .if1 .left) (y .kept .1 .1 .1 .1 .1 .1 .0) _
-    (sent-are (a .cfg) (a .m) (a .t3) (a .position) (a .c) (a .t6) (now (a .read)) (now (a .messages)) (now (a .boards)) (now (a .elements)) (s .pre) _ (client-stood (a .cfg) (a .m) (a .t3) (a .position) (a .c) (a .t6) (now (a .read)) (now (a .messages)) (now (a .boards)) (now (a .elements)) (s .pre) (record { me = record { 0 = 0 }; operation = 0; phase = Phase.Idle })) _ (y .last .1 .1 .1 .1 .1 .1 .1 .0) (y .last .1 .1 .1 .1 .0) (y .last .1 .1 .1 .1 .1 .1 .0) (y .result) (y .ensures) (80 * y .result .sent - 0) _ (omega arith)) (c .settle .result) (c .before .before .before .replace .last .0) (c .settle .ensures) (c .before .before .before .replace .ensures)
+    answer-moved (s .pre) (client-stood (s .pre) (record { me = record { 0 = 0 }; operation = 0; phase = Phase.Idle })) (y .ensures) (c .before .before .before .before .before .before .before .before .if1 .left) (y .kept .1 .1 .1 .1 .1 .1 .0) _
+    (sent-are (s .pre) (client-stood (s .pre) (record { me = record { 0 = 0 }; operation = 0; phase = Phase.Idle })) (y .ensures) (80 * y .result .sent - 0) _ (omega arith)) (c .settle .result) (c .before .before .before .replace .last .0) (c .settle .ensures) (c .before .before .before .replace .ensures)
 
 pub hand-spec : {M : Type 1} → statement M
 hand-spec =

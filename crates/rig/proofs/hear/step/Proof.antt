@@ -19,31 +19,19 @@ mul-long : tie.Need-mul-long
 mul-long c = search needs
 
 mul-at : tie.Need-mul-at
-mul-at c =
-    let s = c .before .before .before .before .before .before in
-    let a = s .args in
-    omega (arith, boards-fit (a .cfg) (a .x) (a .c) (now (a .message)) (now (a .read)) (now (a .boards)) (now (a .elements)) (now (a .sends)) (s .pre))
+mul-at c = omega (arith, boards-fit (c .before .before .before .before .before .before .pre))
 
 add-to : tie.Need-add-to
-add-to c =
-    let s = c .before .before .before .before .before .before in
-    let a = s .args in
-    omega (arith, boards-fit (a .cfg) (a .x) (a .c) (now (a .message)) (now (a .read)) (now (a .boards)) (now (a .elements)) (now (a .sends)) (s .pre))
+add-to c = omega (arith, boards-fit (c .before .before .before .before .before .before .pre))
 
 mul-wide : tie.Need-mul-wide
 mul-wide c = omega (arith, received-small (c .before .before .before .before .before .before .before .args .cfg) (c .before .before .before .before .before .before .before .pre .valid))
 
 mul-start : tie.Need-mul-start
-mul-start c =
-    let s = c .before .before .before .before .before .before .before in
-    let a = s .args in
-    omega (arith, elements-fit (a .cfg) (a .x) (a .c) (now (a .message)) (now (a .read)) (now (a .boards)) (now (a .elements)) (now (a .sends)) (s .pre))
+mul-start c = omega (arith, elements-fit (c .before .before .before .before .before .before .before .pre))
 
 add-stop : tie.Need-add-stop
-add-stop c =
-    let s = c .before .before .before .before .before .before .before in
-    let a = s .args in
-    omega (arith, elements-fit (a .cfg) (a .x) (a .c) (now (a .message)) (now (a .read)) (now (a .boards)) (now (a .elements)) (now (a .sends)) (s .pre))
+add-stop c = omega (arith, elements-fit (c .before .before .before .before .before .before .before .pre))
 
 sub-step : tie.Need-sub-step
 sub-step c = search needs
@@ -52,10 +40,7 @@ part-step-start : tie.Need-part-step-start
 part-step-start c = search needs
 
 part-step-end : tie.Need-part-step-end
-part-step-end c =
-    let s = c .before .before .before .before .before .before .before in
-    let a = s .args in
-    omega (arith, board-ends (a .cfg) (a .x) (a .c) (now (a .message)) (now (a .read)) (now (a .boards)) (now (a .elements)) (now (a .sends)) (s .pre))
+part-step-end c = omega (arith, board-ends (c .before .before .before .before .before .before .before .pre))
 
 sub-step-2 : tie.Need-sub-step-2
 sub-step-2 c = search needs
@@ -64,10 +49,7 @@ part-step-start-2 : tie.Need-part-step-start-2
 part-step-start-2 c = search needs
 
 part-step-end-2 : tie.Need-part-step-end-2
-part-step-end-2 c =
-    let s = c .before .before .before .before .before .before .before .before in
-    let a = s .args in
-    omega (arith, elements-end (a .cfg) (a .x) (a .c) (now (a .message)) (now (a .read)) (now (a .boards)) (now (a .elements)) (now (a .sends)) (s .pre))
+part-step-end-2 c = omega (arith, elements-end (c .before .before .before .before .before .before .before .before .pre))
 
 step-requires : tie.Need-step-requires
 step-requires c κs = search needs
@@ -91,7 +73,7 @@ returns c =
     let j : at + boardLength (a .cfg) - at ≡ boardLength (a .cfg) = omega arith in
     let k : start + wide - start ≡ wide = omega arith in
     let es = c .before .before .before .before .before .before .step .last .1 .1 .1 .1 .0 in
-    heard (a .cfg) (a .x) (a .c) (now (a .message)) (now (a .read)) (now (a .boards)) (now (a .elements)) (now (a .sends)) (s .pre)
+    heard (s .pre)
     (λ i. omega (arith, c .before .before .before .before .before .before .before .before .before .before .before .before .before .before .before .before .before .shared-slice-known .given i)) (is-numbered (a .x .phase) _ (s .good .1 .0 .1 .1 .1 .1 .0))
     (take (at + boardLength (a .cfg) - at) (drop at (now (a .boards)))) (take (start + wide - start) (drop start (now (a .elements)))) es
     (c .before .before .before .before .before .before .step .last .1 .1 .1 .1 .1 .0) (c .before .before .before .before .before .before .step .last .1 .1 .1 .1 .1 .1 .0) _ (c .before .before .before .before .before .before .step .result)

@@ -1,5 +1,6 @@
 pub mod Accepted
 pub mod Always
+pub mod Answered
 pub mod Asked
 pub mod Atomic
 pub mod Beginnings
@@ -9,6 +10,7 @@ pub mod Downed
 pub mod Flown
 pub mod Formed
 pub mod Handed
+pub mod Hearing
 pub mod Making
 pub mod Moved
 pub mod Never

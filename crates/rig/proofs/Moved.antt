@@ -11,7 +11,7 @@ use Rattle.laws.proofs.Bools.{and-left, and-right}
 use Rattle.config.specs.declared.Config.{Config}
 use Rattle.config.specs.Config.{boardLength}
 use Rattle.record.specs.Message.{Message}
-use Rattle.record.specs.Record.{messageOf, ofConfig, recordOf}
+use Rattle.record.specs.Record.{messageOf, recordOf}
 use Rattle.record.proofs.Laws.{reads-back, record-long}
 use Rattle.server.specs.Calls.{storeLength}
 use Rattle.server.specs.View as serverView
@@ -25,6 +25,7 @@ use Rattle.history.specs.Server.{Server}
 use Rattle.history.specs.Rig.{isWithin}
 use Rattle.rig.specs.declared.Rig.{Rig}
 use Rattle.rig.specs.declared.Seat.{Seat}
+unfoldable pub use Rattle.rig.specs.Heard.{Sound}
 use Rattle.rig.specs.View.{Lent, clientOf, clientSeen, flight, messagesOf, part, place, records, serverOf, serverSeen, upOf, upSeen, view}
 use Rattle.rig.proofs.Places.{seen-upd, upd-same}
 use Rattle.rig.proofs.Records.{added, length-records, records-front}
@@ -113,11 +114,6 @@ module _ (cfg : Config) (start : List ℕ) (r r′ : Rig) (l l′ : Lent) (s : �
       ap (λ z. record { servers = z; up = upOf cfg r′; clients = clientOf cfg r′ l′; inFlight = messagesOf cfg (flight r′ l′) }) servers-moved
       ∙ ap (λ z. record { servers = upd (serverOf cfg start r l) s (serverView.view cfg (y .state) store); up = z; clients = clientOf cfg r′ l′; inFlight = messagesOf cfg (flight r′ l′) }) ups-same
       ∙ ap₂ (λ z w. record { servers = upd (serverOf cfg start r l) s (serverView.view cfg (y .state) store); up = upOf cfg r; clients = z; inFlight = w }) clients-stay flown
-
--- messages of the configuration
-unfoldable pub Sound : Config → List (Message (List ℕ)) → Type 0
-Sound cfg [] = Unit {0}
-Sound cfg (m ∷ ms) = (ofConfig cfg m ≡ true) × Sound cfg ms
 
 module _ (cfg : Config) (e-high : cfg .e ≤ 64) where
   -- their records, one after the other

@@ -84,11 +84,12 @@ module _ (cfg : Config) (m : ℕ) (r : Rig) (i : ℕ) (read messages stores boar
             }
 
         pub hand-answering : (c : ℕ) → false ≡ isForServer (h .kind) → c ≡ clientNumber (h .client)
-            → Answering cfg r i c bytes read messages boards elements
+            → Answering cfg m r i c bytes read messages boards elements
         unfolding withElement
         hand-answering c k f =
             record {
               handing = holds;
+              most = refl;
               kind = kind-is false k;
               client = ap (λ (z : Message (List ℕ)). z .client) (sym its) ∙ sym f;
               read-length = hold .read-length;

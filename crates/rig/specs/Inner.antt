@@ -193,8 +193,9 @@ pub record Serving (cfg : Config) (r : Rig) (i s : ℕ) (bytes messages stores :
   pub stores-length : length stores ≡ cfg .n * storeLength cfg
 
 -- it is for client c
-pub record Answering (cfg : Config) (r : Rig) (i c : ℕ) (bytes read messages boards elements : List ℕ) : Type 0 where
+pub record Answering (cfg : Config) (m : ℕ) (r : Rig) (i c : ℕ) (bytes read messages boards elements : List ℕ) : Type 0 where
   pub handing : Handing cfg r i bytes messages
+  pub most : handing .most ≡ m
   pub kind : isForServer (messageOf cfg bytes .kind) ≡ false
   pub client : messageOf cfg bytes .client ≡ c
   pub read-length : length read ≡ boardLength cfg

@@ -85,7 +85,7 @@ module _ (cfg : Config) (m : ℕ) (r : Rig) (i : ℕ) (read messages stores boar
 
         pub hand-answering : (c : ℕ) → false ≡ isForServer (h .kind) → c ≡ clientNumber (h .client)
             → Answering cfg m r i c bytes read messages boards elements
-        unfolding withElement
+        unfolding withElement holds
         hand-answering c k f =
             record {
               handing = holds;

@@ -38,7 +38,7 @@ use Rattle.rig.specs.declared.Rig.{Rig}
 use Rattle.rig.specs.declared.Seat.{Seat}
 use Rattle.rig.specs.View.{Lent, clientOf, clientSeen, messagesOf, part, place, records, serverOf, serverSeen, upOf, upSeen, view}
 use Rattle.rig.specs.Questions.{clientKept, makeQuestions, rigKept, serverKept, sizedBy}
-use Rattle.rig.specs.Calls.{MakePost, makeNo}
+use Rattle.rig.specs.Calls.{MakePost, freshParty, freshSeat, leastRig, makeNo}
 use Rattle.rig.specs.Fresh.{FreshClient, FreshClients, FreshPost, FreshServer, FreshServers, Making, Placing, ServerPost}
 use Rattle.rig.proofs.Asked.{make-board, make-sized, make-valid}
 use Rattle.rig.proofs.Places.{at-set, at-set-other, part-other, part-own, replaced, within-high, within-low}
@@ -88,6 +88,7 @@ module _ (cfg : Config) (start : List ℕ) (i : ℕ) (store : List ℕ) (placing
         record {
           fresh =
               record {
+                is = ap (λ z. some (record { state = z; up = true })) (post .state) ∙ ap (λ n. some (freshSeat n)) own;
                 up = refl;
                 kept = ap₂ _&&_ (eq-eqb (serverNumber (r .state .me)) (i + 1) its-number) (held .kept);
                 seen = serverLaws.fresh-view cfg me part store after r post accepted ∙ ap freshServer is;
@@ -114,6 +115,7 @@ module _ (cfg : Config) (valid : Valid cfg) (i : ℕ) (inside : i < cfg .c) (me 
   unfolding clientKept clientSeen
   client-made =
       record {
+        is = ap (λ n. some (freshParty n)) own;
         kept = ap₂ _&&_ (eq-eqb (clientNumber me) (i + 1) own) (clientLaws.fresh-within cfg me asked);
         seen = λ board received. clientLaws.fresh-view cfg me board received;
       }
@@ -161,15 +163,16 @@ module _ (cfg : Config) (m : ℕ) (start : List ℕ) (l : Lent) (got : ℕ) (ask
   number-high = firstNo-high (makeQuestions cfg m start l) refl
 
   -- refused: the rig is any
-  pub make-refused : (got ≡ 0 → ⊥) → (verdict : Verdict) (r : Rig) → verdictNumber verdict ≡ min got 18
+  pub make-refused : (got ≡ 0 → ⊥) → (verdict : Verdict) (r : Rig) → verdictNumber verdict ≡ min got 18 → r ≡ leastRig
       → MakePost cfg m start l (record { verdict = verdict; rig = r }) l
-  make-refused some-no verdict r e =
+  make-refused some-no verdict r e least =
       record {
         number = e ∙ omega (arith, asked, number-high);
         seen = λ z. absurd (some-no (asked ∙ z));
         kept = λ z. absurd (some-no (asked ∙ z));
         lengths = refl;
         held = λ _. refl;
+        refused = λ _. least;
       }
 
   module _ (none-no : got ≡ 0) where
@@ -236,4 +239,5 @@ module _ (cfg : Config) (m : ℕ) (start : List ℕ) (l : Lent) (got : ℕ) (ask
             kept = λ _. keeps;
             lengths = ap (λ n. sizedBy cfg m (length (l .messages)) n (length (l .boards)) (length (l .elements))) (post .long);
             held = λ n. absurd (n passed);
+            refused = λ n. absurd (n passed);
           }

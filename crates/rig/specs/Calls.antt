@@ -4,7 +4,7 @@ use mathlib.Core.Bool.{Bool, true, false}
 use mathlib.Core.Path.{_≡_}
 use mathlib.Core.Option.{Option, none, some}
 use mathlib.Core.List.{List, [], _∷_, _++_, map}
-use lib.ListN.{length, drop, getElem?}
+use lib.ListN.{length, drop, getElem?, replicate}
 use Rattle.config.specs.declared.Config.{Config}
 use Rattle.config.specs.Number.{clientNumber}
 use Rattle.config.specs.Questions.{firstNo}
@@ -12,6 +12,9 @@ use Rattle.config.specs.Refusal.{numberOf, verdictNumber}
 use Rattle.code.specs.Element.{element}
 use Rattle.record.specs.Message.{Message}
 use Rattle.record.specs.Record.{recordOf}
+use Rattle.server.specs.Calls as server
+use Rattle.client.specs.declared.State as client
+use Rattle.client.specs.Calls as clientCalls
 use Rattle.history.specs.Board as board
 use Rattle.history.specs.Board.{Call, refused, nothingEnded, writtenBy, spentBy, readBy}
 use Rattle.history.specs.Rig as protocol
@@ -19,24 +22,37 @@ use Rattle.history.specs.Rig.{Code, beginWrite, beginRead, handOver, lose, doub
 use Rattle.rig.specs.declared.Answer.{Answer}
 use Rattle.rig.specs.declared.Made.{Made}
 use Rattle.rig.specs.declared.Rig.{Rig}
+use Rattle.rig.specs.declared.Seat.{Seat}
 use Rattle.rig.specs.declared.Turn.{Turn}
 use Rattle.rig.specs.View.{Lent, flight, view}
 use Rattle.rig.specs.Questions.{eventQuestions, makeQuestions, moveOf, rigKept, sized}
 
--- the number of a making's verdict, or of its refusal
+-- a fresh server in its place, up, and a fresh client: of number 1, 2, ..
+abbrev pub freshSeat : ℕ → Seat
+freshSeat s = record { state = server.freshState (record { 0 = s }); up = true }
+
+abbrev pub freshParty : ℕ → client.State
+freshParty c = clientCalls.freshState (record { 0 = c })
+
+-- the rig that a refused making gives: nothing is in flight, and every place has a fresh party of number 1
+abbrev pub leastRig : Rig
+leastRig = record { servers = replicate 16 (freshSeat 1); clients = replicate 16 (freshParty 1); count = 0 }
+
+-- the number of the first question that is answered no, or 0
 abbrev pub makeNo : Config → ℕ → List ℕ → Lent → ℕ
 makeNo cfg m start l = firstNo (makeQuestions cfg m start l)
 
 -- Making a rig of a starting board, with the buffers as they were and as they are left.
 pub record MakePost (cfg : Config) (m : ℕ) (start : List ℕ) (l : Lent) (r : Made) (l′ : Lent) : Type 0 where
   pub number : verdictNumber (r .verdict) ≡ makeNo cfg m start l
-  -- "It holds fresh servers and clients, a starting board, and the messages in flight": none
+  -- "It holds fresh servers and clients, a starting board, and the messages in flight": there are none
   pub seen : makeNo cfg m start l ≡ 0 → view cfg start (r .rig) l′ ≡ freshRig (element cfg) start
   -- the rig passes every question about a state
   pub kept : makeNo cfg m start l ≡ 0 → rigKept cfg m (r .rig) ≡ true
   pub lengths : sized cfg m l′ ≡ sized cfg m l
   -- "The first "no" is returned; state and buffers hold their old content"
   pub held : (makeNo cfg m start l ≡ 0 → ⊥) → l′ ≡ l
+  pub refused : (makeNo cfg m start l ≡ 0 → ⊥) → r .rig ≡ leastRig
 
 -- An answer as the history sees it: a read's bytes are those in the lent buffer when the event returns.
 abbrev pub answerOf : Answer → List ℕ → board.Answer (List ℕ)
@@ -78,11 +94,11 @@ recordsAfter cfg rs i ms (some double) = rs ++ listOf (getElem? rs i)
 recordsAfter cfg rs i ms (some crashServer) = rs
 recordsAfter cfg rs i ms (some crashClient) = rs
 
--- An event, with the lent buffers as they were and as they are left; the starting board is looked at where there is no server alone.
+-- An event, with the lent buffers as they were and as they are left. The starting board is looked at only past N, where there is no server.
 pub record EventPost (cfg : Config) (m : ℕ) (start : List ℕ) (r : Rig) (a : Call (List ℕ)) (read : List ℕ) (l : Lent) (t : Turn) (read′ : List ℕ) (l′ : Lent) : Type 0 where
   -- the refusal, or what the protocol's event answers
   pub answer : answerOf (t .answer) read′ ≡ outcome cfg m start r a read l .answer
-  -- "A lent buffer, touched in no other answer"
+  -- "in a lent buffer, touched in no other answer"
   pub untouched : isRead (t .answer) ≡ false → read′ ≡ read
   -- the rig left is what the protocol's event leaves
   pub seen : view cfg start (t .rig) l′ ≡ outcome cfg m start r a read l .rig

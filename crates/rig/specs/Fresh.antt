@@ -16,15 +16,18 @@ use Rattle.rig.specs.declared.Rig.{Rig}
 use Rattle.rig.specs.declared.Seat.{Seat}
 use Rattle.rig.specs.View.{clientSeen, part, serverSeen, upSeen}
 use Rattle.rig.specs.Questions.{clientKept, serverKept}
+use Rattle.rig.specs.Calls.{freshParty, freshSeat}
 
 -- what stands in place i with a store is a fresh server, up
 pub record FreshServer (cfg : Config) (start : List ℕ) (i : ℕ) (o : Option Seat) (store : List ℕ) : Type 0 where
+  pub is : o ≡ some (freshSeat (i + 1))
   pub up : upSeen o ≡ true
   pub kept : serverKept cfg i o ≡ true
   pub seen : serverSeen cfg start (i + 1) o store ≡ freshServer (element cfg start (i + 1))
 
 -- what stands in place i is a fresh client
 pub record FreshClient (cfg : Config) (i : ℕ) (o : Option client.State) : Type 0 where
+  pub is : o ≡ some (freshParty (i + 1))
   pub kept : clientKept cfg i o ≡ true
   pub seen : (board received : List ℕ) → clientSeen cfg o board received ≡ freshClient
 

@@ -24,8 +24,8 @@ use Rattle.rig.specs.declared.Rig.{Rig}
 use Rattle.rig.specs.declared.Seat.{Seat}
 use Rattle.rig.specs.View.{Lent, flight, view}
 
--- "Has each buffer its length (.. 80 × M for messages, (D + 1) × E for each server's store; the rig joins its parties' parts in order
--- of their numbers)"
+-- "Has each buffer its length (V for boards, .. N × E for the elements a client has received, .. 80 × M for messages, (D + 1) × E for each
+-- server's store; the rig joins its parties' parts in order of their numbers)"
 unfoldable pub sizedBy : Config → ℕ → ℕ → ℕ → ℕ → ℕ → Bool
 sizedBy cfg m messages stores boards elements =
     eqb messages (80 * m)
@@ -41,7 +41,7 @@ unfoldable pub allBelow : ℕ → (ℕ → Bool) → Bool
 allBelow zero f = true
 allBelow (suc n) f = allBelow n f && f n
 
--- the server in a place is that of the place, and what it keeps is within its limits
+-- the server in a place has the number of its place, by which the parts are joined, and what it keeps is within its limits
 unfoldable pub serverKept : Config → ℕ → Option Seat → Bool
 serverKept cfg i none = false
 serverKept cfg i (some x) = eqb (serverNumber (x .state .me)) (i + 1) && stateKept cfg (x .state)

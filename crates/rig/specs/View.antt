@@ -84,7 +84,7 @@ flight r l = records (r .count) (l .messages)
 abbrev pub messagesOf : Config → List (List ℕ) → List (Message (List ℕ))
 messagesOf cfg rs = map (messageOf cfg) rs
 
--- The protocol's rig. The starting board is looked at past N alone, where there is no server: any will do.
+-- The protocol's rig. The starting board is looked at only past N, where there is no server: any will do.
 unfoldable pub view : Config → List ℕ → Rig → Lent → protocol.Rig (List ℕ) (List ℕ)
 view cfg start r l =
     record {

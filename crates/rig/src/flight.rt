@@ -10,7 +10,7 @@ ghost use lib.ListN.{length, take, drop};
 ghost use lib.Seq.{paste};
 ghost use Rattle.rig.specs.Inner.{DoublePost, Flies, LosePost};
 
-// Moves up by 80 what stands in the messages from `at` + 80 to `end` + 80: the record at `at` is gone.
+// Moves to the front by 80 what stands in the messages from `at` + 80 to `end` + 80: the record at `at` is gone.
 pub(crate) fn close(messages: &mut [u8], at: usize, end: usize)
     requires { ⌜ (at ≤ end) × (end + 80 ≤ length (now messages)) ⌝ }
     ensures { λ _. ⌜ now (messages .exit) ≡ paste (now (messages .entry)) at (drop (at + 80) (now (messages .entry))) (end - at) ⌝ }

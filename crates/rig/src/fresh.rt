@@ -15,6 +15,7 @@ ghost use lib.ListN.{length};
 ghost use Rattle.config.specs.Config.{Valid};
 ghost use Rattle.config.specs.Number.{clientNumber, serverNumber};
 ghost use Rattle.config.specs.Questions.{within};
+ghost use Rattle.rig.specs.Calls.{leastRig};
 ghost use Rattle.rig.specs.Fresh.{FreshClient, FreshClients, FreshPost, Making, Placing, ServerPost, ServersPost};
 
 // The number of a server of the configuration. There is one, so the other branch is never taken.
@@ -106,7 +107,9 @@ fn clients(cfg: Config, mut states: [client::State; 16]) -> [client::State; 16]
 }
 
 // Server 1 and client 1 of the least configuration in every place: what a refused making gives, and what stands past N and C.
-pub(crate) fn least() -> Rig {
+pub(crate) fn least() -> Rig
+    ensures { λ r. ⌜ r ≡ leastRig ⌝ }
+{
     let cfg = Config {
         n: 1,
         k: 1,

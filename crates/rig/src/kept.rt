@@ -11,7 +11,7 @@ ghost use Rattle.config.specs.Config.{Valid};
 ghost use Rattle.server.specs.Calls.{storeLength};
 ghost use Rattle.rig.specs.Questions.{allBelow, clientKept, rigKept, serverKept};
 
-// Whether the server of place i is that of the place, and what it keeps is within its limits.
+// Whether the server of place i has the number of its place, and what it keeps is within its limits.
 fn server_kept(cfg: Config, i: usize, x: Seat, store: &[u8]) -> bool
     requires { ⌜ (Valid cfg) × (i < 16) × (length (now store) ≡ storeLength cfg) ⌝ }
     ensures { λ r. ⌜ r ≡ serverKept cfg i (some x) ⌝ }
@@ -49,7 +49,7 @@ fn servers(cfg: Config, seats: [Seat; 16], stores: &[u8]) -> bool
     true
 }
 
-// Whether the client of place i is that of the place, and what it keeps is within its limits.
+// Whether the client of place i has the number of its place, and what it keeps is within its limits.
 fn client_kept(cfg: Config, i: usize, x: client::State) -> bool
     requires { ⌜ (Valid cfg) × (i < 16) ⌝ }
     ensures { λ r. ⌜ r ≡ clientKept cfg i (some x) ⌝ }

@@ -1,15 +1,10 @@
 use denote.Ref.{now}
-use Prim.Native.Nat.{ℕ}
-use mathlib.Core.List.{List}
-use Rattle.rig.specs.View.{Lent}
+use Rattle.rig.specs.View.{lent}
 use Rattle.rig.specs.Questions.{makeQuestions}
 use Rattle.rig.proofs.Making.{make-done, make-refused, making}
 use borrow.Author.Needs.{needs}
 use Rattle.rig.proofs.make.Statement.{statement}
 use Rattle.rig.proofs.make.Tie as tie
-
-abbrev lent : List ℕ → List ℕ → List ℕ → List ℕ → Lent
-lent messages stores boards elements = record { messages = messages; stores = stores; boards = boards; elements = elements }
 
 make-requires : tie.Need-make-requires
 make-requires c κs = search needs
@@ -25,7 +20,7 @@ unfolding makeQuestions
 returns c =
     let a = c .before .before .before .before .before .before .before .before .before .args in
     make-refused (a .cfg) (a .m) (now (a .start)) (lent (now (a .messages)) (now (a .stores)) (now (a .boards)) (now (a .elements))) (c .before .before .before .make .result) (c .before .before .before .make .ensures)
-    (c .before .before .if1 .taken) _ _ (c .before .of .ensures)
+    (c .before .before .if1 .taken) _ _ (c .before .of .ensures) (c .least .ensures)
 
 rig-requires : tie.Need-rig-requires
 unfolding makeQuestions

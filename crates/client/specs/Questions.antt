@@ -52,6 +52,10 @@ unfoldable pub idleQuestions : State → List Question
 idleQuestions x =
     ask 9 (isUp (x .phase)) ∷ ask 10 (isIdle (x .phase)) ∷ ask 11 (ltb (x .operation) highestNumber) ∷ []
 
+-- a state: questions 1 to 5, and 6 of the state
+unfoldable pub stateQuestions : Config → State → List Question
+stateQuestions cfg x = questions cfg ++ ask 6 (stateWithin cfg x) ∷ []
+
 -- a call that begins: questions 1 to 5; 6, of the buffers lent and of the state; 9, 10 and 11
 unfoldable pub beginQuestions : Config → Bool → State → List Question
 beginQuestions cfg sized x = questions cfg ++ ask 6 (sized && stateWithin cfg x) ∷ idleQuestions x

@@ -5,11 +5,12 @@ use config::Refusal;
 use config::Verdict;
 use tag::Tag;
 ghost use mathlib.Core.List.{List};
+ghost use mathlib.Core.Path.{_≡_};
 ghost use mathlib.Core.Option.{none, some};
 ghost use Prim.Native.Nat.{ℕ};
 ghost use Rattle.config.specs.Questions.{firstNo};
 ghost use Rattle.client.specs.Calls.{BeginPost, FreshPost, Held, StepPost};
-ghost use Rattle.client.specs.Questions.{beginReadQuestions, beginWriteQuestions, stepQuestions};
+ghost use Rattle.client.specs.Questions.{beginReadQuestions, beginWriteQuestions, stepQuestions, stateQuestions};
 
 mod answer;
 mod begin;
@@ -75,6 +76,20 @@ pub struct Moved {
 pub enum NewState {
     Made(State),
     No(Refusal),
+}
+
+// Questions 1 to 5, and 6 of a state: the number of the first that is answered no, or 0.
+pub fn ask(cfg: Config, state: State) -> u8
+    ensures { λ r. ⌜ r ≡ firstNo (stateQuestions cfg state) ⌝ }
+{
+    let no = cfg.ask();
+    if no != 0 {
+        return no;
+    }
+    if !questions::within(cfg, state) {
+        return 6;
+    }
+    0
 }
 
 // A fresh client is idle, its operation number 0: questions 1 to 5, and 8, whether the client exists.

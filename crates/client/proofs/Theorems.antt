@@ -3,7 +3,7 @@
 -- phase; no answer depends on bytes that are not in use. Assumes nothing.
 use mathlib.Core.Path.{_≡_, refl, sym, ap, _∙_, subst}
 use mathlib.Core.Bool.{Bool, true, false, cond, _&&_}
-use mathlib.Core.List.{List, [], _∷_}
+use mathlib.Core.List.{List, [], _∷_, _++_}
 use mathlib.Core.Option.{Option, none, some}
 use Prim.Native.Nat.{ℕ, _≤_}
 use native.Mathlib.Decide.{ℕ-discrete}
@@ -16,6 +16,7 @@ use Rattle.config.specs.declared.Config.{Config}
 use Rattle.config.specs.Config.{questions, quorumOf}
 use Rattle.config.specs.Number.{clientNumber, clientQuestions}
 use Rattle.config.specs.Questions.{ask, firstNo, numbered, within}
+use Rattle.config.specs.Refusal.{verdictNumber}
 use Rattle.config.proofs.Questions.{last-all, last-yes, questions-numbered}
 use Rattle.config.proofs.Valid.{valid-asked}
 use Rattle.tag.specs.declared.Tag.{Tag}
@@ -36,8 +37,9 @@ use Rattle.client.specs.declared.State.{State}
 use Rattle.client.specs.Answer.{Heeds}
 use Rattle.client.specs.Calls.{BeginPost, FreshPost, StepPost, clientStep, freshState, unlessNo}
 use Rattle.client.specs.Questions.{answerQuestions, isAnswer, isFor, shapeQuestions, stepQuestions, stepSized}
+use Rattle.client.specs.Send.{front, records}
 use Rattle.client.specs.Servers.{member}
-use Rattle.client.specs.Settle.{endedOf}
+use Rattle.client.specs.Settle.{endedOf, shown}
 use Rattle.client.specs.State.{phaseOf, phaseWithin, stateWithin, view}
 use Rattle.client.proofs.Once.{again}
 use Rattle.client.proofs.Quorum.{Fits, ReadBy, SpentBy, WrittenBy, isAsking, step-fits, step-on}
@@ -228,3 +230,48 @@ module _ (cfg : Config) (refusal : ℕ) (x : State) (message kept es es′ sends
       subst Ends (ap (λ h. endedOf h board′) e) fits in
       let p = reads-is cfg kept es t (w .0) (w .1) (x .phase) (w .2) in
       (p .0, p .1, p .2, quorum-is (p .0) (w .0) (p .3) (w .3))
+
+-- ---- bytes that are not in use
+
+-- two steps that answer alike: the number, what is sent, how the operation ended with the lent board, and the client
+pub record Alike (cfg : Config) (a b : Moved) (keptA keptB esA esB sendsA sendsB boardA boardB : List ℕ) : Type 0 where
+  pub number : verdictNumber (a .verdict) ≡ verdictNumber (b .verdict)
+  pub sent : a .sent ≡ b .sent
+  pub out : sendsA ≡ sendsB
+  pub ended : endedOf (a .ended) boardA ≡ endedOf (b .ended) boardB
+  pub lent : boardA ≡ boardB
+  pub client : view cfg (a .state) keptA esA ≡ view cfg (b .state) keptB esB
+
+-- "no answer's bytes depend on" places not in use: of one state, with boards kept and elements received that differ only there
+module _ (cfg : Config) (x : State) (message sends board keptA esA esA′ sendsA boardA keptB esB esB′ sendsB boardB : List ℕ) (a b : Moved)
+    (seen : view cfg x keptA esA ≡ view cfg x keptB esB) (kept-long : length keptA ≡ length keptB) (es-long : length esA ≡ length esB)
+    (postA : StepPost cfg (firstNo (stepQuestions cfg x message keptA esA sends board)) x message keptA esA esA′ sends sendsA board boardA a)
+    (postB : StepPost cfg (firstNo (stepQuestions cfg x message keptB esB sends board)) x message keptB esB esB′ sends sendsB board boardB b) where
+  first-one : firstNo (stepQuestions cfg x message keptA esA sends board) ≡ firstNo (stepQuestions cfg x message keptB esB sends board)
+  unfolding stepQuestions answerQuestions
+  first-one = λ i. firstNo
+      (questions cfg
+      ++ ask 6 (stepSized cfg (length message) (kept-long i) (es-long i) (length sends) (length board) && stateWithin cfg x)
+      ∷ ask 12 (wellFormed cfg message)
+      ∷ ask 16 (isFor x (messageOf cfg message))
+      ∷ ask 14 (protocol.awaited key (seen i) (messageOf cfg message))
+      ∷ [])
+
+  abbrev moveOf : ℕ → protocol.Client (List ℕ) (List ℕ) → protocol.Moved (List ℕ) (List ℕ)
+  moveOf refusal y =
+      unlessNo refusal y (protocol.clientStep key (element cfg) (decodedPairs cfg) cfg (clientNumber (x .me)) y (messageOf cfg message))
+
+  move-one : moveOf (firstNo (stepQuestions cfg x message keptA esA sends board)) (view cfg x keptA esA)
+      ≡ moveOf (firstNo (stepQuestions cfg x message keptB esB sends board)) (view cfg x keptB esB)
+  move-one = λ i. moveOf (first-one i) (seen i)
+
+  pub step-alike : Alike cfg a b keptA keptB esA′ esB′ sendsA sendsB boardA boardB
+  step-alike =
+      record {
+        number = postA .answered .number ∙ first-one ∙ sym (postB .answered .number);
+        sent = postA .answered .count ∙ ap (λ y. length (y .sends)) move-one ∙ sym (postB .answered .count);
+        out = postA .answered .out ∙ ap (λ y. front (records cfg (y .sends)) sends) move-one ∙ sym (postB .answered .out);
+        ended = postA .ended ∙ ap (λ y. y .ended) move-one ∙ sym (postB .ended);
+        lent = postA .lent ∙ ap (λ y. shown (y .ended) board) move-one ∙ sym (postB .lent);
+        client = postA .answered .client ∙ ap (λ y. y .client) move-one ∙ sym (postB .answered .client);
+      }

@@ -1,6 +1,6 @@
 -- What a client's calls show besides: a fresh client passes question 6, and every call keeps that; a record handed over again is not
--- counted again; a client that has q answers asks no more; an operation ends only on answers of at least q distinct servers in its last
--- phase; no answer depends on bytes that are not in use. Assumes nothing.
+-- counted again; none is taken in an operation that was not begun; a client that has q answers asks no more; an operation ends only on
+-- answers of at least q distinct servers in its last phase; no answer depends on bytes that are not in use. Assumes nothing.
 use mathlib.Core.Path.{_≡_, refl, sym, ap, _∙_, subst}
 use mathlib.Core.Bool.{Bool, true, false, cond, _&&_}
 use mathlib.Core.List.{List, [], _∷_, _++_}
@@ -41,6 +41,7 @@ use Rattle.client.specs.Send.{front, records}
 use Rattle.client.specs.Servers.{member}
 use Rattle.client.specs.Settle.{endedOf, shown}
 use Rattle.client.specs.State.{phaseOf, phaseWithin, stateWithin, view}
+use Rattle.client.proofs.Begun.{OwnWrite, operation-begun, write-own}
 use Rattle.client.proofs.Once.{again}
 use Rattle.client.proofs.Quorum.{Fits, ReadBy, SpentBy, WrittenBy, isAsking, step-fits, step-on}
 use Rattle.client.proofs.Stepping.{asked-later, both-asked, heeds}
@@ -124,6 +125,15 @@ module _ (cfg : Config) (x : State) (message kept es es′ sends sends′ board 
       asked-later cfg (r .state) message kept es′ sends″ board″
       (last-yes (questions cfg) 6 (size && stateWithin cfg (r .state)) (questions-numbered cfg) (valid-asked cfg (heeded .valid)) six)
       ∙ rw (answers .0, still-for, not-again)
+
+  -- ---- an operation that was begun
+
+  -- a record is taken only of a client whose operation number is at least 1 and, of a write's phase, whose tag is its own
+  pub begun : (1 ≤ x .operation) × OwnWrite (x .me) (x .phase)
+  begun = (
+    operation-begun cfg x message kept es (heeded .valid) (heeded .within) (answers .0) (answers .1) (answers .2),
+    write-own cfg x message kept es (heeded .valid) (heeded .within) (answers .0) (answers .1) (answers .2),
+  )
 
   -- ---- a client that has enough goes on
 

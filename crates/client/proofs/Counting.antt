@@ -109,9 +109,6 @@ module _ (cfg : Config) (h : Header) where
     unfolding phaseWithin
     asking-within = c .within
 
-    pub best-small : Small best
-    best-small = small cfg (c .valid) best (its-tag cfg best counted asking-within)
-
     pub asking-other : firstOf 2 counted h ≡ false
         → (kept es bs : List ℕ) → protocol.awaits key (phaseOf cfg (Asking writes best counted) kept es) (withElement cfg h bs) ≡ false
     unfolding protocol.awaits phaseOf

@@ -1,5 +1,6 @@
 pub mod Answers
 pub mod Asked
+pub mod Begun
 pub mod Bounds
 pub mod Counting
 pub mod Elements

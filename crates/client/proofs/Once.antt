@@ -47,7 +47,7 @@ module _ {Element : Type 0} (m : Message Element) where
   unfolding isFirst
   first-new kind cs h = not-so (cs (m .server)) (and-right (eqb (kindNumber (m .kind)) kind) (not (cs (m .server))) h)
 
-  first-kind : (kind : ℕ) (cs : ℕ → Bool) → isFirst kind cs m ≡ true → kindNumber (m .kind) ≡ kind
+  pub first-kind : (kind : ℕ) (cs : ℕ → Bool) → isFirst kind cs m ≡ true → kindNumber (m .kind) ≡ kind
   unfolding isFirst
   first-kind kind cs h =
       eqb-true (kindNumber (m .kind)) kind (and-left (eqb (kindNumber (m .kind)) kind) (not (cs (m .server))) h)

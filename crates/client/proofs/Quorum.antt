@@ -1,6 +1,6 @@
 -- An operation ends only on answers of at least q distinct servers in its last phase. The servers counted are nobody where a phase
--- begins, and each awaited answer adds its own server; a write ends, and so does a read, only where those and the last answer's are at
--- least q of 1 to N. Of any client of the protocol, and of the code. Assumes nothing.
+-- begins, and each awaited answer adds its own server; a write ends written or spent, and a read ends, only where those and the last
+-- answer's are at least q of 1 to N. Of any client of the protocol, and of the code. Assumes nothing.
 use mathlib.Core.Path.{_≡_, refl, sym, ap, _∙_}
 use mathlib.Core.Bool.{Bool, true, false, cond, not, _&&_}
 use mathlib.Core.Logic.{_⊎_, inl, inr}
@@ -8,7 +8,7 @@ use mathlib.Core.Option.{Option, none, some}
 use mathlib.Core.List.{List}
 use Prim.Native.Nat.{ℕ, _≤_}
 use native.Mathlib.Omega.{arith}
-use borrow.Author.Tests.{leb-true}
+use borrow.Author.Tests.{le-leb, leb-true, ltb-false}
 use lib.Dec.{eqb, leb, ltb}
 use lib.ListN.{length}
 use Rattle.laws.proofs.Bools.{and-left, and-right}
@@ -21,6 +21,15 @@ use Rattle.history.specs.Client.{Client, Ended, Phase, Moved, idle, asking, pre
 use Rattle.history.specs.Number.{count, nobody, present, upd}
 use Rattle.history.specs.Tags.{higher}
 use Rattle.client.proofs.Once.{countedIn, adds}
+
+-- the client is asking
+abbrev pub isAsking : {Value Element : Type 0} → Phase Value Element → Bool
+isAsking idle = false
+isAsking (asking b t cs) = true
+isAsking (preWriting t cs) = false
+isAsking (finalisingWrite t cs) = false
+isAsking (finalisingRead t cs es) = false
+isAsking down = false
 
 module _ {Value Element : Type 0} (key : Tag → ℕ) (encode : Value → ℕ → Element) (decode : List (ℕ × Element) → Value) (cfg : Config) (c : ℕ) (m : Message Element) where
   abbrev pub move : ℕ → Phase Value Element → Moved Value Element
@@ -35,7 +44,17 @@ module _ {Value Element : Type 0} (key : Tag → ℕ) (encode : Value → ℕ �
   WrittenBy t p =
       (cs : ℕ → Bool) × (p ≡ finalisingWrite t cs) × (quorum cfg ≤ count (upd cs (m .server) true) (cfg .n))
 
-  -- so does a read, with at least k elements
+  -- it is spent while asking, with at least q servers counted and the highest tag's number the last
+  abbrev pub SpentBy : Phase Value Element → Type 0
+  SpentBy p =
+      (v : Value)
+      × (t : Tag)
+      × (cs : ℕ → Bool)
+      × (p ≡ asking (some v) t cs)
+      × (quorum cfg ≤ count (upd cs (m .server) true) (cfg .n))
+      × (highestNumber ≤ higher key t (m .tag) .number)
+
+  -- a read ends in its last phase, with at least q servers counted and at least k elements
   abbrev pub ReadBy : Tag → Phase Value Element → Type 0
   ReadBy t p =
       (cs : ℕ → Bool)
@@ -48,30 +67,31 @@ module _ {Value Element : Type 0} (key : Tag → ℕ) (encode : Value → ℕ �
   abbrev pub Fits : Phase Value Element → Ended Value → Type 0
   Fits p nothing = Unit {0}
   Fits p (written t) = WrittenBy t p
-  Fits p spent = Unit {0}
+  Fits p spent = SpentBy p
   Fits p (read t v) = ReadBy t p
 
   many : (cs : ℕ → Bool) → enough cfg cs ≡ true → quorum cfg ≤ count cs (cfg .n)
   unfolding enough
   many cs h = leb-true (quorum cfg) (count cs (cfg .n)) h
 
-  asked-fits : (o : ℕ) (p : Phase Value Element) (b : Option Value) (t : Tag) → Fits p (asked encode cfg c o b t .ended)
+  asked-fits : (o : ℕ) (b : Option Value) (t : Tag) (cs : ℕ → Bool) → quorum cfg ≤ count (upd cs (m .server) true) (cfg .n)
+      → Fits (asking b t cs) (asked encode cfg c o b (higher key t (m .tag)) .ended)
   unfolding asked sendReadFinalises sendPreWrites ends
-  asked-fits o p none t = tt
-  asked-fits o p (some v) t = go (ltb (t .number) highestNumber)
+  asked-fits o none t cs q = tt
+  asked-fits o (some v) t cs q = go (ltb (higher key t (m .tag) .number) highestNumber) refl
     where
-      go : (b : Bool) → Fits p (cond {A = Moved Value Element} b (sendPreWrites encode cfg c o v (nextTag t c)) (ends o spent) .ended)
-      go true = tt
-      go false = tt
+      go : (b : Bool) → ltb (higher key t (m .tag) .number) highestNumber ≡ b → Fits (asking (some v) t cs) (cond {A = Moved Value Element} b (sendPreWrites encode cfg c o v (nextTag (higher key t (m .tag)) c)) (ends o spent) .ended)
+      go true h = tt
+      go false h = (v, t, cs, refl, q, ltb-false (higher key t (m .tag) .number) highestNumber h)
 
   settled-fits : (o : ℕ) (p : Phase Value Element) → Fits p (move o p .ended)
   unfolding counting settling sendWriteFinalises endRead ends stays enoughToRead
   settled-fits o idle = tt
-  settled-fits o (asking b t cs) = go (enough cfg (upd cs (m .server) true))
+  settled-fits o (asking b t cs) = go (enough cfg (upd cs (m .server) true)) refl
     where
-      go : (e : Bool) → Fits (asking b t cs) (cond {A = Moved Value Element} e (asked encode cfg c o b (higher key t (m .tag))) (stays (record { operation = o; phase = asking b (higher key t (m .tag)) (upd cs (m .server) true) })) .ended)
-      go true = asked-fits o (asking b t cs) b (higher key t (m .tag))
-      go false = tt
+      go : (e : Bool) → enough cfg (upd cs (m .server) true) ≡ e → Fits (asking b t cs) (cond {A = Moved Value Element} e (asked encode cfg c o b (higher key t (m .tag))) (stays (record { operation = o; phase = asking b (higher key t (m .tag)) (upd cs (m .server) true) })) .ended)
+      go true h = asked-fits o b t cs (many (upd cs (m .server) true) h)
+      go false h = tt
   settled-fits o (preWriting t cs) = go (enough cfg (upd cs (m .server) true))
     where
       go : (e : Bool) → Fits (preWriting t cs) (cond {A = Moved Value Element} e (sendWriteFinalises cfg c o t) (stays (record { operation = o; phase = preWriting t (upd cs (m .server) true) })) .ended)
@@ -104,6 +124,25 @@ module _ {Value Element : Type 0} (key : Tag → ℕ) (encode : Value → ℕ �
       go : (b : Bool) → Fits (x .phase) (cond {A = Moved Value Element} b (settle encode decode cfg c (counted key x m)) (stays x) .ended)
       go true = settled-fits (x .operation) (x .phase)
       go false = tt
+
+  -- ---- a client that has enough goes on
+
+  asked-on : (o : ℕ) (b : Option Value) (t : Tag) → isAsking (asked encode cfg c o b t .client .phase) ≡ false
+  unfolding asked sendReadFinalises sendPreWrites ends
+  asked-on o none t = refl
+  asked-on o (some v) t = go (ltb (t .number) highestNumber)
+    where
+      go : (b : Bool) → isAsking (cond {A = Moved Value Element} b (sendPreWrites encode cfg c o v (nextTag t c)) (ends o spent) .client .phase) ≡ false
+      go true = refl
+      go false = refl
+
+  -- with at least q servers counted, that of an awaited answer among them, it asks no more
+  pub step-on : (o : ℕ) (b : Option Value) (t : Tag) (cs : ℕ → Bool)
+      → awaited key (record { operation = o; phase = asking b t cs }) m ≡ true → quorum cfg ≤ count (upd cs (m .server) true) (cfg .n)
+      → isAsking (clientStep key encode decode cfg c (record { operation = o; phase = asking b t cs }) m .client .phase) ≡ false
+  unfolding clientStep settle counted counting settling enough
+  step-on o b t cs h q =
+      rw (h, le-leb (quorum cfg) (count (upd cs (m .server) true) (cfg .n)) q) (asked-on o b (higher key t (m .tag)))
 
   -- ---- what is counted after a step
 

@@ -34,3 +34,12 @@ module _ (a b : Tag) (sa : Small a) (sb : Small b) where
   pub higher-first : above b a ≡ false → protocol.higher key a b ≡ a
   unfolding protocol.higher
   higher-first h = rw (le-ltb (key a) (key b) (not-above b a sb sa h))
+
+-- the higher of two allowed tags is allowed
+pub higher-allowed : (c : ℕ) (a b : Tag) → allowed c a ≡ true → allowed c b ≡ true → allowed c (protocol.higher key a b) ≡ true
+unfolding protocol.higher
+higher-allowed c a b ha hb = go (ltb (key a) (key b))
+  where
+    go : (t : Bool) → allowed c (cond t b a) ≡ true
+    go true = hb
+    go false = ha

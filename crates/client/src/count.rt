@@ -10,7 +10,8 @@ ghost use mathlib.Core.Bool.{true, _&&_};
 ghost use Prim.Native.Nat.{_<_};
 ghost use Rattle.config.specs.Number.{serverNumber};
 ghost use Rattle.history.specs.Number.{upd};
-ghost use Rattle.tag.specs.Tag.{same};
+ghost use Rattle.history.specs.Tags.{higher as higherOf};
+ghost use Rattle.tag.specs.Tag.{key, same};
 ghost use Rattle.client.specs.Servers.{member};
 ghost use Rattle.client.specs.Count.{Countable, PhaseCounted, StateCounted, firstOf};
 
@@ -65,18 +66,21 @@ fn asking(cfg: Config, writes: bool, best: Tag, counted: u32, h: Header) -> Awai
     }
     let counted = with(counted, h);
     let tag = h.tag;
-    if tag.above(best) {
-        return Awaited::Counted(Phase::Asking {
-            writes,
-            best: tag,
-            counted,
-        });
-    }
     Awaited::Counted(Phase::Asking {
         writes,
-        best,
+        best: higher(best, tag),
         counted,
     })
+}
+
+// The higher of two tags.
+fn higher(best: Tag, t: Tag) -> Tag
+    ensures { λ r. ⌜ r ≡ higherOf key best t ⌝ }
+{
+    if t.above(best) {
+        return t;
+    }
+    best
 }
 
 fn pre_writing(cfg: Config, tag: Tag, counted: u32, h: Header) -> Awaited

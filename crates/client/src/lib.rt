@@ -1,4 +1,5 @@
-// The client.
+// A client: its state by value; the board that it writes, the elements that it has received, its sends and a read's board lent by the
+// host. Every function is proved, nothing is assumed, and no public function has a `requires`.
 use config::Client;
 use config::Config;
 use config::Refusal;

@@ -184,9 +184,10 @@ fn pre_writes(
     requires { ⌜ best .number < 4294967295 ⌝ }
     ensures { λ r. ⌜ Moves cfg me (protocol.sendPreWrites (element cfg) cfg (clientNumber me) operation (now (kept .entry)) (protocol.nextTag best (clientNumber me))) (now (kept .entry)) (now (sends .entry)) (now (sends .exit)) r ⌝ }
 {
+    let own = me.number();
     let tag = Tag {
         number: best.number + 1,
-        client: me.number(),
+        client: own,
     };
     let letter = Letter {
         kind: Kind::PreWrite,

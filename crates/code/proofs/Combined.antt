@@ -1,8 +1,7 @@
 -- A decoded board, as the elements are added to it.
-use Prim.Native.Nat.{ℕ, zero, suc, _+_, _*_, _/_, _%_, _<_, _≤_}
+use Prim.Native.Nat.{ℕ, suc, _+_, _*_, _/_, _%_, _≤_}
 use mathlib.Core.Path.{_≡_, refl, sym, ap, ap₂, _∙_}
 use mathlib.Core.List.{List, []}
-use native.Mathlib.Omega.{arith}
 use native.Mathlib.Nat.{div-lt-iff-lt-mul, mod-lt}
 use native.Mathlib.Numerals.{add-one}
 use lib.ListN.{length, getD, take}
@@ -39,7 +38,7 @@ module _ (k e : ℕ) (rows : List (List ℕ)) (elements : List ℕ) where
   unfolding combined
   combined-length r = length-listOf (k * e) (byte r)
 
-  pub combined-more : (r : ℕ) → 1 ≤ e → length (part e elements r) ≡ e
+  combined-more : (r : ℕ) → 1 ≤ e → length (part e elements r) ≡ e
       → spread rows r (part e elements r) (combined k e rows elements r) ≡ combined k e rows elements (r + 1)
   unfolding spread combined sum
   combined-more r low size =
@@ -55,6 +54,11 @@ module _ (k e : ℕ) (rows : List (List ℕ)) (elements : List ℕ) where
 
       x : List ℕ
       x = part e elements r
+
+  -- a loop's turn
+  pub combined-turn : (r : ℕ) (now after : List ℕ) → 1 ≤ e → length (part e elements r) ≡ e → now ≡ combined k e rows elements r
+      → after ≡ spread rows r (part e elements r) now → after ≡ combined k e rows elements (r + 1)
+  combined-turn r now after low size hn ha = ha ∙ ap (spread rows r (part e elements r)) hn ∙ combined-more r low size
 
 -- by the inverse all k elements make the decoded board
 pub combined-decoded : (cfg : Config) (servers elements : List ℕ) (rows : List (List ℕ)) → 1 ≤ cfg .e → cfg .k ≤ length servers

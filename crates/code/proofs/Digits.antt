@@ -1,18 +1,11 @@
 -- A product, digit by digit of one factor.
-use Prim.Native.Nat.{ℕ, zero, suc, _+_, _*_, _/_, _%_, _^_, _<_, _≤_}
-use mathlib.Core.Path.{_≡_, refl, sym, ap, ap₂, _∙_}
+use Prim.Native.Nat.{ℕ, _*_, _/_, _%_, _<_}
+use mathlib.Core.Path.{_≡_, sym, ap, ap₂, _∙_}
 use native.Mathlib.Omega.{arith}
 use native.Mathlib.Nat.{zero-mul, one-mul, div-one}
 use lib.Bits.{bitAnd, and-zero-r, and-mask, xor-shifted, xor-zero-r, xor-zero-l}
 use Rattle.field.specs.Field.{plus, times, double, doubled, bit, sum}
-use Rattle.field.proofs.Laws.{
-  times-plus-right,
-  times-double,
-  times-comm,
-  times-one,
-  times-zero-right,
-  double-lt,
-}
+use Rattle.field.proofs.Laws.{times-plus-right, times-double, times-comm, times-one, times-zero-right, double-lt}
 use Rattle.field.proofs.Linear.{double-byte}
 use Rattle.laws.proofs.Xor.{by-digit}
 use Rattle.code.specs.Multiples.{Multiples}

@@ -1,19 +1,20 @@
 -- The table of the multiples of an element: its rows, and the four that make up a byte's multiple.
-use Prim.Native.Nat.{ℕ, zero, suc, _+_, _*_, _/_, _%_, _^_, _<_, _≤_}
-use mathlib.Core.Path.{_≡_, refl, sym, ap, ap₂, _∙_}
+use Prim.Native.Nat.{ℕ, zero, suc, _+_, _*_, _/_, _%_, _^_, _<_}
+use mathlib.Core.Path.{_≡_, sym, ap, ap₂, _∙_}
 use mathlib.Core.List.{List, [], _∷_}
 use native.Mathlib.Decide.{ℕ-discrete}
 use native.Mathlib.Omega.{arith}
 use native.Mathlib.Nat.{zero-mul}
-use lib.ListN.{length, getD, replicate, getD-replicate}
+use lib.ListN.{getD}
 use lib.Bits.{xor-shifted}
 use Rattle.field.specs.Field.{plus, times, double, doubled}
 use Rattle.field.proofs.Laws.{times-plus-left, times-zero-left, times-one-left, times-doubled}
 use Rattle.code.specs.Multiples.{Multiples}
-use Rattle.code.specs.Table.{place, Ready, Placed, Rows, Multiplied}
+use Rattle.code.specs.Table.{place, Ready, Placed, Rows}
 use Rattle.code.proofs.Digits.{doublings}
 use Rattle.code.proofs.Written.{written, found, length-written, written-here, written-there}
 
+-- what holds of 0 to 3 holds of all below 4
 four : (P : ℕ → Type 0) → P 0 → P 1 → P 2 → P 3 → (v : ℕ) → v < 4 → P v
 four P a b c d zero h = a
 four P a b c d (suc zero) h = b

@@ -18,9 +18,9 @@ pub(crate) fn step(row: &mut [u8], s: u8, more: &[u8])
     }
 }
 
-// Byte j of the multiples of an element, whose byte j is x: the rows of the number 0 are clear, the others have x, doubled none to
-// seven times, and the sums of two.
-fn place(table: &mut [u8], j: usize, x: u8)
+// Byte j of the multiples of an element whose byte j is x: x doubled none to seven times, and the sums of two. The rows of the
+// number 0 are clear already.
+fn place(j: usize, x: u8, table: &mut [u8])
     requires { ⌜ Ready (now table) × (j < 64) ⌝ }
     ensures { λ _. ⌜ Placed (now (table .entry)) j x (now (table .exit)) ⌝ }
 {
@@ -45,24 +45,22 @@ fn place(table: &mut [u8], j: usize, x: u8)
     table[960 + j] = x6 ^ x7;
 }
 
-// the multiples of an element
+// the multiples of an element, row by row of a table
 pub(crate) fn multiply(x: &[u8], table: &mut [u8])
     requires { ⌜ Ready (now table) × (length (now x) ≤ 64) ⌝ }
     ensures { λ _. ⌜ Multiplied (now (x .entry)) (now (table .exit)) ⌝ }
 {
     let mut j = 0;
     while j < x.len() {
-        place(table, j, x[j]);
+        place(j, x[j], table);
         j += 1;
     }
 }
 
-// adds c times x to a row, given the multiples of x: one row of the table for every two digits of c
+// adds c times x to a row, from the multiples of x: one row of the table for every two binary digits of c
 pub(crate) fn add(row: &mut [u8], c: u8, table: &[u8])
     requires { ⌜ (length (now row) ≤ 64) × (length (now table) ≡ 1024) ⌝ }
-    ensures {
-        λ _. ⌜ ((x : List ℕ) → length x ≡ length (now (row .entry)) → Multiplied x (now (table .entry)) → now (row .exit) ≡ added (now (row .entry)) c x) ⌝
-    }
+    ensures { λ _. ⌜ ((x : List ℕ) → length x ≡ length (now (row .entry)) → Multiplied x (now (table .entry)) → now (row .exit) ≡ added (now (row .entry)) c x) ⌝ }
 {
     let at0 = 64 * (c % 4) as usize;
     let at1 = 256 + 64 * (c / 4 % 4) as usize;

@@ -3,12 +3,10 @@ use Prim.Native.Nat.{_-_, _≤_}
 use mathlib.Core.Path.{_≡_, sym, ap, _∙_}
 use native.Mathlib.Omega.{arith}
 use lib.ListN.{length}
-use Rattle.config.specs.Config.{boardLength}
 use Rattle.code.specs.Row.{zeros}
-use Rattle.code.specs.Table.{Ready, spread}
-use Rattle.code.proofs.Combined.{combined, combined-none, combined-length, combined-more, combined-decoded}
+use Rattle.code.specs.Table.{Ready}
+use Rattle.code.proofs.Combined.{combined, combined-none, combined-length, combined-turn, combined-decoded}
 use Rattle.code.proofs.Interpolated.{usable, element-fits, element-part, spreadable, ready-clear}
-use Rattle.code.proofs.Parts.{part}
 use Rattle.code.proofs.board.interpolate.Statement.{statement}
 use Rattle.code.proofs.board.interpolate.Tie as tie
 
@@ -89,10 +87,10 @@ loop-again c =
     let s = c .before .before .before .spread .ensures in (
       omega arith,
       s .ready,
-      s .board
-          ∙ ap (spread rows (at .r) (part (x .cfg .e) (x .elements .now) (at .r))) (at .inv .2)
-          ∙ combined-more (x .cfg .k) (x .cfg .e) rows (x .elements .now) (at .r) (h .valid .e-low)
-          (element-part (x .cfg) (x .servers .now) (x .elements .now) (length (x .buffer .now)) h (at .r) (omega arith)),
+      combined-turn (x .cfg .k) (x .cfg .e) rows (x .elements .now) (at .r) (at .buffer) _ (h .valid .e-low)
+          (element-part (x .cfg) (x .servers .now) (x .elements .now) (length (x .buffer .now)) h (at .r) (omega arith))
+          (at .inv .2)
+          (s .board),
     )
 
 same-length : tie.Need-same-length Inv-loop μ-loop

@@ -1,7 +1,6 @@
 -- `code::board::spread` meets its contract: the rows before i have their multiples added, the others are as they were.
 use Prim.Native.Nat.{_+_, _*_, _-_, _≤_}
 use mathlib.Core.Path.{_≡_, sym, ap, _∙_}
-use borrow.Author.Needs.{needs}
 use native.Mathlib.Omega.{arith}
 use lib.ListN.{length}
 use Rattle.code.proofs.Filled.{filled, length-filled}

@@ -1,6 +1,6 @@
 -- `code::row::add` meets its contract: to the bytes before j it is added, those from j on are as they were.
 use Prim.Native.Nat.{ℕ, _≤_, _<_, _-_}
-use mathlib.Core.Path.{_≡_, refl, ap, ap₂, _∙_}
+use mathlib.Core.Path.{_≡_, refl, ap, _∙_}
 use mathlib.Core.List.{List}
 use borrow.Author.Needs.{needs}
 use native.Mathlib.Omega.{arith}
@@ -105,7 +105,7 @@ loop-again c =
       omega arith,
       length-set (at .row) (at .j) _ ∙ at .inv .1,
       turn f (at .j) (a .row .now) (at .row) _ (at .inv .2) here
-      (ap (λ n. plus n (chosen (a .c) (a .table .now) (at .j))) (was f (at .j) (a .row .now) (at .row) 0 (at .inv .2) here)),
+          (ap (λ n. plus n (chosen (a .c) (a .table .now) (at .j))) (was f (at .j) (a .row .now) (at .row) 0 (at .inv .2) here)),
     )
 
 same-length : tie.Need-same-length Inv-loop μ-loop

@@ -1,79 +1,79 @@
--- A row of a decoded board, as the elements are added to it.
-use Prim.Native.Nat.{ℕ, zero, suc, _+_, _*_, _<_, _≤_}
+-- A decoded board, as the elements are added to it.
+use Prim.Native.Nat.{ℕ, suc, _+_, _*_, _/_, _%_, _≤_}
 use mathlib.Core.Path.{_≡_, refl, sym, ap, ap₂, _∙_}
 use mathlib.Core.List.{List, []}
-use native.Mathlib.Omega.{arith}
-use native.Mathlib.Nat.{mul-le-mul}
+use native.Mathlib.Nat.{div-lt-iff-lt-mul, mod-lt}
 use native.Mathlib.Numerals.{add-one}
 use lib.ListN.{length, getD, take}
 use lib.Seq.{getD-take, length-take-le}
 use Rattle.config.specs.declared.Config.{Config}
+use Rattle.config.specs.Config.{boardLength}
 use Rattle.field.specs.Field.{plus, times}
 use Rattle.code.specs.Lists.{listOf}
 use Rattle.code.specs.Polynomial.{sum, lagrange, interpolated}
 use Rattle.code.specs.Element.{bytes}
-use Rattle.code.specs.Decoded.{decodedByte}
+use Rattle.code.specs.Decoded.{decoded, decodedByte}
 use Rattle.code.specs.Lanes.{Inverse}
-use Rattle.code.specs.Row.{Combinable, added, combined, zeros}
+use Rattle.code.specs.Row.{zeros}
+use Rattle.code.specs.Table.{spread}
 use Rattle.code.proofs.Listed.{length-listOf, getD-listOf, listOf-cong}
-use Rattle.code.proofs.Parts.{part, part-at, part-length, row-inside}
+use Rattle.code.proofs.Parts.{part, part-at}
 use Rattle.code.proofs.Sums.{sum-cong}
 
--- an element lies within the elements, and they are few
-pub element-fits : (k e elements : ℕ) (row : List ℕ) → Combinable k e elements row → (r : ℕ) → r < k
-    → (r * e + e ≤ elements) × (r * e + e ≤ 1024) × (r < 16)
-element-fits k e elements row h r l =
-    omega (arith, row-inside k e r l, mul-le-mul (h .k-high) (h .e-high), h .enough, h .k-high)
+-- the board of k rows that the first r elements make
+unfoldable pub combined : ℕ → ℕ → List (List ℕ) → List ℕ → ℕ → List ℕ
+combined k e rows elements r =
+    listOf (k * e) (λ m. sum bytes r (λ t. times (getD (getD rows (m / e) []) t 0) (getD elements (t * e + m % e) 0)))
 
-pub element-part : (k e : ℕ) (elements row : List ℕ) → Combinable k e (length elements) row → (r : ℕ) → r < k
-    → length (part e elements r) ≡ e
-element-part k e elements row h r l = part-length k e r elements l (h .enough)
+module _ (k e : ℕ) (rows : List (List ℕ)) (elements : List ℕ) where
+  -- byte m of it
+  abbrev byte : ℕ → ℕ → ℕ
+  byte r m = sum bytes r (λ t. times (getD (getD rows (m / e) []) t 0) (getD elements (t * e + m % e) 0))
 
-pub row-size : (k e elements : ℕ) (row : List ℕ) → Combinable k e elements row → length row ≡ e
-unfolding zeros
-row-size k e elements row h = ap length (h .clear) ∙ length-listOf e (λ j. 0)
-
-module _ (e : ℕ) (c elements : List ℕ) where
-  term : ℕ → ℕ → ℕ
-  term j r = times (getD c r 0) (getD elements (r * e + j) 0)
-
-  pub combined-none : zeros e ≡ combined 0 e c elements
+  pub combined-none : zeros (k * e) ≡ combined k e rows elements 0
   unfolding zeros combined sum
   combined-none = refl
 
-  pub combined-length : (k : ℕ) → length (combined k e c elements) ≡ e
+  pub combined-length : (r : ℕ) → length (combined k e rows elements r) ≡ k * e
   unfolding combined
-  combined-length k = length-listOf e (λ j. sum bytes k (λ r. times (getD c r 0) (getD elements (r * e + j) 0)))
+  combined-length r = length-listOf (k * e) (byte r)
 
-  combined-at : (k j : ℕ) → j < e → getD (combined k e c elements) j 0 ≡ sum bytes k (term j)
-  unfolding combined term
-  combined-at k j h = getD-listOf e (λ i. sum bytes k (λ r. times (getD c r 0) (getD elements (r * e + i) 0))) j 0 h
+  combined-more : (r : ℕ) → 1 ≤ e → length (part e elements r) ≡ e
+      → spread rows r (part e elements r) (combined k e rows elements r) ≡ combined k e rows elements (r + 1)
+  unfolding spread combined sum
+  combined-more r low size =
+      ap₂ (λ n o. listOf n (λ m. plus (getD now m 0) (times (getD (getD rows (m / o) []) r 0) (getD x (m % o) 0)))) (combined-length r) size
+      ∙ listOf-cong (k * e)
+      (λ m. plus (getD now m 0) (times (getD (getD rows (m / e) []) r 0) (getD x (m % e) 0)))
+      (byte (suc r))
+      (λ m l. ap₂ (λ a b. plus a (times (getD (getD rows (m / e) []) r 0) b)) (getD-listOf (k * e) (byte r) m 0 l) (part-at e r (m % e) elements (mod-lt m low)))
+      ∙ ap (combined k e rows elements) (sym (add-one r))
+    where
+      now : List ℕ
+      now = combined k e rows elements r
 
-  pub combined-more : (r : ℕ) → added (combined r e c elements) (getD c r 0) (part e elements r) ≡ combined (r + 1) e c elements
-  unfolding added combined term sum
-  combined-more r =
-      ap (λ n. listOf n (λ j. plus (getD (combined r e c elements) j 0) (times (getD c r 0) (getD (part e elements r) j 0)))) (combined-length r)
-      ∙ listOf-cong e
-      (λ j. plus (getD (combined r e c elements) j 0) (times (getD c r 0) (getD (part e elements r) j 0)))
-      (λ j. sum bytes (suc r) (term j))
-      (λ j l. ap₂ (λ a b. plus a (times (getD c r 0) b)) (combined-at r j l) (part-at e r j elements l))
-      ∙ ap (λ n. combined n e c elements) (sym (add-one r))
+      x : List ℕ
+      x = part e elements r
 
--- by a row of the inverse it is a row of the board
-pub combined-decoded : (cfg : Config) (servers elements : List ℕ) (rows : List (List ℕ)) → cfg .k ≤ length servers
-    → Inverse (cfg .k) servers rows → (i : ℕ) → i < cfg .k
-    → combined (cfg .k) (cfg .e) (getD rows i []) elements ≡ listOf (cfg .e) (decodedByte (cfg .k) (cfg .e) servers elements i)
-unfolding combined decodedByte interpolated
-combined-decoded cfg servers elements rows enough v i h =
-    listOf-cong (cfg .e)
-    (λ j. sum bytes (cfg .k) (λ r. times (getD (getD rows i []) r 0) (getD elements (r * cfg .e + j) 0)))
-    (λ j. interpolated bytes used (λ r. getD elements (r * cfg .e + j) 0) i)
-    (λ j l. sum-cong bytes (cfg .k)
-    (λ r. times (getD (getD rows i []) r 0) (getD elements (r * cfg .e + j) 0))
-    (λ r. times (getD (lagrange bytes used (getD used r 0)) i 0) (getD elements (r * cfg .e + j) 0))
-    (λ r m. ap (λ x. times x (getD elements (r * cfg .e + j) 0))
-    (v i r h m ∙ ap (λ s. getD (lagrange bytes used s) i 0) (sym (getD-take (cfg .k) servers r 0 m))))
-    ∙ ap (λ n. sum bytes n (λ r. times (getD (lagrange bytes used (getD used r 0)) i 0) (getD elements (r * cfg .e + j) 0)))
+  -- a loop's turn
+  pub combined-turn : (r : ℕ) (now after : List ℕ) → 1 ≤ e → length (part e elements r) ≡ e → now ≡ combined k e rows elements r
+      → after ≡ spread rows r (part e elements r) now → after ≡ combined k e rows elements (r + 1)
+  combined-turn r now after low size hn ha = ha ∙ ap (spread rows r (part e elements r)) hn ∙ combined-more r low size
+
+-- by the inverse all k elements make the decoded board
+pub combined-decoded : (cfg : Config) (servers elements : List ℕ) (rows : List (List ℕ)) → 1 ≤ cfg .e → cfg .k ≤ length servers
+    → Inverse (cfg .k) servers rows → combined (cfg .k) (cfg .e) rows elements (cfg .k) ≡ decoded cfg servers elements
+unfolding combined decoded decodedByte interpolated
+combined-decoded cfg servers elements rows low enough v =
+    listOf-cong (boardLength cfg)
+    (λ m. sum bytes (cfg .k) (λ r. times (getD (getD rows (m / cfg .e) []) r 0) (getD elements (r * cfg .e + m % cfg .e) 0)))
+    (λ m. interpolated bytes used (λ r. getD elements (r * cfg .e + m % cfg .e) 0) (m / cfg .e))
+    (λ m l. sum-cong bytes (cfg .k)
+    (λ r. times (getD (getD rows (m / cfg .e) []) r 0) (getD elements (r * cfg .e + m % cfg .e) 0))
+    (λ r. times (getD (lagrange bytes used (getD used r 0)) (m / cfg .e) 0) (getD elements (r * cfg .e + m % cfg .e) 0))
+    (λ r h. ap (λ x. times x (getD elements (r * cfg .e + m % cfg .e) 0))
+    (v (m / cfg .e) r (div-lt-iff-lt-mul low .1 l) h ∙ ap (λ s. getD (lagrange bytes used s) (m / cfg .e) 0) (sym (getD-take (cfg .k) servers r 0 h))))
+    ∙ ap (λ n. sum bytes n (λ r. times (getD (lagrange bytes used (getD used r 0)) (m / cfg .e) 0) (getD elements (r * cfg .e + m % cfg .e) 0)))
     (sym (length-take-le (cfg .k) servers enough)))
   where
     used : List ℕ

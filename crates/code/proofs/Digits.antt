@@ -1,18 +1,11 @@
 -- A product, digit by digit of one factor.
-use Prim.Native.Nat.{ℕ, zero, suc, _+_, _*_, _/_, _%_, _^_, _<_, _≤_}
-use mathlib.Core.Path.{_≡_, refl, sym, ap, ap₂, _∙_}
+use Prim.Native.Nat.{ℕ, _*_, _/_, _%_, _<_}
+use mathlib.Core.Path.{_≡_, sym, ap, ap₂, _∙_}
 use native.Mathlib.Omega.{arith}
 use native.Mathlib.Nat.{zero-mul, one-mul, div-one}
 use lib.Bits.{bitAnd, and-zero-r, and-mask, xor-shifted, xor-zero-r, xor-zero-l}
 use Rattle.field.specs.Field.{plus, times, double, doubled, bit, sum}
-use Rattle.field.proofs.Laws.{
-  times-plus-right,
-  times-double,
-  times-comm,
-  times-one,
-  times-zero-right,
-  double-lt,
-}
+use Rattle.field.proofs.Laws.{times-plus-right, times-double, times-comm, times-one, times-zero-right, double-lt}
 use Rattle.field.proofs.Linear.{double-byte}
 use Rattle.laws.proofs.Xor.{by-digit}
 use Rattle.code.specs.Multiples.{Multiples}
@@ -67,36 +60,36 @@ first : (c x : ℕ) → x % 2 * c ≡ sum 1 c x
 unfolding sum doubled
 first c x = ap (λ n. n % 2 * c) (sym (div-one x)) ∙ sym (xor-zero-l (x / 1 % 2 * c))
 
+pub record Doublings (c c1 c2 c3 c4 c5 c6 c7 : ℕ) : Type 0 where
+  pub one : c1 ≡ doubled 1 c
+  pub two : c2 ≡ doubled 2 c
+  pub three : c3 ≡ doubled 3 c
+  pub four : c4 ≡ doubled 4 c
+  pub five : c5 ≡ doubled 5 c
+  pub six : c6 ≡ doubled 6 c
+  pub seven : c7 ≡ doubled 7 c
+
+pub doublings : {c c1 c2 c3 c4 c5 c6 c7 : ℕ} → Multiples c c1 c2 c3 c4 c5 c6 c7 → Doublings c c1 c2 c3 c4 c5 c6 c7
+unfolding doubled
+doublings {c} m =
+    let d1 : _ ≡ doubled 1 c = m .one in
+    let d2 : _ ≡ doubled 2 c = m .two ∙ ap double d1 in
+    let d3 : _ ≡ doubled 3 c = m .three ∙ ap double d2 in
+    let d4 : _ ≡ doubled 4 c = m .four ∙ ap double d3 in
+    let d5 : _ ≡ doubled 5 c = m .five ∙ ap double d4 in
+    let d6 : _ ≡ doubled 6 c = m .six ∙ ap double d5 in
+    record { one = d1; two = d2; three = d3; four = d4; five = d5; six = d6; seven = m .seven ∙ ap double d6 }
+
 pub eight : (x c c1 c2 c3 c4 c5 c6 c7 : ℕ) → Multiples c c1 c2 c3 c4 c5 c6 c7
     → plus (plus (plus (plus (plus (plus (plus (x % 2 * c) (x / 2 % 2 * c1)) (x / 4 % 2 * c2)) (x / 8 % 2 * c3)) (x / 16 % 2 * c4)) (x / 32 % 2 * c5)) (x / 64 % 2 * c6)) (x / 128 % 2 * c7)
     ≡ times c x
 unfolding times sum doubled
 eight x c c1 c2 c3 c4 c5 c6 c7 m =
-    term (x / 128) (term (x / 64) (term (x / 32) (term (x / 16) (term (x / 8) (term (x / 4) (term (x / 2) (first c x) d1) d2) d3) d4) d5) d6) d7
+    let d = doublings m in
+    term (x / 128) (term (x / 64) (term (x / 32) (term (x / 16) (term (x / 8) (term (x / 4) (term (x / 2) (first c x) (d .one)) (d .two)) (d .three)) (d .four)) (d .five)) (d .six)) (d .seven)
   where
     term : (y : ℕ) {a b p q : ℕ} → a ≡ b → p ≡ q → plus a (y % 2 * p) ≡ plus b (y % 2 * q)
     term y e f = ap₂ plus e (ap (λ n. y % 2 * n) f)
-
-    d1 : c1 ≡ double c
-    d1 = m .one
-
-    d2 : c2 ≡ double (double c)
-    d2 = m .two ∙ ap double d1
-
-    d3 : c3 ≡ double (double (double c))
-    d3 = m .three ∙ ap double d2
-
-    d4 : c4 ≡ double (double (double (double c)))
-    d4 = m .four ∙ ap double d3
-
-    d5 : c5 ≡ double (double (double (double (double c))))
-    d5 = m .five ∙ ap double d4
-
-    d6 : c6 ≡ double (double (double (double (double (double c)))))
-    d6 = m .six ∙ ap double d5
-
-    d7 : c7 ≡ double (double (double (double (double (double (double c))))))
-    d7 = m .seven ∙ ap double d6
 
 -- the sum over the digits below 5 is that over all where the factor is below 32
 five-digits : (x s : ℕ) → s < 32 → sum 5 x s ≡ times x s

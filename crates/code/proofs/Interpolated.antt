@@ -1,30 +1,18 @@
--- A board that is decoded row by row.
-use Prim.Native.Nat.{ℕ, zero, suc, _+_, _*_, _/_, _%_, _-_, _<_, _≤_}
-use mathlib.Core.Path.{_≡_, refl, sym, ap, ap₂, _∙_}
-use mathlib.Core.Bool.{true}
-use mathlib.Core.List.{List, [], _++_}
+-- What decoding finds in what it is handed.
+use Prim.Native.Nat.{ℕ, _+_, _*_, _<_, _≤_}
+use mathlib.Core.Path.{_≡_}
+use mathlib.Core.List.{List}
 use native.Mathlib.Omega.{arith}
 use native.Mathlib.Nat.{mul-le-mul-right}
-use lib.Arith.{digits-div, digits-mod}
-use lib.ListN.{length, getD, take, drop}
-use lib.Seq.{ext-getD}
+use lib.ListN.{length, replicate, length-replicate, getD-replicate}
 use Rattle.config.specs.declared.Config.{Config}
-use Rattle.config.specs.Config.{boardLength, Valid}
-use Rattle.code.specs.Lists.{listOf}
+use Rattle.config.specs.Config.{boardLength}
 use Rattle.code.specs.Decode.{Decodable}
-use Rattle.code.specs.Decoded.{decoded, decodedByte}
-use Rattle.code.specs.Lanes.{Inverse, Usable}
-use Rattle.code.specs.Row.{Combinable, combined, zeros}
+use Rattle.code.specs.Lanes.{Usable}
+use Rattle.code.specs.Table.{place, Ready, Spreadable}
 use Rattle.code.proofs.Asked.{board-small}
-use Rattle.code.proofs.Combined.{combined-decoded}
-use Rattle.code.proofs.Filled.{filled, filled-none, filled-all, filled-rest, length-filled, turn-part}
-use Rattle.code.proofs.Listed.{length-listOf, getD-listOf, listOf-cong}
-use Rattle.code.proofs.Parts.{part, part-at, part-length, row-inside}
+use Rattle.code.proofs.Parts.{part, part-length, row-inside}
 use Rattle.code.proofs.Rising as rise
-
--- byte m of the board
-abbrev pub each : ℕ → ℕ → List ℕ → List ℕ → ℕ → ℕ
-each k e servers elements m = decodedByte k e servers elements (m / e) (m % e)
 
 module _ (cfg : Config) (servers : List ℕ) (elements buffer : ℕ) (d : Decodable cfg servers elements buffer) where
   pub usable : Usable (cfg .k) servers
@@ -37,74 +25,33 @@ module _ (cfg : Config) (servers : List ℕ) (elements buffer : ℕ) (d : Decoda
             omega (arith, rise.rising-high (cfg .n) 0 servers (d .rises) r (omega (arith, d .enough)), d .valid .n-high);
       }
 
-  pub combinable : (row : List ℕ) → row ≡ zeros (cfg .e) → Combinable (cfg .k) (cfg .e) elements row
-  combinable row h =
-      record {
-        k-high = omega (arith, d .valid .k-high, d .valid .n-high);
-        e-high = d .valid .e-high;
-        enough = omega (arith, d .elements-length, mul-le-mul-right (cfg .e) (d .enough));
-        clear = h;
-      }
+  pub element-fits : (r : ℕ) → r < cfg .k → (r * cfg .e + cfg .e ≤ elements) × (r * cfg .e + cfg .e ≤ 1024) × (r < 16)
+  element-fits r h =
+      omega (arith, row-inside (cfg .k) (cfg .e) r h, board-small cfg (d .valid), d .elements-length, mul-le-mul-right (cfg .e) (d .enough), usable .high)
 
-  pub row-fits : (i : ℕ) → i < cfg .k → (i * cfg .e + cfg .e ≤ buffer) × (buffer ≤ 1024)
-  row-fits i h = omega (arith, row-inside (cfg .k) (cfg .e) i h, board-small cfg (d .valid), d .buffer-length)
+pub element-part : (cfg : Config) (servers elements : List ℕ) (buffer : ℕ) → Decodable cfg servers (length elements) buffer → (r : ℕ) → r < cfg .k
+    → length (part (cfg .e) elements r) ≡ cfg .e
+element-part cfg servers elements buffer d r h =
+    part-length (cfg .k) (cfg .e) r elements h (omega (arith, d .elements-length, mul-le-mul-right (cfg .e) (d .enough)))
 
-module _ (cfg : Config) (servers elements : List ℕ) where
-  row-each : (i : ℕ) → listOf (cfg .e) (decodedByte (cfg .k) (cfg .e) servers elements i) ≡ listOf (cfg .e) (λ j. each (cfg .k) (cfg .e) servers elements (i * cfg .e + j))
-  row-each i =
-      listOf-cong (cfg .e) (decodedByte (cfg .k) (cfg .e) servers elements i) (λ j. each (cfg .k) (cfg .e) servers elements (i * cfg .e + j))
-      (λ j h. sym (ap₂ (decodedByte (cfg .k) (cfg .e) servers elements) (digits-div i h) (digits-mod i h)))
+pub spreadable : (cfg : Config) (servers elements table now : List ℕ) (buffer : ℕ) → Decodable cfg servers (length elements) buffer
+    → Ready table → length now ≡ boardLength cfg → (r : ℕ) → r < cfg .k → Spreadable (cfg .k) r (part (cfg .e) elements r) table now
+spreadable cfg servers elements table now buffer d t size r h =
+    let e = element-part cfg servers elements buffer d r h in
+    let u = usable cfg servers (length elements) buffer d in
+    record {
+      k-high = u .high;
+      r-high = omega (arith, u .high);
+      e-low = rw e (d .valid .e-low);
+      e-high = rw e (d .valid .e-high);
+      ready = t;
+      size = rw e size;
+    }
 
-  pub rows-none : (buffer : List ℕ) (m : ℕ) → m ≡ boardLength cfg → buffer ≡ zeros m
-      → buffer ≡ filled (each (cfg .k) (cfg .e) servers elements) (0 * cfg .e) (zeros (boardLength cfg))
-  rows-none buffer m h e =
-      e ∙ ap zeros h ∙ filled-none (each (cfg .k) (cfg .e) servers elements) (zeros (boardLength cfg))
-      ∙ ap (λ n. filled (each (cfg .k) (cfg .e) servers elements) n (zeros (boardLength cfg))) (omega arith)
-
-  -- a row that is not yet filled is clear
-  pub row-clear : (i : ℕ) (now : List ℕ) → i < cfg .k → length now ≡ boardLength cfg
-      → now ≡ filled (each (cfg .k) (cfg .e) servers elements) (i * cfg .e) (zeros (boardLength cfg)) → part (cfg .e) now i ≡ zeros (cfg .e)
-  unfolding zeros
-  row-clear i now h ln hn =
-      ext-getD 0 (part (cfg .e) now i) (zeros (cfg .e)) (size ∙ sym (length-listOf (cfg .e) (λ j. 0)))
-      (λ j l. at j (omega (arith, size)))
-    where
-      size : length (part (cfg .e) now i) ≡ cfg .e
-      size = part-length (cfg .k) (cfg .e) i now h (omega arith)
-
-      at : (j : ℕ) → j < cfg .e → getD (part (cfg .e) now i) j 0 ≡ getD (zeros (cfg .e)) j 0
-      at j l =
-          let inside : i * cfg .e + j < boardLength cfg = omega (arith, row-inside (cfg .k) (cfg .e) i h) in
-          part-at (cfg .e) i j now l
-          ∙ ap (λ k. getD k (i * cfg .e + j) 0) hn
-          ∙ filled-rest (each (cfg .k) (cfg .e) servers elements) (i * cfg .e) (i * cfg .e + j) (zeros (boardLength cfg)) 0
-          (omega arith) (rw length-listOf inside)
-          ∙ getD-listOf (boardLength cfg) (λ m. 0) (i * cfg .e + j) 0 inside
-          ∙ sym (getD-listOf (cfg .e) (λ m. 0) j 0 l)
-
-  pub rows-more : (i m : ℕ) (rows : List (List ℕ)) (before now row : List ℕ) → cfg .k ≤ length servers → Inverse (cfg .k) servers rows
-      → i < cfg .k → length before ≡ boardLength cfg → m ≡ cfg .e
-      → now ≡ filled (each (cfg .k) (cfg .e) servers elements) (i * cfg .e) before
-      → row ≡ combined (cfg .k) (cfg .e) (getD rows i []) elements
-      → take (i * cfg .e) now ++ (row ++ drop m (drop (i * cfg .e) now)) ≡ filled (each (cfg .k) (cfg .e) servers elements) ((i + 1) * cfg .e) before
-  rows-more i m rows before now row enough v h lb me hn hr =
-      turn-part (each (cfg .k) (cfg .e) servers elements) (i * cfg .e) (cfg .e) m before now row hn
-      (omega (arith, row-inside (cfg .k) (cfg .e) i h)) me
-      (hr ∙ combined-decoded cfg servers elements rows enough v i h ∙ row-each i)
-      ∙ ap (λ n. filled (each (cfg .k) (cfg .e) servers elements) n before) (omega arith)
-
-  pub rows-length : (i : ℕ) (before : List ℕ) → i < cfg .k → length before ≡ boardLength cfg
-      → length (filled (each (cfg .k) (cfg .e) servers elements) ((i + 1) * cfg .e) before) ≡ length before
-  rows-length i before h lb =
-      length-filled (each (cfg .k) (cfg .e) servers elements) ((i + 1) * cfg .e) before (omega (arith, row-inside (cfg .k) (cfg .e) i h))
-
-  pub rows-all : (i : ℕ) (before now : List ℕ) → i ≡ cfg .k → length before ≡ boardLength cfg
-      → now ≡ filled (each (cfg .k) (cfg .e) servers elements) (i * cfg .e) before → now ≡ decoded cfg servers elements
-  unfolding decoded
-  rows-all i before now h lb hn =
-      hn ∙ ap (λ n. filled (each (cfg .k) (cfg .e) servers elements) (n * cfg .e) before) h
-      ∙ filled-all (each (cfg .k) (cfg .e) servers elements) (boardLength cfg) before (omega arith)
-
-pub zeros-length : (m : ℕ) → length (zeros m) ≡ m
-unfolding zeros
-zeros-length m = length-listOf m (λ j. 0)
+-- a table of zeros is ready
+pub ready-clear : Ready (replicate 1024 0)
+ready-clear =
+    record {
+      size = length-replicate {A = ℕ} 1024 0;
+      clear = λ d j hd hj. getD-replicate {A = ℕ} 1024 (place d 0 j) 0 0 (omega arith);
+    }

@@ -23,5 +23,8 @@ pub mod Ring
 pub mod Rising
 pub mod Roots
 pub mod Single
+pub mod Spreading
 pub mod Sums
+pub mod Tabled
 pub mod Value
+pub mod Written

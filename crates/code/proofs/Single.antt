@@ -1,16 +1,16 @@
 -- Where k is 1, an element is the board.
-use Prim.Native.Nat.{ℕ, zero, suc, _+_, _*_, _-_, _<_, _≤_}
-use mathlib.Core.Path.{_≡_, refl, sym, ap, ap₂, _∙_}
+use Prim.Native.Nat.{ℕ, _+_, _*_, _-_, _≤_}
+use mathlib.Core.Path.{_≡_, refl, sym, ap, _∙_}
 use mathlib.Core.Bool.{true}
-use mathlib.Core.List.{List, _++_}
+use mathlib.Core.List.{List, [], _∷_, _++_}
 use native.Mathlib.Omega.{arith}
 use native.Mathlib.Nat.{mul-le-mul-right, one-mul, zero-mul}
 use lib.Bits.{xor-zero-l}
-use lib.ListN.{length, getD, take, drop, length-take}
+use lib.ListN.{length, getD, set, take, drop, length-take}
 use lib.Seq.{ext-getD, length-take-le}
 use Rattle.config.specs.declared.Config.{Config}
 use Rattle.config.specs.Config.{boardLength, Valid}
-use Rattle.field.specs.Field.{plus, times, power}
+use Rattle.field.specs.Field.{times, power}
 use Rattle.field.proofs.Laws.{times-one}
 use Rattle.code.specs.Lists.{Bytes}
 use Rattle.code.specs.Polynomial.{sum}
@@ -43,6 +43,19 @@ pub copied-board : (cfg : Config) (board buffer : List ℕ) (s n : ℕ) → Enco
     → n ≡ length board → take n board ++ drop n buffer ≡ element cfg board s
 copied-board cfg board buffer s n h one b ln =
     copied board buffer n ln (same-size cfg (length board) s (length buffer) h one)
+    ∙ sym (element-one cfg board s one (sym (same-size cfg (length board) s (length buffer) h one) ∙ h .buffer-length) b)
+
+one-byte : (board buffer : List ℕ) → length board ≡ 1 → length buffer ≡ length board → set buffer 0 (getD board 0 0) ≡ board
+one-byte [] buffer h l = absurd (omega arith)
+one-byte (b ∷ []) [] h l = absurd (omega arith)
+one-byte (b ∷ []) (a ∷ []) h l = refl
+one-byte (b ∷ []) (a ∷ c ∷ buffer) h l = absurd (omega arith)
+one-byte (b ∷ c ∷ board) buffer h l = absurd (omega arith)
+
+pub copied-byte : (cfg : Config) (board buffer : List ℕ) (s : ℕ) → Encodable cfg (length board) s (length buffer) → cfg .k ≡ 1 → Bytes board
+    → length board ≡ 1 → set buffer 0 (getD board 0 0) ≡ element cfg board s
+copied-byte cfg board buffer s h one b l =
+    one-byte board buffer l (same-size cfg (length board) s (length buffer) h one)
     ∙ sym (element-one cfg board s one (sym (same-size cfg (length board) s (length buffer) h one) ∙ h .buffer-length) b)
 
 module _ (cfg : Config) (servers elements buffer : List ℕ) (d : Decodable cfg servers (length elements) (length buffer)) (one : cfg .k ≡ 1) where

@@ -7,3 +7,4 @@ pub mod Lists
 pub mod Multiples
 pub mod Polynomial
 pub mod Row
+pub mod Table

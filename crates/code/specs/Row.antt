@@ -1,12 +1,9 @@
 -- Rows of bytes.
-use Prim.Native.Nat.{ℕ, _+_, _*_, _≤_}
+use Prim.Native.Nat.{ℕ}
 use mathlib.Core.List.{List}
-use mathlib.Core.Path.{_≡_}
 use lib.ListN.{length, getD}
 use Rattle.field.specs.Field.{plus, times}
-use Rattle.code.specs.Element.{bytes}
 use Rattle.code.specs.Lists.{listOf}
-use Rattle.code.specs.Polynomial.{sum}
 
 -- one step of Horner's rule: s times the row, plus another
 unfoldable pub stepped : List ℕ → ℕ → List ℕ → List ℕ
@@ -19,14 +16,3 @@ added row c x = listOf (length row) (λ j. plus (getD row j 0) (times c (getD x 
 -- a row of zeros
 unfoldable pub zeros : ℕ → List ℕ
 zeros e = listOf e (λ j. 0)
-
--- the sum over the first k elements of coefficient times element
-unfoldable pub combined : ℕ → ℕ → List ℕ → List ℕ → List ℕ
-combined k e c elements = listOf e (λ j. sum bytes k (λ r. times (getD c r 0) (getD elements (r * e + j) 0)))
-
--- there are k elements of e bytes, and a row of zeros
-pub record Combinable (k e elements : ℕ) (row : List ℕ) : Type 0 where
-  pub k-high : k ≤ 16
-  pub e-high : e ≤ 64
-  pub enough : k * e ≤ elements
-  pub clear : row ≡ zeros e

@@ -3,7 +3,7 @@ ghost use mathlib.Core.Path.{_≡_};
 ghost use lib.ListN.{length};
 ghost use Rattle.code.specs.Decoded.{decoded};
 ghost use Rattle.code.specs.Decode.{Decodable};
-ghost use Rattle.code.specs.Row.{Combinable, combined};
+ghost use Rattle.code.specs.Table.{Spread, Spreadable};
 use config::Config;
 
 // Of one server, the board is its element.
@@ -26,24 +26,34 @@ fn interpolate(cfg: Config, servers: &[u8], elements: &[u8], buffer: &mut [u8])
     let k = cfg.k;
     let e = cfg.e;
     let inverse = crate::inverse::invert(k, servers);
+    let mut table = [0u8; 1024];
     crate::row::clear(buffer);
-    let mut i = 0;
-    while i < k {
-        let at = i * e;
-        combine(k, e, inverse[i], elements, &mut buffer[at..at + e]);
-        i += 1;
-    }
-}
-
-// A row: the sum over the first k elements of coefficient times element.
-fn combine(k: usize, e: usize, c: [u8; 16], elements: &[u8], row: &mut [u8])
-    requires { ⌜ Combinable k e (length (now elements)) (now row) ⌝ }
-    ensures { λ _. ⌜ now (row .exit) ≡ combined k e c (now (elements .entry)) ⌝ }
-{
     let mut r = 0;
     while r < k {
         let at = r * e;
-        crate::row::add(row, c[r], &elements[at..at + e]);
+        spread(k, r, &inverse, &elements[at..at + e], &mut table, buffer);
         r += 1;
+    }
+}
+
+// adds to each row its coefficient times the element of server r
+fn spread(
+    k: usize,
+    r: usize,
+    inverse: &[[u8; 16]; 16],
+    x: &[u8],
+    table: &mut [u8],
+    board: &mut [u8],
+)
+    requires { ⌜ Spreadable k r (now x) (now table) (now board) ⌝ }
+    ensures { λ _. ⌜ Spread (now (inverse .entry)) r (now (x .entry)) (now (board .entry)) (now (board .exit)) (now (table .exit)) ⌝ }
+{
+    let e = x.len();
+    crate::row::multiply(x, table);
+    let mut i = 0;
+    while i < k {
+        let at = i * e;
+        crate::row::add(&mut board[at..at + e], inverse[i][r], table);
+        i += 1;
     }
 }

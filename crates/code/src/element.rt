@@ -5,12 +5,16 @@ ghost use Rattle.code.specs.Element.{element};
 ghost use Rattle.code.specs.Encode.{Encodable};
 use config::Config;
 
-// Of one row, the element is the board.
+// Of one row, the element is the board; one byte needs no loop.
 pub(crate) fn encode(cfg: Config, board: &[u8], s: u8, buffer: &mut [u8])
     requires { ⌜ Encodable cfg (length (now board)) s (length (now buffer)) ⌝ }
     ensures { λ _. ⌜ now (buffer .exit) ≡ element cfg (now (board .entry)) s ⌝ }
 {
     if cfg.k == 1 {
+        if board.len() == 1 {
+            buffer[0] = board[0];
+            return;
+        }
         bytes::copy(board, buffer);
         return;
     }

@@ -1,31 +1,20 @@
--- `code::board::interpolate` meets its contract: the rows before i are those of the board, the others clear.
-use Prim.Native.Nat.{_+_, _*_, _-_, _≤_}
+-- `code::board::interpolate` meets its contract: the board is what the elements before r make.
+use Prim.Native.Nat.{_-_, _≤_}
 use mathlib.Core.Path.{_≡_, sym, ap, _∙_}
 use native.Mathlib.Omega.{arith}
 use lib.ListN.{length}
-use Rattle.config.specs.Config.{boardLength}
 use Rattle.code.specs.Row.{zeros}
-use Rattle.code.proofs.Filled.{filled}
-use Rattle.code.proofs.Interpolated.{
-  each,
-  usable,
-  combinable,
-  row-fits,
-  rows-none,
-  row-clear,
-  rows-more,
-  rows-length,
-  rows-all,
-  zeros-length,
-}
+use Rattle.code.specs.Table.{Ready}
+use Rattle.code.proofs.Combined.{combined, combined-none, combined-length, combined-turn, combined-decoded}
+use Rattle.code.proofs.Interpolated.{usable, element-fits, element-part, spreadable, ready-clear}
 use Rattle.code.proofs.board.interpolate.Statement.{statement}
 use Rattle.code.proofs.board.interpolate.Tie as tie
 
 abbrev Inv-loop : tie.InvT-loop
-Inv-loop servers elements buffer₀ k e inverse i₀ buffer i = (i ≤ k) × (length buffer ≡ k * e) × (buffer ≡ filled (each k e servers elements) (i * e) (zeros (k * e)))
+Inv-loop servers elements buffer₀ k e inverse table₀ r₀ buffer table r = (r ≤ k) × Ready table × (buffer ≡ combined k e inverse elements r)
 
 abbrev μ-loop : tie.MeasureT-loop
-μ-loop servers elements buffer₀ k e inverse i₀ buffer i = k - i
+μ-loop servers elements buffer₀ k e inverse table₀ r₀ buffer table r = k - r
 
 invert-requires : tie.Need-invert-requires Inv-loop μ-loop
 invert-requires c κs =
@@ -37,94 +26,90 @@ clear-requires c κs = tt
 
 loop-holds : tie.Need-loop-holds Inv-loop μ-loop
 loop-holds c =
-    let x = c .before .before .before .before .before .before .before .before .args in
-    let h = c .before .before .before .before .before .before .before .before .pre in (
+    let x = c .before .before .before .before .before .before .before .before .args in (
       omega arith,
-      c .before .before .clear .kept .0 ∙ h .buffer-length,
-      rows-none (x .cfg) (x .servers .now) (x .elements .now) (c .before .before .clear .last .0) (length (x .buffer .now)) (h .buffer-length) (c .before .before .clear .ensures),
+      ready-clear,
+      c .before .before .clear .ensures
+          ∙ ap zeros (c .before .before .before .before .before .before .before .before .pre .buffer-length)
+          ∙ combined-none (x .cfg .k) (x .cfg .e) (c .before .before .before .before .invert .result) (x .elements .now),
     )
 
 mul-at : tie.Need-mul-at Inv-loop μ-loop
 mul-at c =
     let x = c .before .before .before .before .before .before .before .before .before .before .args in
-    let h = c .before .before .before .before .before .before .before .before .before .before .pre in
-    omega (arith, row-fits (x .cfg) (x .servers .now) (length (x .elements .now)) (length (x .buffer .now)) h (c .before .loop .i) (omega arith), usable (x .cfg) (x .servers .now) (length (x .elements .now)) (length (x .buffer .now)) h .high, h .buffer-length)
+    omega (arith, element-fits (x .cfg) (x .servers .now) (length (x .elements .now)) (length (x .buffer .now)) (c .before .before .before .before .before .before .before .before .before .before .pre) (c .before .loop .r) (omega arith))
 
-mul-combine : tie.Need-mul-combine Inv-loop μ-loop
-mul-combine c =
-    let x = c .before .before .before .before .before .before .before .before .before .before .args in
-    let h = c .before .before .before .before .before .before .before .before .before .before .pre in
-    omega (arith, row-fits (x .cfg) (x .servers .now) (length (x .elements .now)) (length (x .buffer .now)) h (c .before .loop .i) (omega arith), usable (x .cfg) (x .servers .now) (length (x .elements .now)) (length (x .buffer .now)) h .high, h .buffer-length)
-
-array-copy-out-combine : tie.Need-array-copy-out-combine Inv-loop μ-loop
-array-copy-out-combine c =
-    let x = c .before .before .before .before .before .before .before .before .before .before .args in
-    let h = c .before .before .before .before .before .before .before .before .before .before .pre in
-    omega (arith, row-fits (x .cfg) (x .servers .now) (length (x .elements .now)) (length (x .buffer .now)) h (c .before .loop .i) (omega arith), usable (x .cfg) (x .servers .now) (length (x .elements .now)) (length (x .buffer .now)) h .high, h .buffer-length)
-
-add-combine : tie.Need-add-combine Inv-loop μ-loop
-add-combine c =
+add-spread : tie.Need-add-spread Inv-loop μ-loop
+add-spread c =
     let x = c .before .before .before .before .before .before .before .before .before .before .before .args in
-    let h = c .before .before .before .before .before .before .before .before .before .before .before .pre in
-    omega (arith, row-fits (x .cfg) (x .servers .now) (length (x .elements .now)) (length (x .buffer .now)) h (c .before .before .loop .i) (omega arith), usable (x .cfg) (x .servers .now) (length (x .elements .now)) (length (x .buffer .now)) h .high, h .buffer-length)
+    omega (arith, element-fits (x .cfg) (x .servers .now) (length (x .elements .now)) (length (x .buffer .now)) (c .before .before .before .before .before .before .before .before .before .before .before .pre) (c .before .before .loop .r) (omega arith))
 
-sub-combine : tie.Need-sub-combine Inv-loop μ-loop
-sub-combine c =
+sub-spread : tie.Need-sub-spread Inv-loop μ-loop
+sub-spread c =
     let x = c .before .before .before .before .before .before .before .before .before .before .before .args in
-    let h = c .before .before .before .before .before .before .before .before .before .before .before .pre in
-    omega (arith, row-fits (x .cfg) (x .servers .now) (length (x .elements .now)) (length (x .buffer .now)) h (c .before .before .loop .i) (omega arith), usable (x .cfg) (x .servers .now) (length (x .elements .now)) (length (x .buffer .now)) h .high, h .buffer-length)
+    omega (arith, element-fits (x .cfg) (x .servers .now) (length (x .elements .now)) (length (x .buffer .now)) (c .before .before .before .before .before .before .before .before .before .before .before .pre) (c .before .before .loop .r) (omega arith))
 
-part-combine-start : tie.Need-part-combine-start Inv-loop μ-loop
-part-combine-start c =
+part-spread-start : tie.Need-part-spread-start Inv-loop μ-loop
+part-spread-start c =
     let x = c .before .before .before .before .before .before .before .before .before .before .before .args in
-    let h = c .before .before .before .before .before .before .before .before .before .before .before .pre in
-    omega (arith, row-fits (x .cfg) (x .servers .now) (length (x .elements .now)) (length (x .buffer .now)) h (c .before .before .loop .i) (omega arith), usable (x .cfg) (x .servers .now) (length (x .elements .now)) (length (x .buffer .now)) h .high, h .buffer-length)
+    omega (arith, element-fits (x .cfg) (x .servers .now) (length (x .elements .now)) (length (x .buffer .now)) (c .before .before .before .before .before .before .before .before .before .before .before .pre) (c .before .before .loop .r) (omega arith))
 
-part-combine-end : tie.Need-part-combine-end Inv-loop μ-loop
-part-combine-end c =
+part-spread-end : tie.Need-part-spread-end Inv-loop μ-loop
+part-spread-end c =
     let x = c .before .before .before .before .before .before .before .before .before .before .before .args in
-    let h = c .before .before .before .before .before .before .before .before .before .before .before .pre in
-    omega (arith, row-fits (x .cfg) (x .servers .now) (length (x .elements .now)) (length (x .buffer .now)) h (c .before .before .loop .i) (omega arith), usable (x .cfg) (x .servers .now) (length (x .elements .now)) (length (x .buffer .now)) h .high, h .buffer-length)
+    omega (arith, element-fits (x .cfg) (x .servers .now) (length (x .elements .now)) (length (x .buffer .now)) (c .before .before .before .before .before .before .before .before .before .before .before .pre) (c .before .before .loop .r) (omega arith))
 
-combine-requires : tie.Need-combine-requires Inv-loop μ-loop
-combine-requires c κs =
-    let x = c .before .before .before .before .before .before .before .before .before .before .before .before .args in
-    let at = c .before .before .before .loop in
-    combinable (x .cfg) (x .servers .now) (length (x .elements .now)) (length (x .buffer .now)) (c .before .before .before .before .before .before .before .before .before .before .before .before .pre) _ (row-clear (x .cfg) (x .servers .now) (x .elements .now) (at .i) (at .buffer) (omega arith) (at .inv .1) (at .inv .2))
+slice-aggregate-spread : tie.Need-slice-aggregate-spread Inv-loop μ-loop
+slice-aggregate-spread c = sym (c .before .before .before .before .loop .inv .1 .size)
 
-add-i : tie.Need-add-i Inv-loop μ-loop
-add-i c =
-    let x = c .before .before .before .before .before .before .before .before .before .before .before .before .before .before .before .args in
-    let h = c .before .before .before .before .before .before .before .before .before .before .before .before .before .before .before .pre in
-    omega (arith, row-fits (x .cfg) (x .servers .now) (length (x .elements .now)) (length (x .buffer .now)) h (c .before .before .before .before .before .before .loop .i) (omega arith), usable (x .cfg) (x .servers .now) (length (x .elements .now)) (length (x .buffer .now)) h .high, h .buffer-length)
+spread-requires : tie.Need-spread-requires Inv-loop μ-loop
+spread-requires c κs =
+    let x = c .before .before .before .before .before .before .before .before .before .before .before .before .before .before .args in
+    let at = c .before .before .before .before .before .loop in
+    spreadable (x .cfg) (x .servers .now) (x .elements .now) (at .table) (at .buffer) (length (x .buffer .now)) (c .before .before .before .before .before .before .before .before .before .before .before .before .before .before .pre) (at .inv .1)
+    (ap length (at .inv .2) ∙ combined-length (x .cfg .k) (x .cfg .e) (c .before .before .before .before .before .before .before .before .before .before .invert .result) (x .elements .now) (at .r))
+    (at .r) (omega arith)
+
+add-r : tie.Need-add-r Inv-loop μ-loop
+add-r c =
+    let x = c .before .before .before .before .before .before .before .before .before .before .before .before .before .before .before .before .before .before .args in
+    omega (arith, element-fits (x .cfg) (x .servers .now) (length (x .elements .now)) (length (x .buffer .now)) (c .before .before .before .before .before .before .before .before .before .before .before .before .before .before .before .before .before .before .pre) (c .before .before .before .before .before .before .before .before .before .loop .r) (omega arith))
 
 loop-less : tie.Need-loop-less Inv-loop μ-loop
 loop-less c = omega arith
 
 loop-again : tie.Need-loop-again Inv-loop μ-loop
 loop-again c =
-    let x = c .before .before .before .before .before .before .before .before .before .before .before .before .before .before .before .args in
-    let h = c .before .before .before .before .before .before .before .before .before .before .before .before .before .before .before .pre in
-    let at = c .before .before .before .before .before .before .loop in
-    let turned =
-    rows-more (x .cfg) (x .servers .now) (x .elements .now) (at .i) (at .i * x .cfg .e + x .cfg .e - at .i * x .cfg .e) (c .before .before .before .before .before .before .before .before .before .before .before .invert .result)
-    (zeros (boardLength (x .cfg))) (at .buffer) _ (h .enough) (c .before .before .before .before .before .before .before .before .before .before .before .invert .ensures) (omega arith) (zeros-length (boardLength (x .cfg)))
-    (omega arith) (at .inv .2) (c .before .before .combine .ensures) in (
+    let x = c .before .before .before .before .before .before .before .before .before .before .before .before .before .before .before .before .before .before .args in
+    let h = c .before .before .before .before .before .before .before .before .before .before .before .before .before .before .before .before .before .before .pre in
+    let at = c .before .before .before .before .before .before .before .before .before .loop in
+    let rows = c .before .before .before .before .before .before .before .before .before .before .before .before .before .before .invert .result in
+    let s = c .before .before .before .spread .ensures in (
       omega arith,
-      ap length turned
-          ∙ rows-length (x .cfg) (x .servers .now) (x .elements .now) (at .i) (zeros (boardLength (x .cfg))) (omega arith) (zeros-length (boardLength (x .cfg)))
-          ∙ zeros-length (boardLength (x .cfg)),
-      turned,
+      s .ready,
+      combined-turn (x .cfg .k) (x .cfg .e) rows (x .elements .now) (at .r) (at .buffer) _ (h .valid .e-low)
+          (element-part (x .cfg) (x .servers .now) (x .elements .now) (length (x .buffer .now)) h (at .r) (omega arith))
+          (at .inv .2)
+          (s .board),
     )
 
 same-length : tie.Need-same-length Inv-loop μ-loop
-same-length c = c .before .loop .inv .1 ∙ sym (c .before .before .before .before .before .before .before .before .before .before .pre .buffer-length)
+same-length c =
+    let x = c .before .before .before .before .before .before .before .before .before .before .args in
+    let at = c .before .loop in
+    ap length (at .inv .2)
+    ∙ combined-length (x .cfg .k) (x .cfg .e) (c .before .before .before .before .before .before .invert .result) (x .elements .now) (at .r)
+    ∙ sym (c .before .before .before .before .before .before .before .before .before .before .pre .buffer-length)
 
 returns : tie.Need-returns Inv-loop μ-loop
 returns c =
     let x = c .before .before .before .before .before .before .before .before .before .before .args in
+    let h = c .before .before .before .before .before .before .before .before .before .before .pre in
     let at = c .before .loop in
-    rows-all (x .cfg) (x .servers .now) (x .elements .now) (at .i) (zeros (boardLength (x .cfg))) (at .buffer) (omega arith) (zeros-length (boardLength (x .cfg))) (at .inv .2)
+    let last : at .r ≡ x .cfg .k = omega arith in
+    at .inv .2
+    ∙ ap (combined (x .cfg .k) (x .cfg .e) (c .before .before .before .before .before .before .invert .result) (x .elements .now)) last
+    ∙ combined-decoded (x .cfg) (x .servers .now) (x .elements .now) (c .before .before .before .before .before .before .invert .result) (h .valid .e-low) (h .enough) (c .before .before .before .before .before .before .invert .ensures)
 
 pub interpolate-spec : {M : Type 1} → statement M
 interpolate-spec =
@@ -136,14 +121,13 @@ interpolate-spec =
     clear-requires
     loop-holds
     mul-at
-    mul-combine
-    array-copy-out-combine
-    add-combine
-    sub-combine
-    part-combine-start
-    part-combine-end
-    combine-requires
-    add-i
+    add-spread
+    sub-spread
+    part-spread-start
+    part-spread-end
+    slice-aggregate-spread
+    spread-requires
+    add-r
     loop-less
     loop-again
     same-length

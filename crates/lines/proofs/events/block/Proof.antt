@@ -1,0 +1,212 @@
+-- `lines::events::block` is safe and ends: each turn uses a record. Assumes nothing.
+use Prim.Native.Nat.{ℕ, _+_, _-_, _*_, _≤_}
+use mathlib.Core.Path.{_≡_}
+use lib.ListN.{length}
+use native.Mathlib.Omega.{arith}
+use borrow.Author.Needs.{needs}
+use Rattle.lines.proofs.events.block.Statement.{statement}
+use Rattle.lines.proofs.events.block.Tie as tie
+
+-- the lengths, and where reading and writing stand
+record Inv (end size room long v most read output at used : ℕ) : Type 0 where
+  reads : read ≡ v
+  writes : output ≡ most
+  sizes : size ≡ v + 4
+  rooms : room + (84 + 2 * v) ≡ most
+  before : at ≤ end
+  within : end ≤ long
+  used-within : used ≤ most
+
+abbrev Inv-loop : tie.InvT-loop
+Inv-loop cfg m run read₀ input output₀ messages₀ stores₀ boards₀ elements₀ size room rig₀ count₀ at₀ used₀ read output messages stores boards elements rig count at used =
+    Inv (run .end) size room (length input) (length read₀) (length output₀) (length read) (length output) at used
+    × (length messages ≡ length messages₀)
+    × (length stores ≡ length stores₀)
+    × (length boards ≡ length boards₀)
+    × (length elements ≡ length elements₀)
+
+abbrev μ-loop : tie.MeasureT-loop
+μ-loop cfg m run read₀ input output₀ messages₀ stores₀ boards₀ elements₀ size room rig₀ count₀ at₀ used₀ read output messages stores boards elements rig count at used = run .end - at
+
+add-size : tie.Need-add-size Inv-loop μ-loop
+add-size c = search needs
+
+mul-room : tie.Need-mul-room Inv-loop μ-loop
+mul-room c = search needs
+
+add-room : tie.Need-add-room Inv-loop μ-loop
+add-room c = search needs
+
+sub-room : tie.Need-sub-room Inv-loop μ-loop
+sub-room c = search needs
+
+loop-holds : tie.Need-loop-holds Inv-loop μ-loop
+loop-holds c = search needs
+
+sub-if1 : tie.Need-sub-if1 Inv-loop μ-loop
+sub-if1 c = search needs
+
+add-next : tie.Need-add-next Inv-loop μ-loop
+add-next c = search needs
+
+add-bytes : tie.Need-add-bytes Inv-loop μ-loop
+add-bytes c = search needs
+
+add-little : tie.Need-add-little Inv-loop μ-loop
+add-little c = search needs
+
+shared-slice-read-little : tie.Need-shared-slice-read-little Inv-loop μ-loop
+shared-slice-read-little c = search needs
+
+add-little-2 : tie.Need-add-little-2 Inv-loop μ-loop
+add-little-2 c = search needs
+
+shared-slice-read-little-2 : tie.Need-shared-slice-read-little-2 Inv-loop μ-loop
+shared-slice-read-little-2 c = search needs
+
+little-requires : tie.Need-little-requires Inv-loop μ-loop
+little-requires c κs = search needs
+
+shared-slice-read-event : tie.Need-shared-slice-read-event Inv-loop μ-loop
+shared-slice-read-event c = search needs
+
+add-event : tie.Need-add-event Inv-loop μ-loop
+add-event c = search needs
+
+shared-slice-read-event-2 : tie.Need-shared-slice-read-event-2 Inv-loop μ-loop
+shared-slice-read-event-2 c = search needs
+
+sub-event : tie.Need-sub-event Inv-loop μ-loop
+sub-event c = search needs
+
+part-event-start : tie.Need-part-event-start Inv-loop μ-loop
+part-event-start c = search needs
+
+part-event-end : tie.Need-part-event-end Inv-loop μ-loop
+part-event-end c = search needs
+
+event-requires : tie.Need-event-requires Inv-loop μ-loop
+event-requires c κs = search needs
+
+line-requires : tie.Need-line-requires Inv-loop μ-loop
+line-requires c κs =
+    let l = c .before .before .before .before .before .before .before .before .before .before .before .before .before .before .before .before .before .before .before .before .before .before .before .before .before .before .before .before .loop in
+    let e = c .before .before .before .before .before .before .before .before .before .before .before .before .before .event in
+    omega (arith, l .inv .0 .reads, l .inv .0 .writes, l .inv .0 .rooms, e .kept .1 .1 .1 .1 .1 .1 .1 .0, c .before .before .before .before .before .before .before .before .before .before .before .before .before .before .before .before .before .before .before .before .before .before .before .before .before .if2 .left)
+
+wrapping-add-u64-requires : tie.Need-wrapping-add-u64-requires Inv-loop μ-loop
+wrapping-add-u64-requires c κs = search needs
+
+loop-less : tie.Need-loop-less Inv-loop μ-loop
+loop-less c =
+    let i = c .before .before .before .before .before .before .before .before .before .before .before .before .before .before .before .before .before .before .before .before .before .before .before .before .before .before .before .before .before .before .before .before .loop .inv .0 in
+    omega (arith, i .sizes, i .before, c .before .before .before .before .before .before .before .before .before .before .before .before .before .before .before .before .before .before .before .before .before .before .before .before .before .before .before .before .before .before .if1 .taken)
+
+loop-again : tie.Need-loop-again Inv-loop μ-loop
+loop-again c =
+    let i = c .before .before .before .before .before .before .before .before .before .before .before .before .before .before .before .before .before .before .before .before .before .before .before .before .before .before .before .before .before .before .before .before .loop .inv in
+    let more = c .before .before .before .before .before .before .before .before .before .before .before .before .before .before .before .before .before .before .before .before .before .before .before .before .before .before .before .before .before .before .if1 .taken in
+    let room = c .before .before .before .before .before .before .before .before .before .before .before .before .before .before .before .before .before .before .before .before .before .before .before .before .before .before .before .before .before .if2 .left in
+    let e = c .before .before .before .before .before .before .before .before .before .before .before .before .before .before .before .before .before .event in
+    let l = c .before .before .before .line in (
+      record {
+        reads = omega (arith, i .0 .reads, e .kept .1 .1 .1 .1 .1 .1 .1 .0);
+        writes = omega (arith, i .0 .writes, l .kept .1 .1 .1 .0);
+        sizes = i .0 .sizes;
+        rooms = i .0 .rooms;
+        before = omega (arith, i .0 .before, i .0 .sizes, more);
+        within = i .0 .within;
+        used-within = omega (arith, i .0 .reads, i .0 .rooms, room, l .ensures .1, e .kept .1 .1 .1 .1 .1 .1 .1 .0);
+      },
+      omega (arith, i .1, e .kept .1 .1 .1 .1 .1 .1 .1 .1 .0),
+      omega (arith, i .2, e .kept .1 .1 .1 .1 .1 .1 .1 .1 .1 .0),
+      omega (arith, i .3, e .kept .1 .1 .1 .1 .1 .1 .1 .1 .1 .1 .0),
+      omega (arith, i .4, e .kept .1 .1 .1 .1 .1 .1 .1 .1 .1 .1 .1 .0),
+    )
+
+same-length : tie.Need-same-length Inv-loop μ-loop
+same-length c = search needs
+
+same-length-2 : tie.Need-same-length-2 Inv-loop μ-loop
+same-length-2 c = search needs
+
+same-length-3 : tie.Need-same-length-3 Inv-loop μ-loop
+same-length-3 c = search needs
+
+same-length-4 : tie.Need-same-length-4 Inv-loop μ-loop
+same-length-4 c = search needs
+
+same-length-5 : tie.Need-same-length-5 Inv-loop μ-loop
+same-length-5 c = search needs
+
+same-length-6 : tie.Need-same-length-6 Inv-loop μ-loop
+same-length-6 c = search needs
+
+returns : tie.Need-returns Inv-loop μ-loop
+returns c = search needs
+
+same-length-7 : tie.Need-same-length-7 Inv-loop μ-loop
+same-length-7 c = search needs
+
+same-length-8 : tie.Need-same-length-8 Inv-loop μ-loop
+same-length-8 c = search needs
+
+same-length-9 : tie.Need-same-length-9 Inv-loop μ-loop
+same-length-9 c = search needs
+
+same-length-10 : tie.Need-same-length-10 Inv-loop μ-loop
+same-length-10 c = search needs
+
+same-length-11 : tie.Need-same-length-11 Inv-loop μ-loop
+same-length-11 c = search needs
+
+same-length-12 : tie.Need-same-length-12 Inv-loop μ-loop
+same-length-12 c = search needs
+
+returns-2 : tie.Need-returns-2 Inv-loop μ-loop
+returns-2 c = search needs
+
+pub block-spec : {M : Type 1} → statement M
+block-spec =
+    tie.close
+    (tie.spec
+    Inv-loop
+    μ-loop
+    add-size
+    mul-room
+    add-room
+    sub-room
+    loop-holds
+    sub-if1
+    add-next
+    add-bytes
+    add-little
+    shared-slice-read-little
+    add-little-2
+    shared-slice-read-little-2
+    little-requires
+    shared-slice-read-event
+    add-event
+    shared-slice-read-event-2
+    sub-event
+    part-event-start
+    part-event-end
+    event-requires
+    line-requires
+    wrapping-add-u64-requires
+    loop-less
+    loop-again
+    same-length
+    same-length-2
+    same-length-3
+    same-length-4
+    same-length-5
+    same-length-6
+    returns
+    same-length-7
+    same-length-8
+    same-length-9
+    same-length-10
+    same-length-11
+    same-length-12
+    returns-2)

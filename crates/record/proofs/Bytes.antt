@@ -1,11 +1,12 @@
 -- Bytes: a number of four, tests for zero, and runs of zeros. Assumes nothing.
 use mathlib.Core.Path.{_≡_, refl, sym, _∙_, ap}
-use mathlib.Core.Bool.{Bool, true, false, _&&_}
+use mathlib.Core.Bool.{Bool, true, false, _&&_, and-assoc, and-true}
 use mathlib.Core.List.{List, [], _∷_, _++_, append-nil}
 use Prim.Native.Nat.{ℕ, zero, suc, _+_, _-_, _≤_, _<_}
 use native.Mathlib.Omega.{arith}
 use native.Mathlib.Numerals.{add-one}
-use borrow.Author.Tests.{eq-eqb, ne-eqb, eqb-true}
+use borrow.Author.Tests.{ne-eqb}
+use lib.Bits.{bitOr, or-add-and, and-le-r}
 use lib.Dec.{eqb}
 use lib.ListN.{length, getD, take, drop, set, replicate, length-append, length-drop, length-replicate, replicate-append-replicate, drop-of-length-le}
 use lib.Seq.{drop-cons, append-snoc, drop-length, set-at}
@@ -13,18 +14,25 @@ use Rattle.config.specs.declared.Config.{Config}
 use Rattle.config.specs.Config.{Valid}
 use Rattle.record.specs.Record.{allZero, elementEnd}
 
--- the test from place i: a byte that is not zero, one that is, the end
-pub zero-hit : (bs : List ℕ) (i : ℕ) → i < length bs → (getD bs i 0 ≡ 0 → ⊥) → allZero (drop i bs) ≡ false
-unfolding allZero
-zero-hit bs i h ne = rw (drop-cons bs i 0 h, ne-eqb (getD bs i 0) 0 ne)
+-- an or is zero exactly if both are
+or-zero : (a b : ℕ) → eqb (bitOr a b) 0 ≡ eqb a 0 && eqb b 0
+or-zero zero b = refl
+or-zero (suc a) b =
+    rw (ne-eqb (suc a) 0 (λ e. omega arith))
+    (ne-eqb (bitOr (suc a) b) 0 (λ e. omega (arith, or-add-and (suc a) b, and-le-r (suc a) b)))
 
-pub zero-miss : (bs : List ℕ) (i : ℕ) → i < length bs → getD bs i 0 ≡ 0 → allZero (drop i bs) ≡ allZero (drop (i + 1) bs)
-unfolding allZero
-zero-miss bs i h e = rw (add-one i, drop-cons bs i 0 h, eq-eqb (getD bs i 0) 0 e)
+-- the test from place i, where the or of the bytes before it is known: one more, the end
+abbrev pub zeroFrom : ℕ → ℕ → List ℕ → Bool
+zeroFrom any i bs = eqb any 0 && allZero (drop i bs)
 
-pub zero-end : (bs : List ℕ) (i : ℕ) → length bs ≤ i → allZero (drop i bs) ≡ true
+pub zero-more : (bs : List ℕ) (any i : ℕ) → i < length bs → zeroFrom any i bs ≡ zeroFrom (bitOr any (getD bs i 0)) (i + 1) bs
 unfolding allZero
-zero-end bs i h = rw (drop-of-length-le bs h)
+zero-more bs any i h =
+    rw (add-one i, drop-cons bs i 0 h, or-zero any (getD bs i 0)) (sym (and-assoc (eqb any 0) (eqb (getD bs i 0) 0) (allZero (drop (suc i) bs))))
+
+pub zero-end : (bs : List ℕ) (any i : ℕ) → length bs ≤ i → zeroFrom any i bs ≡ eqb any 0
+unfolding allZero
+zero-end bs any i h = rw (drop-of-length-le bs h) (and-true (eqb any 0))
 
 -- zeros up to place i, and the rest as it was: at the start, one more, at the end
 abbrev pub zerosTo : List ℕ → ℕ → List ℕ

@@ -60,14 +60,13 @@ pub(crate) fn element_end(cfg: Config, present: bool) -> usize
 pub(crate) fn zero(part: &[u8]) -> bool
     ensures { λ r. ⌜ r ≡ allZero (now (part .entry)) ⌝ }
 {
+    let mut any = 0u8;
     let mut i = 0;
     while i < part.len() {
-        if part[i] != 0 {
-            return false;
-        }
+        any |= part[i];
         i += 1;
     }
-    true
+    any == 0
 }
 
 // Makes each byte 0.

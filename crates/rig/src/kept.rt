@@ -2,7 +2,6 @@
 use super::Rig;
 use super::Seat;
 use config::Config;
-use tag::Tag;
 ghost use mathlib.Core.Option.{some};
 ghost use mathlib.Core.Path.{_≡_};
 ghost use Prim.Native.Nat.{_*_, _<_};
@@ -21,13 +20,7 @@ fn server_kept(cfg: Config, i: usize, x: Seat, store: &[u8]) -> bool
     if me.number() as usize != i + 1 {
         return false;
     }
-    let mut no = 0u8;
-    let tag = Tag {
-        number: 0,
-        client: 0,
-    };
-    server::lend(cfg, state, tag, store, &mut no);
-    no == 0
+    server::ask(cfg, state, store.len()) == 0
 }
 
 // The same of every server.

@@ -18,8 +18,8 @@ use Rattle.config.proofs.Valid.{valid, valid-asked}
 use Rattle.laws.proofs.Bools.{and-left, and-right}
 use Rattle.record.specs.Record.{messageOf, wellFormed}
 use Rattle.server.specs.declared.State.{State}
-use Rattle.server.specs.Calls.{answers, forServer, freshQuestions, lendQuestions, outcome, stepQuestions, storeLength}
-use Rattle.server.specs.Inner.{Held, stateQuestions}
+use Rattle.server.specs.Calls.{answers, forServer, freshQuestions, lendQuestions, outcome, stateQuestions, stepQuestions, storeLength}
+use Rattle.server.specs.Inner.{Held}
 use Rattle.server.specs.Kept.{stateKept}
 
 -- after questions 1 to 5

@@ -14,6 +14,7 @@ pub mod Lists
 pub mod Order
 pub mod Put
 pub mod Received
+pub mod Spots
 pub mod Stepping
 pub mod Tags
 pub mod Views

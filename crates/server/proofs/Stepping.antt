@@ -27,8 +27,8 @@ use Rattle.record.proofs.Clauses.{all-at}
 use Rattle.history.specs.Server.{Served, answerTo, elementOf, finalised, preWrite, query, readAnswer, readFinalise, serverStep, serverStepOf, storeElement, writeFinalise}
 use Rattle.server.specs.declared.State.{State}
 use Rattle.server.specs.declared.Stepped.{Stepped}
-use Rattle.server.specs.Calls.{Steps, answerBytes, answers, outcome, raised, receives, stays, storeLength}
-use Rattle.server.specs.Inner.{Finalised, Finalising, Keeping, Keeps, Replied, Replying, Request, readAnswered, reply, requestNumber, stateQuestions}
+use Rattle.server.specs.Calls.{Steps, answerBytes, answers, outcome, raised, receives, stateQuestions, stays, storeLength}
+use Rattle.server.specs.Inner.{Finalised, Finalising, Keeping, Keeps, Replied, Replying, Request, readAnswered, reply, requestNumber}
 use Rattle.server.specs.Kept.{stateKept}
 use Rattle.server.specs.View.{view}
 use Rattle.server.proofs.Answering.{reply-of-config}

@@ -31,6 +31,10 @@ use Rattle.server.specs.View.{view}
 abbrev pub storeLength : Config → ℕ
 storeLength cfg = (cfg .d + 1) * cfg .e
 
+-- A state: questions 1 to 5; 6, the length of its store, and the state.
+unfoldable pub stateQuestions : Config → State → ℕ → List Question
+stateQuestions cfg s long = questions cfg ++ ask 6 (eqb long (storeLength cfg) && stateKept cfg s) ∷ []
+
 -- Fresh: questions 1 to 5; 6, the lengths of element and store, and the server's number.
 unfoldable pub freshQuestions : Config → ServerNumber → List ℕ → List ℕ → List Question
 freshQuestions cfg me element store =

@@ -1,5 +1,5 @@
 -- What the inner functions of a server take and give.
-use Prim.Native.Nat.{ℕ, suc, _+_, _*_, _≤_}
+use Prim.Native.Nat.{ℕ, suc, _+_, _*_, _%_, _≤_}
 use mathlib.Core.Bool.{Bool, true, cond, _&&_}
 use mathlib.Core.Path.{_≡_}
 use mathlib.Core.List.{List, [], _∷_, _++_}
@@ -8,9 +8,9 @@ use lib.Dec.{eqb, leb}
 use lib.ListN.{length, set, take, drop}
 use Rattle.config.specs.declared.Config.{Config}
 use Rattle.config.specs.declared.Server.{Server as ServerNumber}
-use Rattle.config.specs.Config.{Valid, questions}
+use Rattle.config.specs.Config.{Valid}
 use Rattle.config.specs.Number.{clientNumber, serverNumber}
-use Rattle.config.specs.Questions.{Question, ask, within}
+use Rattle.config.specs.Questions.{within}
 use Rattle.config.specs.Refusal.{verdictNumber}
 use Rattle.tag.specs.declared.Tag.{Tag}
 use Rattle.tag.specs.Tag.{above, allowed, key, same}
@@ -26,12 +26,33 @@ use Rattle.server.specs.declared.State.{State}
 use Rattle.server.specs.declared.Stepped.{Stepped}
 use Rattle.server.specs.declared.places.Least.{Least}
 use Rattle.server.specs.Calls.{Steps, answerBytes, answers, outcome, raised, receives, storeLength}
-use Rattle.server.specs.Kept.{stateKept}
+use Rattle.server.specs.Kept.{every, once, stateKept}
 use Rattle.server.specs.View.{tagsUsed, view}
 
--- questions 1 to 5, and 6 of the state and of its store's length
-unfoldable pub stateQuestions : Config → State → ℕ → List Question
-stateQuestions cfg s long = questions cfg ++ ask 6 (eqb long (storeLength cfg) && stateKept cfg s) ∷ []
+-- the floor's number, or 0
+abbrev pub floorNumber : Option Tag → ℕ
+floorNumber none = 0
+floorNumber (some f) = f .number
+
+-- t is above the floor, if there is one
+abbrev pub overFloor : Option Tag → Tag → Bool
+overFloor none t = true
+overFloor (some f) t = above t f
+
+-- where there is a floor, it is within its limit, and n is D + 1
+abbrev pub floorFull : Config → Option Tag → ℕ → Bool
+floorFull cfg none n = true
+floorFull cfg (some f) n = allowed (cfg .c) f && eqb n (cfg .d + 1)
+
+-- a number below 64
+abbrev pub spotOf : Tag → ℕ
+spotOf t = (t .number * 8 + t .client) % 64
+
+-- what a yes shows of tags; a no shows nothing
+pub record Spread (clients : ℕ) (floor : Option Tag) (ts : List Tag) (r : Bool) : Type 0 where
+  pub limits : r ≡ true → every (allowed clients) ts ≡ true
+  pub over : r ≡ true → every (overFloor floor) ts ≡ true
+  pub differ : r ≡ true → once ts ≡ true
 
 -- the first place of t among tags, or their number
 unfoldable pub placeIn : Tag → List Tag → ℕ

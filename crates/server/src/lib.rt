@@ -13,7 +13,7 @@ use tag::Tag;
 ghost use mathlib.Core.Path.{_≡_};
 ghost use Rattle.config.specs.Config.{Valid};
 ghost use Rattle.config.specs.Questions.{firstNo};
-ghost use Rattle.server.specs.Calls.{FreshPost, LendPost, StepPost};
+ghost use Rattle.server.specs.Calls.{FreshPost, LendPost, StepPost, stateQuestions};
 
 // No floor, or the highest tag that was dropped.
 pub enum Floor {
@@ -35,6 +35,13 @@ pub struct State {
 pub struct Stepped {
     pub verdict: Verdict,
     pub state: State,
+}
+
+// Questions 1 to 5, and 6 of a state and of its store's length: the number of the first that is answered no, or 0.
+pub fn ask(cfg: Config, state: State, long: usize) -> u8
+    ensures { λ r. ⌜ r ≡ firstNo (stateQuestions cfg state long) ⌝ }
+{
+    kept::ask(cfg, state, long)
 }
 
 // A fresh server, with the starting board's element in the store: questions 1 to 5 and 6.

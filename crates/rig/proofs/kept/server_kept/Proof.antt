@@ -4,7 +4,7 @@ use borrow.Author.Tests.{eq-eqb}
 use denote.Ref.{now}
 use lib.Dec.{eqb}
 use lib.ListN.{length}
-use Rattle.server.specs.Calls.{lendQuestions, storeLength}
+use Rattle.server.specs.Calls.{stateQuestions, storeLength}
 use Rattle.server.specs.Kept.{stateKept}
 use Rattle.rig.proofs.Numbered.{other-server, own-server, six-told}
 use borrow.Author.Needs.{needs}
@@ -25,19 +25,19 @@ returns c =
     let a = c .before .before .before .before .before .args in
     other-server (a .cfg) (a .i) (a .x) (λ e. c .if1 .taken (c .before .number .ensures ∙ e))
 
-lend-requires : tie.Need-lend-requires
-lend-requires c κs = search needs
+ask-requires : tie.Need-ask-requires
+ask-requires c κs = search needs
 
 returns-2 : tie.Need-returns-2
-unfolding lendQuestions
+unfolding stateQuestions
 returns-2 c =
-    let s = c .before .before .before .before .before .before .before in
+    let s = c .before .before .before .before .before .before in
     let a = s .args in
     let long = eqb (length (now (a .store))) (storeLength (a .cfg)) in
-    six-told (a .cfg) (s .pre .0) (long && stateKept (a .cfg) (a .x .state)) _ (c .lend .ensures .number)
+    six-told (a .cfg) (s .pre .0) (long && stateKept (a .cfg) (a .x .state)) (c .ask .result) (c .ask .ensures)
     ∙ ap (λ b. b && stateKept (a .cfg) (a .x .state)) (eq-eqb (length (now (a .store))) (storeLength (a .cfg)) (s .pre .2))
-    ∙ own-server (a .cfg) (a .i) (a .x) (sym (c .before .before .before .number .ensures) ∙ c .before .before .if1 .left)
+    ∙ own-server (a .cfg) (a .i) (a .x) (sym (c .before .before .number .ensures) ∙ c .before .if1 .left)
 
 pub server-kept-spec : {M : Type 1} → statement M
 server-kept-spec =
-    tie.close (tie.spec number-requires cast-if1 add-if1 returns lend-requires returns-2)
+    tie.close (tie.spec number-requires cast-if1 add-if1 returns ask-requires returns-2)

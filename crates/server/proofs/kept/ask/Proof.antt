@@ -11,8 +11,7 @@ use Rattle.config.specs.Questions.{ask, firstNo}
 use Rattle.config.proofs.Questions.{firstNo-stop}
 use Rattle.config.proofs.Valid.{valid}
 use Rattle.server.specs.declared.State.{State}
-use Rattle.server.specs.Calls.{storeLength}
-use Rattle.server.specs.Inner.{stateQuestions}
+use Rattle.server.specs.Calls.{stateQuestions, storeLength}
 use Rattle.server.specs.Kept.{stateKept}
 use Rattle.server.proofs.Asked.{six}
 use Rattle.server.proofs.kept.ask.Statement.{statement}

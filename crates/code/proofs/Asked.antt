@@ -1,5 +1,5 @@
 -- Questions 1 to 5 and others after them: which is the first no.
-use Prim.Native.Nat.{ℕ, _≤_}
+use Prim.Native.Nat.{ℕ, _*_, _≤_}
 use mathlib.Core.Path.{_≡_, refl, sym, _∙_}
 use mathlib.Core.Bool.{Bool, true, false, _&&_}
 use mathlib.Core.List.{List, [], _∷_, _++_}
@@ -25,9 +25,13 @@ pub both-yes : (a b : Bool) → a ≡ true → b ≡ true → (a && b) ≡ true
 both-yes true b h l = l
 both-yes false b h l = h
 
--- a valid configuration's board has at most 1,024 bytes
+-- at most 16 rows have at most 1,024 bytes
+pub rows-small : {k e : ℕ} → k ≤ 16 → e ≤ 64 → k * e ≤ 1024
+rows-small h l = omega (arith, mul-le-mul h l)
+
+-- a valid configuration's board is such
 pub board-small : (cfg : Config) → Valid cfg → boardLength cfg ≤ 1024
-board-small cfg v = omega (arith, mul-le-mul (le-trans (v .k-high) (v .n-high)) (v .e-high))
+board-small cfg v = rows-small (le-trans (v .k-high) (v .n-high)) (v .e-high)
 
 -- where 1 to 5 are answered yes, it is the others' answer
 pub passed : (cfg : Config) (rest : List Question) → firstNo (questions cfg) ≡ 0 → firstNo (questions cfg ++ rest) ≡ firstNo rest

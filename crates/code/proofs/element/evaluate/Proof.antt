@@ -60,7 +60,7 @@ step-requires c κs =
     let x = c .before .before .before .before .before .before .args in
     let h = c .before .before .before .before .before .before .pre in
     let at = c .before .before .before .loop in (
-      (h .server-low, omega (arith, h .server-high, h .valid .n-high)),
+      (omega (arith, h .server-low), omega (arith, h .server-high, h .valid .n-high)),
       length-take-le (c .before .before .before .before .before .before .args .cfg .e) (at .row) (omega (arith, c .before .before .before .before .before .before .pre .valid .e-high)) ∙ sym (row-part (x .cfg) (x .board .now) (x .s) (length (x .buffer .now)) h (at .i - 1) (omega arith)),
     )
 

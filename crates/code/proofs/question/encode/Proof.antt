@@ -1,8 +1,10 @@
 -- `code::question::encode` meets its contract: each answer is the first no.
 use mathlib.Core.Path.{sym, _∙_}
+use native.Mathlib.Nat.{lt-of-le-of-lt}
 use native.Mathlib.Omega.{arith}
+use lib.Dec.{lit<}
 use Rattle.config.proofs.Valid.{valid}
-use Rattle.code.proofs.Asked.{board-small}
+use Rattle.code.proofs.Asked.{rows-small}
 use Rattle.code.proofs.Encodable.{refused, wrong-board, wrong-buffer, server-below, server-above, accepted}
 use borrow.Author.Needs.{needs}
 use Rattle.code.proofs.question.encode.Statement.{statement}
@@ -17,7 +19,9 @@ returns c =
     refused (x .cfg) (x .board) (x .s) (x .buffer) (c .before .ask .result) (c .before .ask .ensures) (c .if1 .taken)
 
 mul-if2 : tie.Need-mul-if2
-mul-if2 c = let x = c .before .before .before .args in omega (arith, board-small (x .cfg) (valid (x .cfg) (sym (c .before .before .ask .ensures) ∙ c .before .if1 .left)))
+mul-if2 c =
+    let v = valid (c .before .before .before .args .cfg) (sym (c .before .before .ask .ensures) ∙ c .before .if1 .left) in
+    record { fits = lt-of-le-of-lt (rows-small (omega (arith, v .k-high, v .n-high)) (omega (arith, v .e-high))) (lit< tt) }
 
 returns-2 : tie.Need-returns-2
 returns-2 c =

@@ -27,7 +27,7 @@ returns : tie.Need-returns Inv-loop μ-loop
 returns c =
     let at = c .before .before .before .loop in
     let a = c .before .before .before .before .args in
-    sym (scan-low (a .n) (at .low) (a .servers .now) (at .r) (omega arith) (c .if1 .taken)) ∙ at .inv .1
+    sym (scan-low (a .n) (at .low) (a .servers .now) (at .r) (omega arith) (omega arith)) ∙ at .inv .1
 
 returns-2 : tie.Need-returns-2 Inv-loop μ-loop
 returns-2 c =

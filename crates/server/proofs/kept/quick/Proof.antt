@@ -4,7 +4,7 @@ use mathlib.Core.Bool.{Bool, true, false, _&&_, true≢false}
 use mathlib.Core.List.{List}
 use mathlib.Core.Option.{Option, none, some}
 use Prim.Native.Nat.{ℕ, _+_, _≤_}
-use borrow.Author.Tests.{le-leb, not-true, not-false}
+use borrow.Author.Tests.{le-leb, not-false}
 use lib.Dec.{eqb}
 use lib.ListN.{length}
 use Rattle.config.specs.declared.Config.{Config}

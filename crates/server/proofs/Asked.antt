@@ -28,6 +28,21 @@ pub six : (cfg : Config) (holds : Bool) (rest : List Question) → firstNo (ques
 unfolding firstNo
 six cfg holds rest passed = firstNo-pass (questions cfg) (ask 6 holds ∷ rest) (questions-numbered cfg) passed
 
+-- the questions of a state, by what stops them
+module _ (cfg : Config) (s : State) (long : ℕ) where
+  pub stopped : (first : ℕ) → first ≡ firstNo (questions cfg) → (first ≡ 0 → ⊥) → first ≡ firstNo (stateQuestions cfg s long)
+  unfolding stateQuestions
+  stopped first e refuses = e ∙ sym (firstNo-stop (questions cfg) (ask 6 (eqb long (storeLength cfg) && stateKept cfg s) ∷ []) (λ z. refuses (e ∙ z)))
+
+  module _ (passed : firstNo (questions cfg) ≡ 0) where
+    pub no-length : (long ≡ storeLength cfg → ⊥) → 6 ≡ firstNo (stateQuestions cfg s long)
+    unfolding stateQuestions
+    no-length h = sym (six cfg (eqb long (storeLength cfg) && stateKept cfg s) [] passed ∙ rw (ne-eqb long (storeLength cfg) h))
+
+    pub by-state : (b : Bool) → long ≡ storeLength cfg → stateKept cfg s ≡ b → firstNo (ask 6 b ∷ []) ≡ firstNo (stateQuestions cfg s long)
+    unfolding stateQuestions firstNo
+    by-state b e h = sym (six cfg (eqb long (storeLength cfg) && stateKept cfg s) [] passed ∙ rw (eq-eqb long (storeLength cfg) e, h))
+
 -- questions 1 to 6 of the state are answered yes
 pub state-held : (cfg : Config) (s : State) (store : List ℕ) → firstNo (stateQuestions cfg s (length store)) ≡ 0 → Held cfg s store
 unfolding stateQuestions

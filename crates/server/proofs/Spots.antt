@@ -1,9 +1,9 @@
 -- Tags that leave a bit each in a number, by their spots: where the bits differ, so do the tags. Assumes nothing.
 use mathlib.Core.Path.{_≡_, refl, sym, _∙_, ap, subst}
-use mathlib.Core.Bool.{Bool, true, false, cond, _&&_, _||_, true≢false}
+use mathlib.Core.Bool.{Bool, true, false, _&&_}
 use mathlib.Core.List.{List, [], _∷_}
 use mathlib.Core.Option.{Option, none, some}
-use Prim.Native.Nat.{ℕ, zero, suc, _+_, _-_, _*_, _/_, _%_, _^_, _≤_, _<_, max}
+use Prim.Native.Nat.{ℕ, zero, suc, _+_, _-_, _*_, _/_, _%_, _^_, _<_, max}
 use native.Mathlib.Nat.{mod-lt, zero-lt-suc, div-one, one-mul, sub-zero}
 use native.Mathlib.Numerals.{one-add}
 use native.Mathlib.Omega.{arith}
@@ -14,7 +14,7 @@ use lib.Pow.{shl-shr, shr-shr}
 use Rattle.laws.proofs.Bools.{and-left, and-right}
 use Rattle.laws.proofs.Xor.{by-digit}
 use Rattle.tag.specs.declared.Tag.{Tag}
-use Rattle.tag.specs.Tag.{above, allowed, same}
+use Rattle.tag.specs.Tag.{allowed, same}
 use Rattle.tag.proofs.Order.{same-one}
 use Rattle.server.specs.Inner.{Spread, floorNumber, overFloor, spotOf}
 use Rattle.server.specs.Kept.{among, every, once}

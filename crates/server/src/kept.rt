@@ -5,7 +5,7 @@ use crate::places;
 use config::Config;
 use config::Server;
 use tag::Tag;
-ghost use mathlib.Core.Bool.{_&&_};
+ghost use mathlib.Core.Bool.{true, _&&_};
 ghost use mathlib.Core.Path.{_≡_};
 ghost use Prim.Native.Nat.{ℕ, _≤_};
 ghost use Rattle.config.specs.Config.{Valid};
@@ -183,10 +183,10 @@ fn spread(clients: usize, floor: Floor, count: usize, tags: [Tag; 8]) -> bool
     true
 }
 
-// The state's part of question 6.
-fn state_kept(cfg: Config, s: State) -> bool
+// A yes shows that the state's part of question 6 is answered yes. A no shows nothing.
+pub(crate) fn quick(cfg: Config, s: State) -> bool
     requires { ⌜ Valid cfg ⌝ }
-    ensures { λ r. ⌜ r ≡ stateKept cfg s ⌝ }
+    ensures { λ r. ⌜ (r ≡ true → stateKept cfg s ≡ true) ⌝ }
 {
     let me = s.me;
     if !server_within(cfg, me) {
@@ -202,15 +202,37 @@ fn state_kept(cfg: Config, s: State) -> bool
     }
     let floor = s.floor;
     let tags = s.tags;
-    if spread(cfg.c, floor, count, tags) {
-        return floor_full(cfg, floor, count);
+    if !spread(cfg.c, floor, count, tags) {
+        return false;
     }
+    floor_full(cfg, floor, count)
+}
+
+// The state's part of question 6.
+pub(crate) fn state_kept(cfg: Config, s: State) -> bool
+    requires { ⌜ Valid cfg ⌝ }
+    ensures { λ r. ⌜ r ≡ stateKept cfg s ⌝ }
+{
+    let me = s.me;
+    if !server_within(cfg, me) {
+        return false;
+    }
+    let highest = s.highest;
+    if !highest.allowed(cfg.c) {
+        return false;
+    }
+    let count = s.count;
+    if cfg.d + 1 < count {
+        return false;
+    }
+    let tags = s.tags;
     if !each_allowed(cfg.c, count, tags) {
         return false;
     }
     if !once(count, tags) {
         return false;
     }
+    let floor = s.floor;
     floor_kept(cfg, floor, count, tags)
 }
 
@@ -224,6 +246,9 @@ pub(crate) fn ask(cfg: Config, s: State, long: usize) -> u8
     }
     if long != store_length(cfg) {
         return 6;
+    }
+    if quick(cfg, s) {
+        return 0;
     }
     if !state_kept(cfg, s) {
         return 6;

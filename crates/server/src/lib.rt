@@ -41,7 +41,20 @@ pub struct Stepped {
 pub fn ask(cfg: Config, state: State, long: usize) -> u8
     ensures { λ r. ⌜ r ≡ firstNo (stateQuestions cfg state long) ⌝ }
 {
-    kept::ask(cfg, state, long)
+    let no = cfg.ask();
+    if no != 0 {
+        return no;
+    }
+    if long != kept::store_length(cfg) {
+        return 6;
+    }
+    if kept::quick(cfg, state) {
+        return 0;
+    }
+    if !kept::state_kept(cfg, state) {
+        return 6;
+    }
+    0
 }
 
 // A fresh server, with the starting board's element in the store: questions 1 to 5 and 6.

@@ -1,5 +1,5 @@
 use borrow.Author.Needs.{needs}
-use mathlib.Core.Path.{_≡_, sym, _∙_}
+use mathlib.Core.Path.{sym, _∙_}
 use borrow.Author.Tests.{not-true, not-false}
 use Rattle.server.proofs.kept.floor_full.Statement.{statement}
 use Rattle.server.proofs.kept.floor_full.Tie as tie

@@ -1,5 +1,5 @@
 use borrow.Author.Needs.{needs}
-use mathlib.Core.Path.{_≡_, sym, _∙_, ap}
+use mathlib.Core.Path.{sym, _∙_, ap}
 use Rattle.server.specs.declared.Floor.{Floor}
 use Rattle.server.specs.Inner.{overFloor}
 use Rattle.server.specs.View.{floorOf}

@@ -4,13 +4,13 @@ use mathlib.Core.Bool.{true, false, true≢false}
 use Prim.Native.Nat.{ℕ, _+_, _-_, _*_, _%_, _^_, _≤_, _<_}
 use native.Mathlib.Nat.{mod-lt, one-mul, zero-lt-suc}
 use native.Mathlib.Omega.{arith}
-use borrow.Author.Tests.{not-true, not-false}
+use borrow.Author.Tests.{not-false}
 use lib.Bits.{bitOr}
 use lib.Dec.{lit<}
 use lib.Pow.{shl-exact}
 use Rattle.tag.specs.declared.Tag.{Tag}
 use Rattle.server.specs.Inner.{spotOf}
-use Rattle.server.specs.View.{each, floorOf, tagAt}
+use Rattle.server.specs.View.{floorOf, tagAt}
 use Rattle.server.proofs.Spots.{Seen, seen-all, seen-none, seen-one}
 use Rattle.server.proofs.kept.spread.Statement.{statement}
 use Rattle.server.proofs.kept.spread.Tie as tie

@@ -1,33 +1,23 @@
 use borrow.Author.Needs.{needs}
 use mathlib.Core.Path.{_≡_, refl, sym, _∙_, ap}
-use mathlib.Core.Bool.{Bool, true, false, _&&_}
-use mathlib.Core.List.{List}
-use mathlib.Core.Option.{Option, none, some}
+use mathlib.Core.Bool.{Bool, true, false}
 use Prim.Native.Nat.{ℕ, _+_, _≤_, _<_}
 use native.Mathlib.Omega.{arith}
 use borrow.Author.Tests.{le-leb, lt-leb, not-true, not-false}
-use lib.Dec.{eqb, leb}
+use lib.Dec.{leb}
 use lib.ListN.{length}
 use Rattle.config.specs.declared.Config.{Config}
 use Rattle.config.specs.Number.{serverNumber}
 use Rattle.config.specs.Questions.{within}
-use Rattle.tag.specs.declared.Tag.{Tag}
 use Rattle.tag.specs.Tag.{allowed}
 use Rattle.record.specs.Record.{all}
 use Rattle.record.proofs.Clauses.{and-true}
 use Rattle.server.specs.declared.State.{State}
-use Rattle.server.specs.Inner.{Spread, floorFull, overFloor}
 use Rattle.server.specs.Kept.{every, floorKept, kept, once, stateKept}
 use Rattle.server.specs.View.{each, floorOf, tagAt, tagsUsed}
 use Rattle.server.proofs.Each.{length-each}
 use Rattle.server.proofs.kept.state_kept.Statement.{statement}
 use Rattle.server.proofs.kept.state_kept.Tie as tie
-
--- the floor's clauses, where each tag is above it
-full : (cfg : Config) (floor : Option Tag) (ts : List Tag) (n : ℕ) → length ts ≡ n → every (overFloor floor) ts ≡ true → floorFull cfg floor n ≡ floorKept cfg floor ts
-unfolding floorKept
-full cfg none ts n e h = refl
-full cfg (some f) ts n e h = rw (e, h) (sym (and-true (allowed (cfg .c) f && eqb n (cfg .d + 1))))
 
 -- the state's clauses, by the one that fails
 module _ (cfg : Config) (s : State) where
@@ -49,12 +39,6 @@ module _ (cfg : Config) (s : State) where
       no-count h = rw (me, highest, long, lt-leb (s .count) (cfg .d + 1) h)
 
       module _ (count : s .count ≤ cfg .d + 1) where
-        by-full : (b : Bool) → Spread (cfg .c) (floorOf (s .floor)) (tagsUsed s) b → b ≡ true → floorFull cfg (floorOf (s .floor)) (s .count) ≡ stateKept cfg s
-        unfolding stateKept kept all
-        by-full b h e =
-            rw (me, highest, long, le-leb (s .count) (cfg .d + 1) count, h .limits e, h .differ e)
-            (full cfg (floorOf (s .floor)) (tagsUsed s) (s .count) long (h .over e) ∙ sym (and-true (floorKept cfg (floorOf (s .floor)) (tagsUsed s))))
-
         no-tags : every (allowed (cfg .c)) (tagsUsed s) ≡ false → false ≡ stateKept cfg s
         unfolding stateKept kept all
         no-tags h = rw (me, highest, long, le-leb (s .count) (cfg .d + 1) count, h)
@@ -90,42 +74,30 @@ returns-3 c =
     no-count _ _ (sym (c .before .before .before .before .before .before .server-within .ensures) ∙ not-false _ (c .before .before .before .before .before .if1 .left)) (sym (c .before .before .before .allowed .ensures) ∙ not-false _ (c .before .before .if2 .left))
     (c .if3 .taken)
 
-spread-requires : tie.Need-spread-requires
-spread-requires c κs = search needs
-
-floor-full-requires : tie.Need-floor-full-requires
-floor-full-requires c κs = search needs
-
-returns-4 : tie.Need-returns-4
-returns-4 c =
-    c .floor-full .ensures
-    ∙ by-full _ _ (sym (c .before .before .before .before .before .before .before .before .before .before .server-within .ensures) ∙ not-false _ (c .before .before .before .before .before .before .before .before .before .if1 .left)) (sym (c .before .before .before .before .before .before .before .allowed .ensures) ∙ not-false _ (c .before .before .before .before .before .before .if2 .left))
-    (c .before .before .before .before .if3 .left) _ (c .before .before .spread .ensures) (c .before .if4 .taken)
-
 each-allowed-requires : tie.Need-each-allowed-requires
 each-allowed-requires c κs = search needs
 
-returns-5 : tie.Need-returns-5
-returns-5 c =
-    no-tags _ _ (sym (c .before .before .before .before .before .before .before .before .before .before .before .server-within .ensures) ∙ not-false _ (c .before .before .before .before .before .before .before .before .before .before .if1 .left)) (sym (c .before .before .before .before .before .before .before .before .allowed .ensures) ∙ not-false _ (c .before .before .before .before .before .before .before .if2 .left))
-    (c .before .before .before .before .before .if3 .left) (sym (c .before .each-allowed .ensures) ∙ not-true _ (c .if5 .taken))
+returns-4 : tie.Need-returns-4
+returns-4 c =
+    no-tags _ _ (sym (c .before .before .before .before .before .before .before .before .before .server-within .ensures) ∙ not-false _ (c .before .before .before .before .before .before .before .before .if1 .left)) (sym (c .before .before .before .before .before .before .allowed .ensures) ∙ not-false _ (c .before .before .before .before .before .if2 .left))
+    (c .before .before .before .if3 .left) (sym (c .before .each-allowed .ensures) ∙ not-true _ (c .if4 .taken))
 
 once-requires : tie.Need-once-requires
 once-requires c κs = search needs
 
-returns-6 : tie.Need-returns-6
-returns-6 c =
-    no-once _ _ (sym (c .before .before .before .before .before .before .before .before .before .before .before .before .before .server-within .ensures) ∙ not-false _ (c .before .before .before .before .before .before .before .before .before .before .before .before .if1 .left)) (sym (c .before .before .before .before .before .before .before .before .before .before .allowed .ensures) ∙ not-false _ (c .before .before .before .before .before .before .before .before .before .if2 .left))
-    (c .before .before .before .before .before .before .before .if3 .left) (sym (c .before .before .before .each-allowed .ensures) ∙ not-false _ (c .before .before .if5 .left)) (sym (c .before .once .ensures) ∙ not-true _ (c .if6 .taken))
+returns-5 : tie.Need-returns-5
+returns-5 c =
+    no-once _ _ (sym (c .before .before .before .before .before .before .before .before .before .before .before .server-within .ensures) ∙ not-false _ (c .before .before .before .before .before .before .before .before .before .before .if1 .left)) (sym (c .before .before .before .before .before .before .before .before .allowed .ensures) ∙ not-false _ (c .before .before .before .before .before .before .before .if2 .left))
+    (c .before .before .before .before .before .if3 .left) (sym (c .before .before .before .each-allowed .ensures) ∙ not-false _ (c .before .before .if4 .left)) (sym (c .before .once .ensures) ∙ not-true _ (c .if5 .taken))
 
 floor-kept-requires : tie.Need-floor-kept-requires
 floor-kept-requires c κs = search needs
 
-returns-7 : tie.Need-returns-7
-returns-7 c =
+returns-6 : tie.Need-returns-6
+returns-6 c =
     c .floor-kept .ensures
-    ∙ by-floor _ _ (sym (c .before .before .before .before .before .before .before .before .before .before .before .before .before .before .server-within .ensures) ∙ not-false _ (c .before .before .before .before .before .before .before .before .before .before .before .before .before .if1 .left)) (sym (c .before .before .before .before .before .before .before .before .before .before .before .allowed .ensures) ∙ not-false _ (c .before .before .before .before .before .before .before .before .before .before .if2 .left))
-    (c .before .before .before .before .before .before .before .before .if3 .left) (sym (c .before .before .before .before .each-allowed .ensures) ∙ not-false _ (c .before .before .before .if5 .left)) (sym (c .before .before .once .ensures) ∙ not-false _ (c .before .if6 .left))
+    ∙ by-floor _ _ (sym (c .before .before .before .before .before .before .before .before .before .before .before .before .server-within .ensures) ∙ not-false _ (c .before .before .before .before .before .before .before .before .before .before .before .if1 .left)) (sym (c .before .before .before .before .before .before .before .before .before .allowed .ensures) ∙ not-false _ (c .before .before .before .before .before .before .before .before .if2 .left))
+    (c .before .before .before .before .before .before .if3 .left) (sym (c .before .before .before .before .each-allowed .ensures) ∙ not-false _ (c .before .before .before .if4 .left)) (sym (c .before .before .once .ensures) ∙ not-false _ (c .before .if5 .left))
 
 pub state-kept-spec : {M : Type 1} → statement M
 state-kept-spec =
@@ -137,12 +109,9 @@ state-kept-spec =
     returns-2
     add-if3
     returns-3
-    spread-requires
-    floor-full-requires
-    returns-4
     each-allowed-requires
-    returns-5
+    returns-4
     once-requires
-    returns-6
+    returns-5
     floor-kept-requires
-    returns-7)
+    returns-6)

@@ -1,14 +1,16 @@
 // Records of 4 + V bytes from standard input, an event each, and their lines to standard output.
 use super::answer;
 use config::Config;
+use rig::Answer;
 use rig::Rig;
+use rig::Turn;
 ghost use Prim.Native.Nat.{_+_, _*_, _≤_};
 ghost use lib.ListN.{length};
 
-// Between two events: the rig, the count of the next event, the input that is not used yet, from `at` up to `end` of its buffer, and
-// how much of the output's buffer is in use.
+// Between two events: what the last one left, the count of the next, the input that is not used yet, from `at` up to `end` of its
+// buffer, and how much of the output's buffer is in use.
 struct Run {
-    rig: Rig,
+    turn: Turn,
     count: u64,
     at: usize,
     end: usize,
@@ -31,8 +33,12 @@ pub(crate) fn all(
     let mut read = io::buffer();
     let mut input = io::large_buffer();
     let mut output = io::large_buffer();
-    let run = Run {
+    let turn = Turn {
+        answer: Answer::Nothing,
         rig,
+    };
+    let run = Run {
+        turn,
         count: 1,
         at: 0,
         end: 0,
@@ -116,7 +122,7 @@ fn block(
 {
     let size = read.len() + 4;
     let room = output.len() - (84 + 2 * read.len());
-    let mut rig = run.rig;
+    let mut turn = run.turn;
     let mut count = run.count;
     let mut at = run.at;
     let mut used = 0;
@@ -127,10 +133,10 @@ fn block(
         let next = at + size;
         let bytes = at + 4;
         let position = super::little(input[at + 2], input[at + 3]);
-        let turn = rig::event(
+        turn = rig::event(
             cfg,
             m,
-            rig,
+            turn.rig,
             input[at],
             input[at + 1],
             position,
@@ -141,14 +147,13 @@ fn block(
             boards,
             elements,
         );
-        rig = turn.rig;
         let answer = turn.answer;
         used = answer::line(count, answer, read, output, used);
         count = std::num::wrapping_add_u64(count, 1);
         at = next;
     }
     Run {
-        rig,
+        turn,
         count,
         at,
         end: run.end,
@@ -167,9 +172,9 @@ fn filled(run: Run, size: usize, input: &mut [u8]) -> Run
     }
     shift(run.at, rest, input);
     let end = fill(rest, size, input);
-    let rig = run.rig;
+    let turn = run.turn;
     Run {
-        rig,
+        turn,
         count: run.count,
         at: 0,
         end,

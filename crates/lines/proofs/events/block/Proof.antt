@@ -18,7 +18,7 @@ record Inv (end size room long v most read output at used : ℕ) : Type 0 where
   used-within : used ≤ most
 
 abbrev Inv-loop : tie.InvT-loop
-Inv-loop cfg m run read₀ input output₀ messages₀ stores₀ boards₀ elements₀ size room rig₀ count₀ at₀ used₀ read output messages stores boards elements rig count at used =
+Inv-loop cfg m run read₀ input output₀ messages₀ stores₀ boards₀ elements₀ size room turn₀ count₀ at₀ used₀ read output messages stores boards elements turn count at used =
     Inv (run .end) size room (length input) (length read₀) (length output₀) (length read) (length output) at used
     × (length messages ≡ length messages₀)
     × (length stores ≡ length stores₀)
@@ -26,7 +26,7 @@ Inv-loop cfg m run read₀ input output₀ messages₀ stores₀ boards₀ eleme
     × (length elements ≡ length elements₀)
 
 abbrev μ-loop : tie.MeasureT-loop
-μ-loop cfg m run read₀ input output₀ messages₀ stores₀ boards₀ elements₀ size room rig₀ count₀ at₀ used₀ read output messages stores boards elements rig count at used = run .end - at
+μ-loop cfg m run read₀ input output₀ messages₀ stores₀ boards₀ elements₀ size room turn₀ count₀ at₀ used₀ read output messages stores boards elements turn count at used = run .end - at
 
 add-size : tie.Need-add-size Inv-loop μ-loop
 add-size c = search needs
@@ -90,24 +90,24 @@ event-requires c κs = search needs
 
 line-requires : tie.Need-line-requires Inv-loop μ-loop
 line-requires c κs =
-    let l = c .before .before .before .before .before .before .before .before .before .before .before .before .before .before .before .before .before .before .before .before .before .before .before .before .before .before .before .before .loop in
-    let e = c .before .before .before .before .before .before .before .before .before .before .before .before .before .event in
-    omega (arith, l .inv .0 .reads, l .inv .0 .writes, l .inv .0 .rooms, e .kept .1 .1 .1 .1 .1 .1 .1 .0, c .before .before .before .before .before .before .before .before .before .before .before .before .before .before .before .before .before .before .before .before .before .before .before .before .before .if2 .left)
+    let l = c .before .before .before .before .before .before .before .before .before .before .before .before .before .before .before .before .before .before .before .before .before .before .before .before .before .before .before .loop in
+    let e = c .before .before .before .before .before .before .before .before .before .before .before .before .event in
+    omega (arith, l .inv .0 .reads, l .inv .0 .writes, l .inv .0 .rooms, e .kept .1 .1 .1 .1 .1 .1 .1 .0, c .before .before .before .before .before .before .before .before .before .before .before .before .before .before .before .before .before .before .before .before .before .before .before .before .if2 .left)
 
 wrapping-add-u64-requires : tie.Need-wrapping-add-u64-requires Inv-loop μ-loop
 wrapping-add-u64-requires c κs = search needs
 
 loop-less : tie.Need-loop-less Inv-loop μ-loop
 loop-less c =
-    let i = c .before .before .before .before .before .before .before .before .before .before .before .before .before .before .before .before .before .before .before .before .before .before .before .before .before .before .before .before .before .before .before .before .loop .inv .0 in
-    omega (arith, i .sizes, i .before, c .before .before .before .before .before .before .before .before .before .before .before .before .before .before .before .before .before .before .before .before .before .before .before .before .before .before .before .before .before .before .if1 .taken)
+    let i = c .before .before .before .before .before .before .before .before .before .before .before .before .before .before .before .before .before .before .before .before .before .before .before .before .before .before .before .before .before .before .before .loop .inv .0 in
+    omega (arith, i .sizes, i .before, c .before .before .before .before .before .before .before .before .before .before .before .before .before .before .before .before .before .before .before .before .before .before .before .before .before .before .before .before .before .if1 .taken)
 
 loop-again : tie.Need-loop-again Inv-loop μ-loop
 loop-again c =
-    let i = c .before .before .before .before .before .before .before .before .before .before .before .before .before .before .before .before .before .before .before .before .before .before .before .before .before .before .before .before .before .before .before .before .loop .inv in
-    let more = c .before .before .before .before .before .before .before .before .before .before .before .before .before .before .before .before .before .before .before .before .before .before .before .before .before .before .before .before .before .before .if1 .taken in
-    let room = c .before .before .before .before .before .before .before .before .before .before .before .before .before .before .before .before .before .before .before .before .before .before .before .before .before .before .before .before .before .if2 .left in
-    let e = c .before .before .before .before .before .before .before .before .before .before .before .before .before .before .before .before .before .event in
+    let i = c .before .before .before .before .before .before .before .before .before .before .before .before .before .before .before .before .before .before .before .before .before .before .before .before .before .before .before .before .before .before .before .loop .inv in
+    let more = c .before .before .before .before .before .before .before .before .before .before .before .before .before .before .before .before .before .before .before .before .before .before .before .before .before .before .before .before .before .if1 .taken in
+    let room = c .before .before .before .before .before .before .before .before .before .before .before .before .before .before .before .before .before .before .before .before .before .before .before .before .before .before .before .before .if2 .left in
+    let e = c .before .before .before .before .before .before .before .before .before .before .before .before .before .before .before .before .event in
     let l = c .before .before .before .line in (
       record {
         reads = omega (arith, i .0 .reads, e .kept .1 .1 .1 .1 .1 .1 .1 .0);

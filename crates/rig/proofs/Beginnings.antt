@@ -9,7 +9,7 @@ use lib.Dec.{eqb, ltb}
 use lib.ListN.{length}
 use Rattle.config.specs.declared.Config.{Config}
 use Rattle.config.specs.declared.Refusal.{Refusal}
-use Rattle.config.specs.declared.Refusal.the-variants.{Servers, Threshold, Depth, Width, Clients, Shape, Event, Missing, Down, Busy, Exhausted, IllFormed, Full, NotAwaited, Cleared, Misdirected, NotRising, TooFew}
+use Rattle.config.specs.declared.Refusal.the-variants.{Missing}
 use Rattle.config.specs.declared.Verdict.{Verdict}
 use Rattle.config.specs.Config.{Valid, boardLength, questions}
 use Rattle.config.specs.Questions.{Question, ask, firstNo}
@@ -20,29 +20,10 @@ use Rattle.client.specs.declared.Moved.{Moved}
 use Rattle.client.specs.declared.State as client
 use Rattle.client.specs.Questions.{beginQuestions, beginReadQuestions, beginWriteQuestions, idleQuestions, isIdle, isUp, writeSized}
 use Rattle.client.specs.State.{stateWithin}
+use Rattle.record.proofs.Parties.{number-low}
 use Rattle.history.specs.Client.{highestNumber}
 use Rattle.rig.specs.declared.Rig.{Rig}
 use Rattle.rig.specs.Inner.{BegunPost, FullPost, fullNumber, movedOn, quiet, refusedFor}
-
-pub number-low : (why : Refusal) → 1 ≤ numberOf why
-number-low Servers = omega arith
-number-low Threshold = omega arith
-number-low Depth = omega arith
-number-low Width = omega arith
-number-low Clients = omega arith
-number-low Shape = omega arith
-number-low Event = omega arith
-number-low Missing = omega arith
-number-low Down = omega arith
-number-low Busy = omega arith
-number-low Exhausted = omega arith
-number-low IllFormed = omega arith
-number-low Full = omega arith
-number-low NotAwaited = omega arith
-number-low Cleared = omega arith
-number-low Misdirected = omega arith
-number-low NotRising = omega arith
-number-low TooFew = omega arith
 
 unfoldable whyOf : Verdict → Refusal
 whyOf Verdict.Accepted = Missing

@@ -7,8 +7,8 @@ use mathlib.Core.List.{List, _++_, append-assoc, append-nil, map}
 use native.Mathlib.Omega.{arith}
 use borrow.Author.Tests.{eq-eqb, eqb-true, le-leb, lt-leb}
 use lib.Dec.{eqb, leb}
-use lib.ListN.{length, take, drop, getD, length-append, length-drop, length-replicate, replicate, drop-of-length-le}
-use lib.Seq.{drop-at, drop-drop, length-take-le, take-all, take-at, take-length}
+use lib.ListN.{length, take, drop, getD, length-append, length-drop, drop-of-length-le}
+use lib.Seq.{drop-at, drop-drop, take-all, take-at, take-length}
 use Rattle.laws.proofs.Bools.{and-left}
 use Rattle.config.specs.declared.Client.{Client}
 use Rattle.config.specs.declared.Config.{Config}
@@ -347,13 +347,6 @@ laid-behind ms at bs new h e =
     ∙ append-nil (take (length bs) bs ++ drop (length bs) (take (length ms - at) (drop at ms)))
     ∙ ap₂ _++_ (take-length bs)
     (ap (drop (length bs)) (take-all (length ms - at) (drop at ms) (omega (arith, length-drop at ms))) ∙ drop-drop (length bs) at ms))
-
--- the front of the code's buffer for sends
-pub zeros-front : (n : ℕ) → n ≤ 16 → length (take (80 * n - 0) (drop 0 (replicate {A = ℕ} 1280 0))) ≡ 80 * n
-zeros-front n h =
-    let e : 80 * n - 0 ≡ 80 * n = omega arith in
-    ap (λ k. length (take k (replicate {A = ℕ} 1280 0))) e
-    ∙ length-take-le (80 * n) (replicate {A = ℕ} 1280 0) (omega (arith, h, length-replicate {A = ℕ} 1280 0))
 
 pub front-room : (k : ℕ) (new rest : List ℕ) → k ≤ length new → k ≤ length (new ++ rest)
 front-room k new rest h = omega (arith, h, length-append new rest)

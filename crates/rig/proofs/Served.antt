@@ -25,6 +25,7 @@ use Rattle.record.specs.Message.{Message}
 use Rattle.record.specs.Record.{highestNumber, messageOf, ofConfig, recordOf, wellFormed}
 use Rattle.record.proofs.Clauses.{its-server}
 use Rattle.record.proofs.Laws.{Bytes, message-of-config, record-long, writes-again}
+use Rattle.record.proofs.Parties.{number-low}
 use Rattle.server.specs.declared.State.{State}
 use Rattle.server.specs.declared.Stepped.{Stepped}
 use Rattle.server.specs.Calls.{StepPost, answers, answerBytes, forServer, outcome, receives, storeLength}
@@ -45,7 +46,6 @@ use Rattle.rig.specs.View.{Lent, flight, messagesOf, part, place, record
 use Rattle.rig.specs.Questions.{moveOf, rigKept, serverKept, sized, sizedBy}
 use Rattle.rig.specs.Calls.{EventPost, recordsAfter}
 use Rattle.rig.specs.Inner.{Handing, LosePost, Ready, ServePost, Serving, counted, handing, quiet, recordAt, withSeat}
-use Rattle.rig.proofs.Beginnings.{number-low}
 use Rattle.rig.proofs.Flown.{lose-done}
 use Rattle.rig.proofs.Formed.{ServerFits, StoredFits, answer-sound}
 use Rattle.rig.proofs.Handed.{hand-moves, hand-number, is-hand, left-list, server-gone}

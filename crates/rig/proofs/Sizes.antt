@@ -7,7 +7,7 @@ use native.Mathlib.Omega.{arith}
 use native.Mathlib.Nat.{mul-le-mul, mul-le-mul-right}
 use borrow.Author.Tests.{eq-eqb, ne-eqb, eqb-true, leb-true}
 use lib.Dec.{eqb, leb}
-use lib.ListN.{length, take, drop, length-drop}
+use lib.ListN.{length, take, drop, replicate, length-drop, length-replicate}
 use lib.Seq.{length-take-le}
 use Rattle.laws.proofs.Bools.{and-left, and-right}
 use Rattle.config.specs.declared.Config.{Config}
@@ -100,3 +100,10 @@ module _ (cfg : Config) (m messages stores boards elements : ℕ) where
     pub elements-are : elements ≡ cfg .c * (cfg .n * cfg .e)
     unfolding sizedBy
     elements-are = eqb-true elements (cfg .c * (cfg .n * cfg .e)) (and-right (A && B && C) D h)
+
+-- the front of the code's buffer for sends
+pub zeros-front : (n : ℕ) → n ≤ 16 → length (take (80 * n - 0) (drop 0 (replicate {A = ℕ} 1280 0))) ≡ 80 * n
+zeros-front n h =
+    let e : 80 * n - 0 ≡ 80 * n = omega arith in
+    ap (λ k. length (take k (replicate {A = ℕ} 1280 0))) e
+    ∙ length-take-le (80 * n) (replicate {A = ℕ} 1280 0) (omega (arith, h, length-replicate {A = ℕ} 1280 0))

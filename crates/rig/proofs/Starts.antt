@@ -31,6 +31,7 @@ use Rattle.history.specs.Client.{beginClient, sendEach}
 use Rattle.history.specs.Tags.{startingTag}
 use Rattle.record.specs.declared.Kind.the-variants.{Query}
 use Rattle.record.specs.Message.{Message}
+use Rattle.record.proofs.Parties.{number-low}
 use Rattle.history.specs.Rig as protocol
 use Rattle.history.specs.Rig.{codeOf, beginWrite, beginRead, isWithin, partyQuestions}
 use Rattle.rig.specs.declared.Rig.{Rig}
@@ -39,7 +40,7 @@ use Rattle.rig.specs.View.{Lent, part, place, view}
 use Rattle.rig.specs.Questions.{formedFor, moveOf}
 use Rattle.rig.specs.Calls.{EventPost, recordsAfter}
 use Rattle.rig.specs.Inner.{BegunPost, FullPost, ReadPost, Ready, WritePost, movedOn, quiet, refusedFor}
-use Rattle.rig.proofs.Beginnings.{idle-high, number-low, read-number, write-number}
+use Rattle.rig.proofs.Beginnings.{idle-high, read-number, write-number}
 use Rattle.rig.proofs.Begun as begun
 use Rattle.rig.proofs.Downed.{client-at}
 use Rattle.rig.proofs.Parties.{clients-seated}

@@ -16,12 +16,12 @@ use Rattle.record.specs.Calls.{ReadPost, withElement}
 use Rattle.record.specs.Message.{Message}
 use Rattle.record.specs.Record.{messageOf, wellFormed}
 use Rattle.record.proofs.Callers.{its-message, read-12, read-well-formed, was-read, was-refused}
+use Rattle.record.proofs.Parties.{number-low}
 use Rattle.history.specs.Rig.{isForServer}
 use Rattle.rig.specs.declared.Rig.{Rig}
 use Rattle.rig.specs.declared.Turn.{Turn}
 use Rattle.rig.specs.Inner.{AnswerPost, Answering, HandPost, Handing, Holding, ServePost, Serving, handing, recordAt, refusedFor}
 use Rattle.rig.specs.View.{lent}
-use Rattle.rig.proofs.Beginnings.{number-low}
 use Rattle.rig.proofs.Handed.{ill-formed, no-message}
 use Rattle.rig.proofs.Parties.{count-most}
 

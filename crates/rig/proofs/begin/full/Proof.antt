@@ -1,19 +1,12 @@
-use Prim.Native.Nat.{ℕ, _-_, _*_, _≤_}
-use mathlib.Core.Path.{_≡_, ap, _∙_}
+use Prim.Native.Nat.{ℕ, _-_, _*_}
+use mathlib.Core.Path.{_∙_}
 use mathlib.Core.List.{[]}
-use native.Mathlib.Omega.{arith}
-use lib.ListN.{length, take, drop, replicate, length-replicate}
-use lib.Seq.{length-take-le}
+use lib.ListN.{take, drop, replicate}
 use Rattle.rig.proofs.Beginnings.{full-no, full-yes, read-number}
+use Rattle.rig.proofs.Sizes.{zeros-front}
 use borrow.Author.Needs.{needs}
 use Rattle.rig.proofs.begin.full.Statement.{statement}
 use Rattle.rig.proofs.begin.full.Tie as tie
-
-zeros-front : (n : ℕ) → n ≤ 16 → length (take (80 * n - 0) (drop 0 (replicate {A = ℕ} 1280 0))) ≡ 80 * n
-zeros-front n h =
-    let e : 80 * n - 0 ≡ 80 * n = omega arith in
-    ap (λ k. length (take k (replicate {A = ℕ} 1280 0))) e
-    ∙ length-take-le (80 * n) (replicate {A = ℕ} 1280 0) (omega (arith, h, length-replicate {A = ℕ} 1280 0))
 
 mul-end : tie.Need-mul-end
 mul-end c = search needs

@@ -1,7 +1,8 @@
 use Prim.Native.Nat.{_-_, _*_}
 use native.Mathlib.Omega.{arith}
 use Rattle.client.specs.declared.Phase.{Phase}
-use Rattle.rig.proofs.Hearing.{answer-full, answer-moved, client-high, client-low, client-stood, count-high, hears, front-room, left-fit, sent-are, sent-fit, zeros-front}
+use Rattle.rig.proofs.Hearing.{answer-full, answer-moved, client-high, client-low, client-stood, count-high, hears, front-room, left-fit, sent-are, sent-fit}
+use Rattle.rig.proofs.Sizes.{zeros-front}
 use borrow.Author.Needs.{needs}
 use Rattle.rig.proofs.hear.hand.Statement.{statement}
 use Rattle.rig.proofs.hear.hand.Tie as tie

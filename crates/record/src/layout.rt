@@ -97,6 +97,9 @@ pub(crate) fn kept(cfg: Config, buf: &[u8]) -> bool
     if !zero(&buf[13..16]) {
         return false;
     }
+    if buf[3] == 0 {
+        return zero(&buf[16..80]);
+    }
     let end = element_end(cfg, buf[3] == 1);
     zero(&buf[end..])
 }

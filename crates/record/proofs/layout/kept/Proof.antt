@@ -3,6 +3,7 @@ use mathlib.Core.Bool.{Bool, true, false, cond, _&&_}
 use mathlib.Core.List.{List}
 use Prim.Native.Nat.{ℕ, _-_, _≤_, _<_}
 use native.Mathlib.Omega.{arith}
+use lib.Dec.{eqb}
 use lib.ListN.{length, getD, take, drop, length-drop}
 use lib.Seq.{take-all}
 use borrow.Author.Needs.{needs}
@@ -47,6 +48,11 @@ module _ (cfg : Config) (bs : List ℕ) where
             rw (kind-in, le-leb (getD bs 3 0) 1 flag, z, ← e, take-all (length bs - end) (drop end bs) (omega (arith, length-drop end bs)))
             (sym (and-true (allZero (drop end bs))))
 
+        absent : allZero (take 3 (drop 13 bs)) ≡ true → length bs ≡ 80 → getD bs 3 0 ≡ 0 → allZero (take 64 (drop 16 bs)) ≡ laidOut cfg bs
+        absent z eighty none =
+            ap (λ (n : ℕ). allZero (take (n - 16) (drop 16 bs))) (sym eighty)
+            ∙ last z 16 (ap (λ (n : ℕ). elementEnd cfg (eqb n 1)) (sym none))
+
 shared-slice-read-if1 : tie.Need-shared-slice-read-if1
 shared-slice-read-if1 c = search needs
 
@@ -83,19 +89,14 @@ returns-4 c =
     not-zero _ _ (b .before .before .before .before .if1 .left) (b .before .before .if2 .left) (b .if3 .left)
     (sym (c .before .zero .ensures) ∙ not-true _ (c .if4 .taken))
 
-shared-slice-read-element-end : tie.Need-shared-slice-read-element-end
-shared-slice-read-element-end c = search needs
-
-element-end-requires : tie.Need-element-end-requires
-element-end-requires c κs = search needs
+shared-slice-read-if5 : tie.Need-shared-slice-read-if5
+shared-slice-read-if5 c = search needs
 
 sub-zero-2 : tie.Need-sub-zero-2
-sub-zero-2 c =
-    let s = c .before .before .before .before .before .before .before .before .before .before .before .before in
-    end-in (presentAt (s .args .buf .now)) (s .pre .valid) (s .pre .eighty) (c .element-end .ensures)
+sub-zero-2 c = search needs
 
 part-zero-start-2 : tie.Need-part-zero-start-2
-part-zero-start-2 c = sub-zero-2 c
+part-zero-start-2 c = search needs
 
 part-zero-end-2 : tie.Need-part-zero-end-2
 part-zero-end-2 c = search needs
@@ -107,7 +108,36 @@ returns-5 : tie.Need-returns-5
 returns-5 c =
     let d = c .before .before .before .before in
     let b = d .before .before .before in
+    let s = b .before .before .before .before .before .before .before in
     c .zero2 .ensures
+    ∙ absent _ _ (b .before .before .before .before .if1 .left) (b .before .before .if2 .left) (b .if3 .left)
+    (sym (d .before .zero .ensures) ∙ not-false _ (d .if4 .left)) (s .pre .eighty) (c .before .before .if5 .taken)
+
+shared-slice-read-element-end : tie.Need-shared-slice-read-element-end
+shared-slice-read-element-end c = search needs
+
+element-end-requires : tie.Need-element-end-requires
+element-end-requires c κs = search needs
+
+sub-zero-3 : tie.Need-sub-zero-3
+sub-zero-3 c =
+    let s = c .before .before .before .before .before .before .before .before .before .before .before .before .before .before in
+    end-in (presentAt (s .args .buf .now)) (s .pre .valid) (s .pre .eighty) (c .element-end .ensures)
+
+part-zero-start-3 : tie.Need-part-zero-start-3
+part-zero-start-3 c = sub-zero-3 c
+
+part-zero-end-3 : tie.Need-part-zero-end-3
+part-zero-end-3 c = search needs
+
+zero-requires-3 : tie.Need-zero-requires-3
+zero-requires-3 c κs = search needs
+
+returns-6 : tie.Need-returns-6
+returns-6 c =
+    let d = c .before .before .before .before .before .before in
+    let b = d .before .before .before in
+    c .zero3 .ensures
     ∙ last _ _ (b .before .before .before .before .if1 .left) (b .before .before .if2 .left) (b .if3 .left)
     (sym (d .before .zero .ensures) ∙ not-false _ (d .if4 .left))
     _ (c .before .before .element-end .ensures)
@@ -127,10 +157,16 @@ kept-spec =
     part-zero-end
     zero-requires
     returns-4
-    shared-slice-read-element-end
-    element-end-requires
+    shared-slice-read-if5
     sub-zero-2
     part-zero-start-2
     part-zero-end-2
     zero-requires-2
-    returns-5)
+    returns-5
+    shared-slice-read-element-end
+    element-end-requires
+    sub-zero-3
+    part-zero-start-3
+    part-zero-end-3
+    zero-requires-3
+    returns-6)

@@ -1,22 +1,22 @@
 -- Tags that leave a bit each in a number, by their spots: where the bits differ, so do the tags. Assumes nothing.
 use mathlib.Core.Path.{_≡_, refl, sym, _∙_, ap, subst}
-use mathlib.Core.Bool.{Bool, true, false, _&&_}
+use mathlib.Core.Bool.{Bool, true, false, cond, _&&_, true≢false}
 use mathlib.Core.List.{List, [], _∷_}
-use mathlib.Core.Option.{Option, none, some}
-use Prim.Native.Nat.{ℕ, zero, suc, _+_, _-_, _*_, _/_, _%_, _^_, _<_, max}
+use mathlib.Core.Option.{Option, some}
+use Prim.Native.Nat.{ℕ, zero, suc, _+_, _-_, _*_, _/_, _%_, _^_, _≤_, _<_, max}
 use native.Mathlib.Nat.{mod-lt, zero-lt-suc, div-one, one-mul, sub-zero}
 use native.Mathlib.Numerals.{one-add}
 use native.Mathlib.Omega.{arith}
-use borrow.Author.Tests.{eqb-true, eq-eqb, ne-eqb, le-leb, lt-leb, lt-ltb}
+use borrow.Author.Tests.{eqb-false, eqb-true, eq-eqb, ne-eqb, le-leb, lt-ltb}
 use lib.Bits.{bitOr, or-comm, or-shr, or-step, or-zero-r}
-use lib.Dec.{eqb, leb}
-use lib.Pow.{shl-shr, shr-shr}
+use lib.Dec.{eqb, lit<, ltb}
+use lib.Pow.{shl-exact, shl-shr, shr-shr}
 use Rattle.laws.proofs.Bools.{and-left, and-right}
 use Rattle.laws.proofs.Xor.{by-digit}
 use Rattle.tag.specs.declared.Tag.{Tag}
 use Rattle.tag.specs.Tag.{allowed, same}
 use Rattle.tag.proofs.Order.{same-one}
-use Rattle.server.specs.Inner.{Spread, floorNumber, overFloor, spotOf}
+use Rattle.server.specs.Inner.{Risen, Spread, overFloor, spotOf}
 use Rattle.server.specs.Kept.{among, every, once}
 use Rattle.server.specs.View.{each}
 use Rattle.server.proofs.Each.{every-yes, once-yes}
@@ -53,6 +53,16 @@ or-held (suc b) x h =
     let m : max (x % 2) 0 ≡ x % 2 = by-digit (λ (d : ℕ). max d 0 ≡ d) refl refl (x % 2) (mod-lt x two-pos) in
     let s : bitOr x (2 ^ suc b) ≡ bitOr (x / 2) (2 ^ b) * 2 + max (x % 2) 0 = rw (sym half, sym even) (or-step x (2 ^ suc b)) in
     omega (arith, s, m, or-held b (x / 2) (ap (λ (n : ℕ). n % 2) e ∙ h))
+
+-- the machine's shift
+pub one-bit : (s : ℕ) → s < 64 → (1 * 2 ^ s) % 18446744073709551616 ≡ 2 ^ s
+one-bit s h = shl-exact {a = 1} 1 s 64 (lit< tt) (omega arith) ∙ one-mul (2 ^ s)
+
+-- ---- a no
+
+pub spread-no : (clients : ℕ) (floor : Option Tag) (ts : List Tag) → Spread clients floor ts false
+spread-no clients floor ts =
+    record { limits = λ e. absurd (true≢false (sym e)); over = λ e. absurd (true≢false (sym e)); differ = λ e. absurd (true≢false (sym e)) }
 
 -- ---- a tag's bit
 
@@ -118,24 +128,54 @@ module _ (clients : ℕ) (floor : Option Tag) (f : ℕ → Tag) where
       let same : each f i (n - i) ≡ each f 0 n = rw (e, sub-zero n) in
       subst (λ (ts : List Tag). Spread clients floor ts r) same (record { limits = λ _. s .0; over = λ _. s .1; differ = λ _. s .2 })
 
--- ---- a tag with a higher number than the floor's
+-- ---- a tag with a higher rank than the floor's
 
-higher-over : (floor : Option Tag) (t : Tag) → floorNumber floor < t .number → overFloor floor t ≡ true
-higher-over none t h = refl
-higher-over (some f) t h =
-    let differ : t .number ≡ f .number → ⊥ = λ e. omega arith in
-    rw (ne-eqb (t .number) (f .number) differ) (lt-ltb (f .number) (t .number) h)
+module _ (clients low : ℕ) (f t : Tag) (few : clients ≤ 16) (sixteen : 16 ≤ low) (base : f .number * 16 + f .client ≤ low) where
+  rank-over : low < t .number * 16 + t .client → t .client ≤ 16 → (b : Bool) → eqb (t .number) (f .number) ≡ b
+      → cond b (ltb (f .client) (t .client)) (ltb (f .number) (t .number)) ≡ true
+  rank-over h c true e =
+      let same : t .number ≡ f .number = eqb-true (t .number) (f .number) e in
+      lt-ltb (f .client) (t .client) (omega (arith, h, base, same))
+  rank-over h c false e =
+      let differ : t .number ≡ f .number → ⊥ = eqb-false (t .number) (f .number) e in
+      lt-ltb (f .number) (t .number) (omega (arith, h, base, c, differ))
 
-module _ (clients : ℕ) (floor : Option Tag) (t : Tag) (h : floorNumber floor < t .number) where
-  some-number : t .number ≡ 0 → ⊥
-  some-number e = omega arith
+  rank-fits : low < t .number * 16 + t .client → 1 ≤ t .client → t .client ≤ clients → allowed clients t && overFloor (some f) t ≡ true
+  rank-fits h one c =
+      let at-most : t .client ≤ 16 = omega (arith, c, few) in
+      let some-number : t .number ≡ 0 → ⊥ = λ e. omega (arith, h, sixteen, at-most, e) in
+      rw (ne-eqb (t .number) 0 some-number, le-leb 1 (t .client) one, le-leb (t .client) clients c)
+      (rank-over h at-most (eqb (t .number) (f .number)) refl)
 
-  pub higher-no-client : t .client ≡ 0 → false ≡ (allowed clients t && overFloor floor t)
-  higher-no-client e = rw (ne-eqb (t .number) 0 some-number, lt-leb 1 (t .client) (omega arith))
+-- ---- the same of each floor of rank low at most
 
-  pub higher-client : (t .client ≡ 0 → ⊥) → leb (t .client) clients ≡ (allowed clients t && overFloor floor t)
-  higher-client ne = rw (higher-over floor t h, ne-eqb (t .number) 0 some-number, le-leb 1 (t .client) (omega arith)) (same-and (leb (t .client) clients))
-    where
-      same-and : (b : Bool) → b ≡ b && true
-      same-and true = refl
-      same-and false = refl
+abbrev pub SeenOver : ℕ → ℕ → (ℕ → Tag) → ℕ → ℕ → ℕ → Type 0
+SeenOver clients low f x i n = (g : Tag) → g .number * 16 + g .client ≤ low → Seen clients (some g) f x i n
+
+-- one less than a client's number, as the machine has it: where it is below a limit, the number is within it
+below-limit : (c x clients : ℕ) → (x + 1) % 2 ^ 64 ≡ c → x < clients → clients ≤ 16 → (1 ≤ c) × (c ≤ clients)
+below-limit c x clients e h few = (omega (arith, e, h, few), omega (arith, e, h, few))
+
+-- the machine's mark
+abbrev pub put : ℕ → ℕ → ℕ
+put x r = bitOr x ((1 * 2 ^ (r % 64)) % 18446744073709551616)
+
+module _ (clients low : ℕ) (f : ℕ → Tag) where
+  pub over-one : (x i n : ℕ) → 0 < i → i ≤ n → SeenOver clients low f x i n → clients ≤ 16 → 16 ≤ low
+      → (less r : ℕ) → (less + 1) % 2 ^ 64 ≡ f (i - 1) .client → less < clients → r ≡ f (i - 1) .number * 16 + f (i - 1) .client → low < r
+      → (x ≡ put x r → ⊥) → SeenOver clients low f (put x r) (i - 1) n
+  over-one x i n some-left at-most s few sixteen less r lessened below ranked higher new g h =
+      let t : Tag = f (i - 1) in
+      let e : i ≡ (i - 1) + 1 = omega (arith, some-left) in
+      let within : (1 ≤ t .client) × (t .client ≤ clients) = below-limit (t .client) less clients lessened below few in
+      let higher-rank : low < t .number * 16 + t .client = omega (arith, higher, ranked) in
+      let bit : (1 * 2 ^ (r % 64)) % 18446744073709551616 ≡ 2 ^ spotOf t =
+      ap (λ (n : ℕ). (1 * 2 ^ (n % 64)) % 18446744073709551616) ranked ∙ one-bit (spotOf t) (mod-lt (t .number * 16 + t .client) (zero-lt-suc 63)) in
+      let seen : Seen clients (some g) f x ((i - 1) + 1) n = subst (λ (k : ℕ). Seen clients (some g) f x k n) e (s g h) in
+      subst (λ (m : ℕ). Seen clients (some g) f (bitOr x m) (i - 1) n) (sym bit)
+      (seen-one clients (some g) f x (i - 1) n (omega (arith, some-left, at-most)) seen
+      (rank-fits clients low g t few sixteen h higher-rank (within .0) (within .1))
+      (λ z. new (sym (ap (λ (m : ℕ). bitOr x m) bit ∙ z))))
+
+  pub over-all : (x i n : ℕ) → i ≡ 0 → SeenOver clients low f x i n → (r : Bool) → Risen clients low (each f 0 n) r
+  over-all x i n e s r g h = seen-all clients (some g) f x i n e (s g h) r

@@ -1,6 +1,6 @@
 -- A server's calls: what each asks, and what it answers.
 use Prim.Native.Nat.{ℕ, _+_, _*_}
-use mathlib.Core.Bool.{Bool, true, false, cond, _&&_, _||_}
+use mathlib.Core.Bool.{Bool, true, false, cond, _&&_}
 use mathlib.Core.Path.{_≡_}
 use mathlib.Core.List.{List, [], _∷_, _++_}
 use mathlib.Core.Option.{Option, none, some}
@@ -8,7 +8,6 @@ use lib.Dec.{eqb}
 use lib.ListN.{length, drop, replicate}
 use Rattle.config.specs.declared.Config.{Config}
 use Rattle.config.specs.declared.Server.{Server as ServerNumber}
-use Rattle.config.specs.declared.Verdict.{Verdict}
 use Rattle.config.specs.Config.{questions}
 use Rattle.config.specs.Number.{serverNumber}
 use Rattle.config.specs.Questions.{Question, ask, firstNo, within}

@@ -16,7 +16,6 @@ use Rattle.tag.specs.declared.Tag.{Tag}
 use Rattle.tag.specs.Tag.{above, allowed, key, same}
 use Rattle.record.specs.declared.Header.{Header}
 use Rattle.record.specs.declared.Kind.{Kind}
-use Rattle.record.specs.declared.Kind.the-variants.{ReadFinaliseAnswer}
 use Rattle.record.specs.Calls.{withElement}
 use Rattle.record.specs.Message.{Message}
 use Rattle.record.specs.Record.{elementAt as elementIn, highestNumber, ofConfig, recordOf}
@@ -25,14 +24,9 @@ use Rattle.server.specs.declared.Floor.{Floor}
 use Rattle.server.specs.declared.State.{State}
 use Rattle.server.specs.declared.Stepped.{Stepped}
 use Rattle.server.specs.declared.places.Least.{Least}
-use Rattle.server.specs.Calls.{Steps, answerBytes, answers, outcome, raised, receives, storeLength}
+use Rattle.server.specs.Calls.{answerBytes, answers, outcome, raised, receives, storeLength}
 use Rattle.server.specs.Kept.{every, once, stateKept}
 use Rattle.server.specs.View.{tagsUsed, view}
-
--- the floor's number, or 0
-abbrev pub floorNumber : Option Tag → ℕ
-floorNumber none = 0
-floorNumber (some f) = f .number
 
 -- t is above the floor, if there is one
 abbrev pub overFloor : Option Tag → Tag → Bool
@@ -46,13 +40,17 @@ floorFull cfg (some f) n = allowed (cfg .c) f && eqb n (cfg .d + 1)
 
 -- a number below 64
 abbrev pub spotOf : Tag → ℕ
-spotOf t = (t .number * 8 + t .client) % 64
+spotOf t = (t .number * 16 + t .client) % 64
 
 -- what a yes shows of tags; a no shows nothing
 pub record Spread (clients : ℕ) (floor : Option Tag) (ts : List Tag) (r : Bool) : Type 0 where
   pub limits : r ≡ true → every (allowed clients) ts ≡ true
   pub over : r ≡ true → every (overFloor floor) ts ≡ true
   pub differ : r ≡ true → once ts ≡ true
+
+-- the same of each floor that is of this rank at most
+abbrev pub Risen : ℕ → ℕ → List Tag → Bool → Type 0
+Risen clients low ts r = (f : Tag) → f .number * 16 + f .client ≤ low → Spread clients (some f) ts r
 
 -- the first place of t among tags, or their number
 unfoldable pub placeIn : Tag → List Tag → ℕ

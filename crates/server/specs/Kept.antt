@@ -1,6 +1,6 @@
 -- Question 6 of what a server keeps: "is each count, server number, client number and tag in the state within its limit, each stored
 -- tag there once and above the floor, with exactly D + 1 stored where there is a floor?"
-use Prim.Native.Nat.{ℕ, _+_}
+use Prim.Native.Nat.{_+_}
 use mathlib.Core.Bool.{Bool, true, false, not, _&&_, _||_}
 use mathlib.Core.List.{List, [], _∷_}
 use mathlib.Core.Option.{Option, none, some}

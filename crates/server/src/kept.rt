@@ -5,15 +5,16 @@ use crate::places;
 use config::Config;
 use config::Server;
 use tag::Tag;
-ghost use mathlib.Core.Bool.{true, _&&_};
+ghost use mathlib.Core.Bool.{true};
+ghost use mathlib.Core.Option.{none, some};
 ghost use mathlib.Core.Path.{_≡_};
-ghost use Prim.Native.Nat.{ℕ, _≤_};
+ghost use Prim.Native.Nat.{_+_, _*_, _%_, _^_, _≤_};
 ghost use Rattle.config.specs.Config.{Valid};
 ghost use Rattle.config.specs.Number.{serverNumber};
 ghost use Rattle.config.specs.Questions.{firstNo, within};
 ghost use Rattle.tag.specs.Tag.{above, allowed};
 ghost use Rattle.server.specs.Calls.{stateQuestions, storeLength};
-ghost use Rattle.server.specs.Inner.{Spread, floorFull, floorNumber, overFloor, spotOf};
+ghost use Rattle.server.specs.Inner.{Risen, Spread, floorFull, spotOf};
 ghost use Rattle.server.specs.Kept.{every, floorKept, once as onceIn, stateKept};
 ghost use Rattle.server.specs.View.{each, floorOf, tagAt};
 
@@ -115,54 +116,17 @@ fn floor_full(cfg: Config, floor: Floor, count: usize) -> bool
     count == cfg.d + 1
 }
 
-// The floor's number, or 0.
-fn floor_number(floor: Floor) -> u32
-    ensures { λ r. ⌜ r ≡ floorNumber (floorOf floor) ⌝ }
-{
-    let Floor::At(f) = floor else {
-        return 0;
-    };
-    f.number
-}
-
-// The tag is above the floor, if there is one.
-fn over(floor: Floor, t: Tag) -> bool
-    ensures { λ r. ⌜ r ≡ overFloor (floorOf floor) t ⌝ }
-{
-    let Floor::At(f) = floor else {
-        return true;
-    };
-    t.above(f)
-}
-
-// The tag is within its limit and above the floor.
-fn fits(clients: usize, floor: Floor, t: Tag) -> bool
-    ensures { λ r. ⌜ r ≡ (allowed clients t && overFloor (floorOf floor) t) ⌝ }
-{
-    if floor_number(floor) < t.number {
-        if t.client == 0 {
-            return false;
-        }
-        return t.client as usize <= clients;
-    }
-    if !t.allowed(clients) {
-        return false;
-    }
-    over(floor, t)
-}
-
 // A number below 64; tags that are near each other have different ones.
 fn spot(t: Tag) -> u64
     ensures { λ r. ⌜ r ≡ spotOf t ⌝ }
 {
-    (t.number as u64 * 8 + t.client as u64) % 64
+    (t.number as u64 * 16 + t.client as u64) % 64
 }
 
-// Each of the first `count` tags is within its limit and above the floor, and they have different spots, so each is there once. A no
-// shows nothing.
-fn spread(clients: usize, floor: Floor, count: usize, tags: [Tag; 8]) -> bool
+// Each of the first `count` tags is within its limit, and they have different spots, so each is there once. A no shows nothing.
+fn spread(clients: usize, count: usize, tags: [Tag; 8]) -> bool
     requires { ⌜ count ≤ 8 ⌝ }
-    ensures { λ r. ⌜ Spread clients (floorOf floor) (each (tagAt tags) 0 count) r ⌝ }
+    ensures { λ r. ⌜ Spread clients none (each (tagAt tags) 0 count) r ⌝ }
 {
     let mut seen = 0u64;
     let mut i = count;
@@ -171,7 +135,7 @@ fn spread(clients: usize, floor: Floor, count: usize, tags: [Tag; 8]) -> bool
         let number = tags[i].number;
         let client = tags[i].client;
         let t = Tag { number, client };
-        if !fits(clients, floor, t) {
+        if !t.allowed(clients) {
             return false;
         }
         let next = seen | 1 << spot(t);
@@ -181,6 +145,96 @@ fn spread(clients: usize, floor: Floor, count: usize, tags: [Tag; 8]) -> bool
         seen = next;
     }
     true
+}
+
+// Where its client is 1 to 16, a tag's place in the order of tags.
+fn rank(number: u32, client: u8) -> u64
+    ensures { λ r. ⌜ r ≡ number * 16 + client ⌝ }
+{
+    number as u64 * 16 + client as u64
+}
+
+// The floor's rank, and at least 16: a tag of a higher rank has a number, and is above the floor.
+fn base(number: u32, client: u8) -> u64
+    ensures { λ r. ⌜ (16 ≤ r) × (number * 16 + client ≤ r) ⌝ }
+{
+    let r = rank(number, client);
+    if r < 16 {
+        return 16;
+    }
+    r
+}
+
+// A client's number less 1; 0 gives the highest number.
+fn less(client: u8) -> usize
+    ensures { λ r. ⌜ (r + 1) % 2 ^ 64 ≡ client ⌝ }
+{
+    std::num::wrapping_sub_usize(client as usize, 1)
+}
+
+// Each of the first `count` tags is within its limit and of a higher rank than `low`, and they have different spots. A no shows nothing.
+fn risen(clients: usize, low: u64, count: usize, tags: [Tag; 8]) -> bool
+    requires { ⌜ (clients ≤ 16) × (16 ≤ low) × (count ≤ 8) ⌝ }
+    ensures { λ r. ⌜ Risen clients low (each (tagAt tags) 0 count) r ⌝ }
+{
+    let mut seen = 0u64;
+    let mut i = count;
+    while 0 < i {
+        i -= 1;
+        let c = tags[i].client;
+        let n = tags[i].number;
+        if clients <= less(c) {
+            return false;
+        }
+        let r = rank(n, c);
+        if r <= low {
+            return false;
+        }
+        let next = seen | 1 << r % 64;
+        if seen == next {
+            return false;
+        }
+        seen = next;
+    }
+    true
+}
+
+// The same of eight tags. The loop has a constant length, so that the compiler unrolls it.
+fn eight(clients: usize, low: u64, tags: [Tag; 8]) -> bool
+    requires { ⌜ (clients ≤ 16) × (16 ≤ low) ⌝ }
+    ensures { λ r. ⌜ Risen clients low (each (tagAt tags) 0 8) r ⌝ }
+{
+    let mut seen = 0u64;
+    let mut i = 8usize;
+    while 0 < i {
+        i -= 1;
+        let c = tags[i].client;
+        let n = tags[i].number;
+        if clients <= less(c) {
+            return false;
+        }
+        let r = rank(n, c);
+        if r <= low {
+            return false;
+        }
+        let next = seen | 1 << r % 64;
+        if seen == next {
+            return false;
+        }
+        seen = next;
+    }
+    true
+}
+
+// The same of eight tags and a floor.
+fn full(clients: usize, f: Tag, tags: [Tag; 8]) -> bool
+    requires { ⌜ clients ≤ 16 ⌝ }
+    ensures { λ r. ⌜ Spread clients (some f) (each (tagAt tags) 0 8) r ⌝ }
+{
+    if f.number == 0 {
+        return eight(clients, 16 + f.client as u64, tags);
+    }
+    eight(clients, rank(f.number, f.client), tags)
 }
 
 // A yes shows that the state's part of question 6 is answered yes. A no shows nothing.
@@ -202,10 +256,16 @@ pub(crate) fn quick(cfg: Config, s: State) -> bool
     }
     let floor = s.floor;
     let tags = s.tags;
-    if !spread(cfg.c, floor, count, tags) {
+    if !floor_full(cfg, floor, count) {
         return false;
     }
-    floor_full(cfg, floor, count)
+    let Floor::At(f) = floor else {
+        return spread(cfg.c, count, tags);
+    };
+    if count == 8 {
+        return full(cfg.c, f, tags);
+    }
+    risen(cfg.c, base(f.number, f.client), count, tags)
 }
 
 // The state's part of question 6.

@@ -11,7 +11,6 @@ use config::Verdict;
 use record::Reading;
 use tag::Tag;
 ghost use mathlib.Core.Path.{_≡_};
-ghost use Rattle.config.specs.Config.{Valid};
 ghost use Rattle.config.specs.Questions.{firstNo};
 ghost use Rattle.server.specs.Calls.{FreshPost, LendPost, StepPost, stateQuestions};
 

@@ -1,33 +1,29 @@
 use borrow.Author.Needs.{needs}
 use mathlib.Core.Path.{_≡_, sym, _∙_, ap, subst}
-use mathlib.Core.Bool.{true, false, true≢false}
+use mathlib.Core.Bool.{true, false}
+use mathlib.Core.Option.{none}
 use Prim.Native.Nat.{ℕ, _+_, _-_, _*_, _%_, _^_, _≤_, _<_}
-use native.Mathlib.Nat.{mod-lt, one-mul, zero-lt-suc}
+use native.Mathlib.Nat.{mod-lt, zero-lt-suc}
 use native.Mathlib.Omega.{arith}
 use borrow.Author.Tests.{not-false}
 use lib.Bits.{bitOr}
-use lib.Dec.{lit<}
-use lib.Pow.{shl-exact}
 use Rattle.tag.specs.declared.Tag.{Tag}
+use Rattle.record.proofs.Clauses.{and-true}
 use Rattle.server.specs.Inner.{spotOf}
-use Rattle.server.specs.View.{floorOf, tagAt}
-use Rattle.server.proofs.Spots.{Seen, seen-all, seen-none, seen-one}
+use Rattle.server.specs.View.{tagAt}
+use Rattle.server.proofs.Spots.{Seen, one-bit, seen-all, seen-none, seen-one, spread-no}
 use Rattle.server.proofs.kept.spread.Statement.{statement}
 use Rattle.server.proofs.kept.spread.Tie as tie
 
--- the machine's shift
-one-bit : (s : ℕ) → s < 64 → (1 * 2 ^ s) % 18446744073709551616 ≡ 2 ^ s
-one-bit s h = shl-exact {a = 1} 1 s 64 (lit< tt) (omega arith) ∙ one-mul (2 ^ s)
-
 -- the tags from here on are seen
 abbrev Inv-loop : tie.InvT-loop
-Inv-loop clients floor count tags seen₀ i₀ seen i = (i ≤ count) × Seen clients (floorOf floor) (tagAt tags) seen i count
+Inv-loop clients count tags seen₀ i₀ seen i = (i ≤ count) × Seen clients none (tagAt tags) seen i count
 
 abbrev μ-loop : tie.MeasureT-loop
-μ-loop clients floor count tags seen₀ i₀ seen i = i
+μ-loop clients count tags seen₀ i₀ seen i = i
 
 loop-holds : tie.Need-loop-holds Inv-loop μ-loop
-loop-holds c = let a = c .args in (search needs, seen-none (a .clients) (floorOf (a .floor)) (tagAt (a .t4)) (a .count))
+loop-holds c = let a = c .args in (search needs, seen-none (a .clients) none (tagAt (a .t3)) (a .count))
 
 sub-i : tie.Need-sub-i Inv-loop μ-loop
 sub-i c = search needs
@@ -44,11 +40,11 @@ mul-client c = search needs
 element-copy-out-client : tie.Need-element-copy-out-client Inv-loop μ-loop
 element-copy-out-client c = search needs
 
-fits-requires : tie.Need-fits-requires Inv-loop μ-loop
-fits-requires c κs = search needs
+allowed-requires : tie.Need-allowed-requires Inv-loop μ-loop
+allowed-requires c κs = search needs
 
 returns : tie.Need-returns Inv-loop μ-loop
-returns c = record { limits = λ e. absurd (true≢false (sym e)); over = λ e. absurd (true≢false (sym e)); differ = λ e. absurd (true≢false (sym e)) }
+returns c = spread-no _ _ _
 
 spot-requires : tie.Need-spot-requires Inv-loop μ-loop
 spot-requires c κs = search needs
@@ -57,7 +53,7 @@ shl-next : tie.Need-shl-next Inv-loop μ-loop
 shl-next c = search needs
 
 returns-2 : tie.Need-returns-2 Inv-loop μ-loop
-returns-2 c = record { limits = λ e. absurd (true≢false (sym e)); over = λ e. absurd (true≢false (sym e)); differ = λ e. absurd (true≢false (sym e)) }
+returns-2 c = spread-no _ _ _
 
 loop-less : tie.Need-loop-less Inv-loop μ-loop
 loop-less c = search needs
@@ -66,18 +62,18 @@ loop-again : tie.Need-loop-again Inv-loop μ-loop
 loop-again c =
     let l = c .before .before .before .before .before .loop in
     let a = c .before .before .before .before .before .before .args in
-    let f : ℕ → Tag = tagAt (a .t4) in
+    let f : ℕ → Tag = tagAt (a .t3) in
     let j : ℕ = l .i - 1 in
     let e : l .i ≡ j + 1 = omega (arith, c .before .before .before .before .loop-test .taken) in
     let below : j < a .count = omega (arith, e, l .inv .0) in
     let bit : (1 * 2 ^ (c .before .spot .result)) % 18446744073709551616 ≡ 2 ^ spotOf (f j) =
-    ap (λ (n : ℕ). (1 * 2 ^ n) % 18446744073709551616) (c .before .spot .ensures) ∙ one-bit (spotOf (f j)) (mod-lt (f j .number * 8 + f j .client) (zero-lt-suc 63)) in
-    let seen : Seen (a .clients) (floorOf (a .floor)) f (l .seen) (j + 1) (a .count) =
-    subst (λ (k : ℕ). Seen (a .clients) (floorOf (a .floor)) f (l .seen) k (a .count)) e (l .inv .1) in (
+    ap (λ (n : ℕ). (1 * 2 ^ n) % 18446744073709551616) (c .before .spot .ensures) ∙ one-bit (spotOf (f j)) (mod-lt (f j .number * 16 + f j .client) (zero-lt-suc 63)) in
+    let seen : Seen (a .clients) none f (l .seen) (j + 1) (a .count) =
+    subst (λ (k : ℕ). Seen (a .clients) none f (l .seen) k (a .count)) e (l .inv .1) in (
       omega (arith, l .inv .0),
-      subst (λ (m : ℕ). Seen (a .clients) (floorOf (a .floor)) f (bitOr (l .seen) m) j (a .count)) (sym bit)
-          (seen-one (a .clients) (floorOf (a .floor)) f (l .seen) j (a .count) below seen
-          (sym (c .before .before .before .fits2 .ensures) ∙ not-false _ (c .before .before .if1 .left))
+      subst (λ (m : ℕ). Seen (a .clients) none f (bitOr (l .seen) m) j (a .count)) (sym bit)
+          (seen-one (a .clients) none f (l .seen) j (a .count) below seen
+          (and-true _ ∙ sym (c .before .before .before .allowed .ensures) ∙ not-false _ (c .before .before .if1 .left))
           (λ z. c .if2 .left (ap (λ (m : ℕ). bitOr (l .seen) m) bit ∙ z))),
     )
 
@@ -85,7 +81,7 @@ returns-3 : tie.Need-returns-3 Inv-loop μ-loop
 returns-3 c =
     let l = c .before .loop in
     let a = c .before .before .args in
-    seen-all (a .clients) (floorOf (a .floor)) (tagAt (a .t4)) (l .seen) (l .i) (a .count) (omega (arith, c .loop-test .left)) (l .inv .1) true
+    seen-all (a .clients) none (tagAt (a .t3)) (l .seen) (l .i) (a .count) (omega (arith, c .loop-test .left)) (l .inv .1) true
 
 pub spread-spec : {M : Type 1} → statement M
 spread-spec =
@@ -99,7 +95,7 @@ spread-spec =
     element-copy-out-number
     mul-client
     element-copy-out-client
-    fits-requires
+    allowed-requires
     returns
     spot-requires
     shl-next

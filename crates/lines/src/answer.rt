@@ -3,7 +3,6 @@ use super::text;
 use rig::Answer;
 use tag::Tag;
 ghost use Prim.Native.Nat.{_+_, _*_, _≤_};
-ghost use mathlib.Core.Path.{_≡_};
 ghost use lib.ListN.{length};
 ghost use Rattle.lines.specs.Line.{Appended, lineOf, refusedOf, saidOf, shownOf, tagOf, writtenOf};
 

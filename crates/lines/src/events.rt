@@ -1,16 +1,15 @@
 // Records of 4 + V bytes from standard input, an event each, and their lines to standard output.
 use super::answer;
 use config::Config;
-use rig::Answer;
 use rig::Rig;
-use rig::Turn;
+use rig::Seat;
 ghost use Prim.Native.Nat.{_+_, _*_, _≤_};
 ghost use lib.ListN.{length};
 
-// Between two events: what the last one left, the count of the next, the input that is not used yet, from `at` up to `end` of its
+// Between two events: the rig, the count of the next event, the input that is not used yet, from `at` up to `end` of its
 // buffer, and how much of the output's buffer is in use.
 struct Run {
-    turn: Turn,
+    rig: Rig,
     count: u64,
     at: usize,
     end: usize,
@@ -33,12 +32,8 @@ pub(crate) fn all(
     let mut read = io::buffer();
     let mut input = io::large_buffer();
     let mut output = io::large_buffer();
-    let turn = Turn {
-        answer: Answer::Nothing,
-        rig,
-    };
     let run = Run {
-        turn,
+        rig,
         count: 1,
         at: 0,
         end: 0,
@@ -122,7 +117,7 @@ fn block(
 {
     let size = read.len() + 4;
     let room = output.len() - (84 + 2 * read.len());
-    let mut turn = run.turn;
+    let mut rig = run.rig;
     let mut count = run.count;
     let mut at = run.at;
     let mut used = 0;
@@ -133,10 +128,10 @@ fn block(
         let next = at + size;
         let bytes = at + 4;
         let position = super::little(input[at + 2], input[at + 3]);
-        turn = rig::event(
+        let change = rig::changes(
             cfg,
             m,
-            turn.rig,
+            rig,
             input[at],
             input[at + 1],
             position,
@@ -147,13 +142,25 @@ fn block(
             boards,
             elements,
         );
-        let answer = turn.answer;
+        let answer = change.answer;
+        let part = change.part;
+        let s = part.server;
+        let c = part.client;
+        let kept = part.seat;
+        let state = part.state;
+        let seat = Seat {
+            state: kept,
+            up: part.up,
+        };
+        rig.servers[s] = seat;
+        rig.clients[c] = state;
+        rig.count = part.count;
         used = answer::line(count, answer, read, output, used);
         count = std::num::wrapping_add_u64(count, 1);
         at = next;
     }
     Run {
-        turn,
+        rig,
         count,
         at,
         end: run.end,
@@ -172,9 +179,9 @@ fn filled(run: Run, size: usize, input: &mut [u8]) -> Run
     }
     shift(run.at, rest, input);
     let end = fill(rest, size, input);
-    let turn = run.turn;
+    let rig = run.rig;
     Run {
-        turn,
+        rig,
         count: run.count,
         at: 0,
         end,

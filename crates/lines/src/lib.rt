@@ -62,7 +62,7 @@ fn measured(cfg: Config, m: usize) -> Lengths
 }
 
 // A number of two bytes, the low one first.
-pub fn little(low: u8, high: u8) -> usize
+pub(crate) fn little(low: u8, high: u8) -> usize
     ensures { λ r. ⌜ r ≡ low + 256 * high ⌝ }
 {
     low as usize + 256 * high as usize

@@ -11,11 +11,10 @@ use Rattle.history.specs.Board.{Call}
 use Rattle.rig.specs.declared.Rig.{Rig}
 use Rattle.rig.specs.declared.Turn.{Turn}
 use Rattle.rig.specs.Calls.{called}
-use Rattle.rig.specs.Inner.{AcceptPost, Accepting, Beginning, CrashClientPost, CrashServerPost, DoublePost, Flies, HandPost, Holding, LosePost, ReadPost, Seated, WritePost, Writing, refusedFor}
+use Rattle.rig.specs.Inner.{AcceptPost, Accepting, Beginning, CrashClientPost, CrashServerPost, DoublePost, Flies, HandPost, Holding, LosePost, ReadPost, WritePost, Writing, refusedFor}
 use Rattle.rig.specs.View.{Lent, lent}
 use Rattle.rig.proofs.Downed.{crash-client-event, crash-server-event}
 use Rattle.rig.proofs.Opened.{no-code, no-event}
-use Rattle.rig.proofs.Parties.{clients-seated, count-most, servers-seated}
 use Rattle.rig.proofs.Quiet.{double-event, lose-event}
 
 module _ (cfg : Config) (m : ℕ) (r : Rig) (board read messages stores boards elements : List ℕ) where
@@ -30,7 +29,7 @@ module _ (cfg : Config) (m : ℕ) (r : Rig) (board read messages stores boards e
     pub writing : Writing cfg m r board messages boards
     writing = record { beginning = beginning; board-length = h .board-length; boards-length = hold .boards-length }
 
-    pub flies : (n : ℕ) → r .count ≤ n → n ≤ m → Flies n r messages
+    pub flies : (n : ℕ) → r .count ≤ n → n ≤ m → Flies n (r .count) messages
     flies n low high =
         record {
           most = omega (arith, high, hold .most);
@@ -38,9 +37,6 @@ module _ (cfg : Config) (m : ℕ) (r : Rig) (board read messages stores boards e
           fits = omega (arith, low, high, hold .messages-length);
           room = omega (arith, high, hold .messages-length);
         }
-
-    pub seated : Seated cfg r
-    seated = record { valid = hold .valid; servers = servers-seated cfg m r (hold .kept); clients = clients-seated cfg m r (hold .kept) }
 
   -- what each event leaves
   module _ (code party position : ℕ) (t : Turn) where

@@ -15,6 +15,7 @@ use Rattle.laws.proofs.Bools.{and-left, and-right}
 use Rattle.config.specs.declared.Config.{Config}
 use Rattle.config.specs.Config.{Valid, boardLength, questions}
 use Rattle.config.specs.Number.{clientNumber}
+use Rattle.config.specs.Refusal.{verdictNumber}
 use Rattle.config.specs.Questions.{firstNo, within}
 use Rattle.config.proofs.Questions.{last-yes, questions-numbered}
 use Rattle.config.proofs.Valid.{valid-asked}
@@ -26,7 +27,7 @@ use Rattle.record.specs.declared.Kind.{Kind}
 use Rattle.record.specs.declared.Kind.the-variants.{Query, QueryAnswer, PreWrite, PreWriteAnswer, WriteFinalise, WriteFinaliseAnswer, ReadFinalise, ReadFinaliseAnswer}
 use Rattle.record.specs.Message.{Message}
 use Rattle.record.specs.Record.{isPresent, kindNumber, messageClauses, messageOf, ofConfig, presence, wellFormed}
-use Rattle.record.proofs.Clauses.{all-at, its-length}
+use Rattle.record.proofs.Clauses.{all-at}
 use Rattle.record.proofs.Laws.{Bytes, message-of-config}
 use Rattle.client.specs.declared.Moved.{Moved}
 use Rattle.client.specs.declared.Phase as clientPhase
@@ -46,13 +47,13 @@ use Rattle.history.specs.Client as protocol
 use Rattle.history.specs.Client.{Client, Phase, idle, asking, preWriting, finalisingWrite, finalisingRead, down, nothing, spent, asked, awaited, awaits, counted, counting, endRead, ends, enough, enoughToRead, highestNumber, isFirst, sendEach, sendPreWrites, sendReadFinalises, sendWriteFinalises, settle, settling, stays}
 use Rattle.history.specs.Rig.{isForServer}
 use Rattle.history.proofs.Basics.{cond-elim}
-use Rattle.rig.specs.Heard.{HeardPost, Hears, Stepped, stepOf}
+use Rattle.rig.specs.Heard.{HearPost, HeardPost, Hears, Stepped, stepOf}
 use Rattle.rig.specs.View.{part}
 use Rattle.rig.proofs.Begun.{length-toEach}
 use Rattle.rig.proofs.Formed.{PhaseFits, step-sound}
 use Rattle.rig.proofs.Places.{part-other, part-own, within-both}
 use Rattle.rig.proofs.Sizes.{boards-small, elements-small, part-fits}
-use Rattle.rig.proofs.Starts.{length-mid, mid, put, put-form, put-same}
+use Rattle.rig.proofs.Starts.{length-mid, put, put-form, put-same}
 
 -- no element is present
 pub absent : (o : Option (List ℕ)) → not (isPresent o) ≡ true → o ≡ none
@@ -161,9 +162,15 @@ for-client WriteFinaliseAnswer e = refl
 for-client ReadFinalise e = absurd (true≢false e)
 for-client ReadFinaliseAnswer e = refl
 
+-- 12 is the first no, of 12, 16 and 14, where it is answered no
+first-12 : (well own expected : Bool) → eqb (cond well (cond own (cond expected 0 14) 16) 12) 12 ≡ not well
+first-12 false own expected = refl
+first-12 true false expected = refl
+first-12 true true false = refl
+first-12 true true true = refl
+
 module _ (cfg : Config) (valid : Valid cfg) (c : ℕ) (x : client.State) (message kept es es′ sends sends′ board board′ : List ℕ) (y : Moved)
-    (me : clientNumber (x .me) ≡ c) (within : stateWithin cfg x ≡ true)
-    (well : wellFormed cfg message ≡ true) (kind : isForServer (messageOf cfg message .kind) ≡ false) (own : messageOf cfg message .client ≡ c)
+    (me : clientNumber (x .me) ≡ c) (within : stateWithin cfg x ≡ true) (message-long : length message ≡ 80)
     (kept-long : length kept ≡ boardLength cfg) (es-long : length es ≡ cfg .n * cfg .e) (sends-long : length sends ≡ 80 * cfg .n) (board-long : length board ≡ boardLength cfg)
     (post : StepPost cfg (firstNo (stepQuestions cfg x message kept es sends board)) x message kept es es′ sends sends′ board board′ y) where
   abbrev w : Message (List ℕ)
@@ -175,60 +182,81 @@ module _ (cfg : Config) (valid : Valid cfg) (c : ℕ) (x : client.State) (messag
   abbrev refusal : ℕ
   refusal = firstNo (stepQuestions cfg x message kept es sends board)
 
-  -- question 14 alone is left
-  last-asked : refusal ≡ cond (awaited key before w) 0 14
+  -- questions 12, 16 and 14 are left
+  last-asked : refusal ≡ cond (wellFormed cfg message) (cond (isFor x w) (cond (awaited key before w) 0 14) 16) 12
   unfolding answerQuestions shapeQuestions firstNo
   last-asked =
       let sized = stepSized cfg (length message) (length kept) (length es) (length sends) (length board) in
       let is-sized : sized ≡ true =
-      ap₂ _&&_ (eq-eqb (length message) 80 (its-length cfg message well))
+      ap₂ _&&_ (eq-eqb (length message) 80 message-long)
       (ap₂ _&&_ (eq-eqb (length kept) (boardLength cfg) kept-long)
       (ap₂ _&&_ (eq-eqb (length es) (cfg .n * cfg .e) es-long)
       (ap₂ _&&_ (eq-eqb (length sends) (80 * cfg .n) sends-long) (eq-eqb (length board) (boardLength cfg) board-long)))) in
       let six : (sized && stateWithin cfg x) ≡ true = ap₂ _&&_ is-sized within in
-      let for : isFor x w ≡ true = ap₂ _&&_ (eq-eqb (w .client) (clientNumber (x .me)) (own ∙ sym me)) (for-client (w .kind) kind) in
       asked-later cfg x message kept es sends board
       (last-yes (questions cfg) 6 (sized && stateWithin cfg x) (questions-numbered cfg) (valid-asked cfg valid) six)
-      ∙ rw (well, for)
 
-  -- the protocol's step stays too where the answer is not awaited
-  either-way : unlessNo refusal before (clientStep cfg x message kept es) ≡ clientStep cfg x message kept es
-  unfolding protocol.clientStep
-  either-way =
-      ap (λ k. cond (eqb k 0) (clientStep cfg x message kept es) (stays before)) last-asked
-      ∙ told (awaited key before w)
-    where
-      told : (z : Bool) → cond (eqb (cond z 0 14) 0) (cond z (settle (element cfg) (decodedPairs cfg) cfg (clientNumber (x .me)) (counted key before w)) (stays before)) (stays before)
-          ≡ cond z (settle (element cfg) (decodedPairs cfg) cfg (clientNumber (x .me)) (counted key before w)) (stays before)
-      told true = refl
-      told false = refl
+  pub tells-12 : eqb (verdictNumber (y .verdict)) 12 ≡ not (wellFormed cfg message)
+  tells-12 =
+      ap (λ n. eqb n 12) (post .answered .number ∙ last-asked)
+      ∙ first-12 (wellFormed cfg message) (isFor x w) (awaited key before w)
 
-  placed-none : (m : Message (List ℕ)) → m .element ≡ none → placed cfg m es ≡ es
-  unfolding placedAt
-  placed-none m e = ap (λ o. placedAt cfg (m .server) o es) e
+  -- an ill-formed record leaves everything
+  module _ (ill : wellFormed cfg message ≡ false) where
+    is-12 : refusal ≡ 12
+    is-12 = last-asked ∙ ap (λ z. cond z (cond (isFor x w) (cond (awaited key before w) 0 14) 16) 12) ill
 
-  pub stepped : Stepped cfg c x w kept es es′ sends sends′ board board′ y
-  stepped =
-      let o = unlessNo refusal before (clientStep cfg x message kept es) in
-      let its : o ≡ protocol.clientStep key (element cfg) (decodedPairs cfg) cfg c before w =
-      either-way ∙ ap (λ n. protocol.clientStep key (element cfg) (decodedPairs cfg) cfg n before w) me in
-      record {
-        client = post .answered .client ∙ ap (λ z. z .client) its;
-        many = post .answered .count ∙ ap (λ z. length (z .sends)) its;
-        out = post .answered .out ∙ ap (λ z. send.front (send.records cfg (z .sends)) sends) its;
-        ended = post .ended ∙ ap (λ z. z .ended) its;
-        lent = post .lent ∙ ap (λ z. shown (z .ended) board) its;
-        self = post .answered .self;
-        within = post .answered .within within;
-      }
+    pub ill-elements : es′ ≡ es
+    ill-elements = post .elements ∙ ap (λ n. cond (eqb n 0) (placed cfg w es) es) is-12
 
-  -- an answer without an element leaves the elements
-  pub bare-elements : w .element ≡ none → es′ ≡ es
-  bare-elements e = post .elements ∙ same (eqb refusal 0)
-    where
-      same : (z : Bool) → cond z (placed cfg w es) es ≡ es
-      same true = placed-none w e
-      same false = refl
+    pub ill-lent : board′ ≡ board
+    unfolding stays
+    ill-lent = post .lent ∙ ap (λ n. shown (unlessNo n before (clientStep cfg x message kept es) .ended) board) is-12
+
+  module _ (well : wellFormed cfg message ≡ true) (kind : isForServer (messageOf cfg message .kind) ≡ false) (own : messageOf cfg message .client ≡ c) where
+    own-asked : refusal ≡ cond (awaited key before w) 0 14
+    own-asked =
+        let for : isFor x w ≡ true = ap₂ _&&_ (eq-eqb (w .client) (clientNumber (x .me)) (own ∙ sym me)) (for-client (w .kind) kind) in
+        last-asked ∙ ap₂ (λ p q. cond p (cond q (cond (awaited key before w) 0 14) 16) 12) well for
+
+    -- the protocol's step stays too where the answer is not awaited
+    either-way : unlessNo refusal before (clientStep cfg x message kept es) ≡ clientStep cfg x message kept es
+    unfolding protocol.clientStep
+    either-way =
+        ap (λ k. cond (eqb k 0) (clientStep cfg x message kept es) (stays before)) own-asked
+        ∙ told (awaited key before w)
+      where
+        told : (z : Bool) → cond (eqb (cond z 0 14) 0) (cond z (settle (element cfg) (decodedPairs cfg) cfg (clientNumber (x .me)) (counted key before w)) (stays before)) (stays before)
+            ≡ cond z (settle (element cfg) (decodedPairs cfg) cfg (clientNumber (x .me)) (counted key before w)) (stays before)
+        told true = refl
+        told false = refl
+
+    placed-none : (m : Message (List ℕ)) → m .element ≡ none → placed cfg m es ≡ es
+    unfolding placedAt
+    placed-none m e = ap (λ o. placedAt cfg (m .server) o es) e
+
+    pub stepped : Stepped cfg c x w kept es es′ sends sends′ board board′ y
+    stepped =
+        let o = unlessNo refusal before (clientStep cfg x message kept es) in
+        let its : o ≡ protocol.clientStep key (element cfg) (decodedPairs cfg) cfg c before w =
+        either-way ∙ ap (λ n. protocol.clientStep key (element cfg) (decodedPairs cfg) cfg n before w) me in
+        record {
+          client = post .answered .client ∙ ap (λ z. z .client) its;
+          many = post .answered .count ∙ ap (λ z. length (z .sends)) its;
+          out = post .answered .out ∙ ap (λ z. send.front (send.records cfg (z .sends)) sends) its;
+          ended = post .ended ∙ ap (λ z. z .ended) its;
+          lent = post .lent ∙ ap (λ z. shown (z .ended) board) its;
+          self = post .answered .self;
+          within = post .answered .within within;
+        }
+
+    -- an answer without an element leaves the elements
+    pub bare-elements : w .element ≡ none → es′ ≡ es
+    bare-elements e = post .elements ∙ same (eqb refusal 0)
+      where
+        same : (z : Bool) → cond z (placed cfg w es) es ≡ es
+        same true = placed-none w e
+        same false = refl
 
 -- the number of the phase's tag has four bytes
 unfoldable pub Numbered : clientPhase.Phase → Type 0
@@ -288,9 +316,6 @@ module _ {cfg : Config} {x : client.State} {c : ℕ} {message read boards elemen
   elements-room : (c - 1) * wide + wide ≤ length elements
   elements-room = elements-end asks
 
-  of : ofConfig cfg says ≡ true
-  of = message-of-config cfg (asks .valid .e-high) message bytes (asks .well)
-
   fitting : PhaseFits cfg (clientView.view cfg x own-board own-elements .phase)
   unfolding clientView.view stateWithin
   fitting = phase-fits cfg (x .phase) own-board own-elements (and-right (within 1 (cfg .c) (clientNumber (x .me))) (phaseWithin cfg (x .phase)) (asks .within)) numbered
@@ -307,41 +332,68 @@ module _ {cfg : Config} {x : client.State} {c : ℕ} {message read boards elemen
     its-own : part wide (c - 1) elements′ ≡ es′
     its-own = ap (part wide (c - 1)) elements-are ∙ part-own wide (c - 1) elements es′ (es-long ∙ was-long) elements-room
 
-    it-stepped : Stepped cfg c x says kept es es′ sends sends′ read read′ y
-    it-stepped =
-        stepped cfg (asks .valid) c x message kept es es′ sends sends′ read read′ y (asks .me) (asks .within) (asks .well) (asks .kind) (asks .client)
-        kept-long was-long (asks .sends-length) (asks .read-length) post
+    put-back : es′ ≡ es → elements′ ≡ elements
+    put-back e =
+        elements-are
+        ∙ sym (put-form ((c - 1) * wide) wide elements es′)
+        ∙ ap (put ((c - 1) * wide) wide elements) (e ∙ es-is)
+        ∙ put-same ((c - 1) * wide) wide elements
 
-    of-parts : Stepped cfg c x says own-board own-elements (part wide (c - 1) elements′) sends sends′ read read′ y
-    of-parts =
-        subst (λ k. Stepped cfg c x says k own-elements (part wide (c - 1) elements′) sends sends′ read read′ y) kept-is
-        (subst (λ e. Stepped cfg c x says kept e (part wide (c - 1) elements′) sends sends′ read read′ y) es-is
-        (subst (λ e. Stepped cfg c x says kept es e sends sends′ read read′ y) (sym its-own) it-stepped))
+    module _ (well : wellFormed cfg message ≡ true) (kind : isForServer (says .kind) ≡ false) (own : says .client ≡ c) where
+      of : ofConfig cfg says ≡ true
+      of = message-of-config cfg (asks .valid .e-high) message bytes well
 
-    abbrev its-move : protocol.Moved (List ℕ) (List ℕ)
-    its-move = stepOf cfg c x says own-board own-elements
+      it-stepped : Stepped cfg c x says kept es es′ sends sends′ read read′ y
+      it-stepped =
+          stepped cfg (asks .valid) c x message kept es es′ sends sends′ read read′ y (asks .me) (asks .within) (asks .message-length)
+          kept-long was-long (asks .sends-length) (asks .read-length) post well kind own
 
-    -- where it sends something
-    left-alone : (y .sent ≡ 0 → ⊥) → (elements′ ≡ elements) × (read′ ≡ read)
-    left-alone sends-some =
-        let bare = sends-bare cfg c says of (clientView.view cfg x own-board own-elements) (λ e. sends-some (of-parts .many ∙ e)) in
-        let same : es′ ≡ mid ((c - 1) * wide) wide elements =
-        bare-elements cfg (asks .valid) c x message kept es es′ sends sends′ read read′ y (asks .me) (asks .within) (asks .well) (asks .kind) (asks .client)
-        kept-long was-long (asks .sends-length) (asks .read-length) post (bare .0) ∙ es-is in (
-          elements-are ∙ sym (put-form ((c - 1) * wide) wide elements es′) ∙ ap (put ((c - 1) * wide) wide elements) same ∙ put-same ((c - 1) * wide) wide elements,
-          of-parts .lent ∙ ap (λ e. shown e read) (bare .1),
-        )
+      of-parts : Stepped cfg c x says own-board own-elements (part wide (c - 1) elements′) sends sends′ read read′ y
+      of-parts =
+          subst (λ k. Stepped cfg c x says k own-elements (part wide (c - 1) elements′) sends sends′ read read′ y) kept-is
+          (subst (λ e. Stepped cfg c x says kept e (part wide (c - 1) elements′) sends sends′ read read′ y) es-is
+          (subst (λ e. Stepped cfg c x says kept es e sends sends′ read read′ y) (sym its-own) it-stepped))
 
-    pub heard : HeardPost cfg x c says boards elements elements′ sends sends′ read read′ y
-    heard =
+      abbrev its-move : protocol.Moved (List ℕ) (List ℕ)
+      its-move = stepOf cfg c x says own-board own-elements
+
+      -- where it sends something
+      left-alone : (y .sent ≡ 0 → ⊥) → (elements′ ≡ elements) × (read′ ≡ read)
+      left-alone sends-some =
+          let bare = sends-bare cfg c says of (clientView.view cfg x own-board own-elements) (λ e. sends-some (of-parts .many ∙ e)) in
+          let same : es′ ≡ es =
+          bare-elements cfg (asks .valid) c x message kept es es′ sends sends′ read read′ y (asks .me) (asks .within) (asks .message-length)
+          kept-long was-long (asks .sends-length) (asks .read-length) post well kind own (bare .0) in (
+            put-back same,
+            of-parts .lent ∙ ap (λ e. shown e read) (bare .1),
+          )
+
+      heard : HeardPost cfg x c says boards elements elements′ sends sends′ read read′ y
+      heard =
+          record {
+            stepped = of-parts;
+            others = λ p ne. ap (part wide p) elements-are ∙ part-other wide (c - 1) elements es′ (es-long ∙ was-long) elements-room p ne;
+            still = left-alone;
+            sound =
+                step-sound cfg (asks .valid) c (within-both c (cfg .c) (asks .low) (asks .high)) (clientView.view cfg x own-board own-elements) fitting says of
+                own;
+            few = omega (arith, of-parts .many, sends-few cfg c says of (clientView.view cfg x own-board own-elements));
+          }
+
+    pub heeded : HearPost cfg x c message boards elements elements′ sends sends′ read read′ y
+    heeded =
         record {
-          stepped = of-parts;
-          others = λ p ne. ap (part wide p) elements-are ∙ part-other wide (c - 1) elements es′ (es-long ∙ was-long) elements-room p ne;
-          still = left-alone;
-          sound =
-              step-sound cfg (asks .valid) c (within-both c (cfg .c) (asks .low) (asks .high)) (clientView.view cfg x own-board own-elements) fitting says of
-              (asks .client);
-          few = omega (arith, of-parts .many, sends-few cfg c says of (clientView.view cfg x own-board own-elements));
+          number =
+              tells-12 cfg (asks .valid) c x message kept es es′ sends sends′ read read′ y (asks .me) (asks .within) (asks .message-length)
+              kept-long was-long (asks .sends-length) (asks .read-length) post;
+          held = λ ill. (
+            put-back
+                (ill-elements cfg (asks .valid) c x message kept es es′ sends sends′ read read′ y (asks .me) (asks .within) (asks .message-length)
+                kept-long was-long (asks .sends-length) (asks .read-length) post ill),
+            ill-lent cfg (asks .valid) c x message kept es es′ sends sends′ read read′ y (asks .me) (asks .within) (asks .message-length)
+                kept-long was-long (asks .sends-length) (asks .read-length) post ill,
+          );
+          heard = heard;
         }
 
 -- a phase that the code holds has such a number

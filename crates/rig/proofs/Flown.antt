@@ -1,10 +1,10 @@
 -- The cases of losing and doubling a message in flight.
-use Prim.Native.Nat.{ℕ, suc, _+_, _-_, _*_, _≤_, _<_}
+use Prim.Native.Nat.{ℕ, zero, suc, _+_, _-_, _*_, _≤_, _<_}
 use mathlib.Core.Path.{_≡_, refl, sym, ap, ap₂, _∙_}
-use mathlib.Core.List.{List, _++_, append-assoc, append-nil}
+use mathlib.Core.List.{List, [], _∷_, _++_, append-assoc, append-nil}
 use native.Mathlib.Omega.{arith}
-use lib.ListN.{length, take, drop, length-append, length-drop, drop-of-length-le}
-use lib.Seq.{paste, length-paste, length-take-le, take-length, take-all, drop-drop}
+use lib.ListN.{length, take, drop, length-append, length-drop, drop-of-length-le, take-append-drop}
+use lib.Seq.{paste, length-paste, length-take-le, take-length, take-all, take-take, drop-drop}
 use Rattle.config.specs.declared.Refusal.{Refusal}
 use Rattle.history.specs.Rig.{without}
 use Rattle.rig.specs.declared.Rig.{Rig}
@@ -20,6 +20,38 @@ closing : (i k : ℕ) (ms : List ℕ) → 80 * (i + suc k) ≤ length ms
 closing i k ms fits =
     ap (records (i + k)) (append-assoc (take (80 * i) ms) (take (80 * k) (drop (80 * i + 80) ms)) (drop (80 * i + 80 * k) ms))
     ∙ lost i k ms fits (drop (80 * i + 80 * k) ms)
+
+drop-take : (m w n : ℕ) (l : List ℕ) → w ≡ m + n → drop m (take w l) ≡ take n (drop m l)
+drop-take zero w n l e = let f : w ≡ n = omega (arith, e) in ap (λ k. take k l) f
+drop-take (suc m) zero n l e = absurd (omega (arith, e))
+drop-take (suc m) (suc w) zero [] e = refl
+drop-take (suc m) (suc w) (suc n) [] e = refl
+drop-take (suc m) (suc w) n (x ∷ xs) e = drop-take m w n xs (omega (arith, e))
+
+-- a record taken out of a part of the messages is taken out of them
+pub closed : (ms mid : List ℕ) (at end : ℕ) → at ≤ end → end + 80 ≤ length ms
+    → mid ≡ paste (take (end + 80 - at) (drop at ms)) 0 (drop 80 (take (end + 80 - at) (drop at ms))) (length (take (end + 80 - at) (drop at ms)) - 80)
+    → take at ms ++ (mid ++ drop (end + 80 - at) (drop at ms)) ≡ paste ms at (drop (at + 80) ms) (end - at)
+closed ms mid at end h room e =
+    let n = end - at in
+    let w = end + 80 - at in
+    let rest = drop at ms in
+    let part = take w rest in
+    let front-first : w ≡ 80 + n = omega (arith, h) in
+    let back-first : w ≡ n + 80 = omega (arith, h) in
+    let size : length part ≡ w = length-take-le w rest (omega (arith, h, room, length-drop at ms)) in
+    let long : length part - 80 ≡ n = omega (arith, size, h) in
+    let long-on : 0 + n ≡ n = omega arith in
+    let front : take n (drop 80 part) ≡ take n (drop (at + 80) ms) =
+    ap (take n) (drop-take 80 w n rest front-first ∙ ap (take n) (drop-drop 80 at ms)) ∙ take-take n n (drop (at + 80) ms) (omega arith) in
+    let back : drop n part ++ drop w rest ≡ drop (at + n) ms =
+    ap₂ _++_ (drop-take n w 80 rest back-first) (ap (λ k. drop k rest) back-first ∙ sym (drop-drop 80 n rest))
+    ∙ take-append-drop 80 (drop n rest)
+    ∙ drop-drop n at ms in
+    ap (λ x. take at ms ++ (x ++ drop w rest))
+    (e ∙ ap (λ k. paste part 0 (drop 80 part) k) long ∙ ap₂ _++_ front (ap (λ k. drop k part) long-on))
+    ∙ ap (λ x. take at ms ++ x) (append-assoc (take n (drop (at + 80) ms)) (drop n part) (drop w rest) ∙ ap (λ x. take n (drop (at + 80) ms) ++ x) back)
+    ∙ sym (append-assoc (take at ms) (take n (drop (at + 80) ms)) (drop (at + n) ms))
 
 module _ (r : Rig) (i : ℕ) (ms : List ℕ) where
   pub lose-missing : r .count ≤ i → LosePost r i ms (refusedFor Refusal.Missing r) ms

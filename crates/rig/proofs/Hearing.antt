@@ -7,7 +7,7 @@ use mathlib.Core.List.{List, _++_, append-assoc, append-nil, map}
 use native.Mathlib.Omega.{arith}
 use borrow.Author.Tests.{eq-eqb, eqb-true, le-leb, lt-leb}
 use lib.Dec.{eqb, leb}
-use lib.ListN.{length, take, drop, getD, length-append, length-drop, drop-of-length-le}
+use lib.ListN.{length, take, drop, length-append, length-drop, drop-of-length-le}
 use lib.Seq.{drop-at, drop-drop, take-all, take-at, take-length}
 use Rattle.laws.proofs.Bools.{and-left}
 use Rattle.config.specs.declared.Client.{Client}
@@ -39,14 +39,13 @@ use Rattle.rig.specs.declared.Turn.{Turn}
 use Rattle.rig.specs.View.{Lent, flight, messagesOf, part, place, records, view}
 use Rattle.rig.specs.Questions.{clientKept, moveOf, rigKept, sizedBy}
 use Rattle.rig.specs.Calls.{EventPost, answerOf, eventNo, isRead, recordsAfter}
-use Rattle.rig.specs.Heard.{HeardPost, Hears, Stepped, closedUp, endedBy, replaced, settled, stepOf}
+use Rattle.rig.specs.Heard.{HeardPost, Stepped, closedUp, endedBy, replaced, settled, stepOf}
 use Rattle.rig.specs.Inner.{AnswerPost, Answering, Ready, counted, handing, recordAt, refusedFor, withClient}
-use Rattle.rig.proofs.Crashed.{place-some}
 use Rattle.rig.proofs.Downed.{client-at}
 use Rattle.rig.proofs.Flown.{lose-done}
 use Rattle.rig.proofs.Handed.{hand-moves, hand-number, is-hand, left-list}
 use Rattle.rig.proofs.Moved.{Sound, client-moved, length-sends, messages-sent, records-sent}
-use Rattle.rig.proofs.Parties.{client-changed, client-kept, clients-seated, count-most, within-at}
+use Rattle.rig.proofs.Parties.{client-changed, client-kept, clients-seated, count-most}
 use Rattle.rig.proofs.Places.{within-both, within-high, within-low}
 use Rattle.rig.proofs.Quiet.{length-without, many, ready-kept, recount-kept, withMessages}
 use Rattle.rig.proofs.Records.{length-records}
@@ -233,9 +232,9 @@ module _ (cfg : Config) (valid : Valid cfg) (m : ℕ) (start : List ℕ) (r : Ri
         t read′ l′ answers touches sees flies keeps
         (ap₂ (λ n k. sizedBy cfg m n (length (l .stores)) (length (l .boards)) k) messages-long elements-long)
 
--- what the event asks of the client's step, and what follows from the step
+-- what follows from the client's step
 module _ {cfg : Config} {m : ℕ} {r : Rig} {i c : ℕ} {bytes read messages boards elements : List ℕ} (asks : Answering cfg m r i c bytes read messages boards elements) where
-  pub client-there : isWithin c (cfg .c) ≡ true
+  client-there : isWithin c (cfg .c) ≡ true
   unfolding messageOf
   client-there =
       let h = its-client cfg bytes (asks .handing .well) in
@@ -243,39 +242,7 @@ module _ {cfg : Config} {m : ℕ} {r : Rig} {i c : ℕ} {bytes read messages boa
       (omega (arith, asks .client, config.within-low 1 (cfg .c) (clientAt bytes) h))
       (omega (arith, asks .client, config.within-high 1 (cfg .c) (clientAt bytes) h))
 
-  pub client-low : 1 ≤ c
-  client-low = within-low c (cfg .c) client-there
-
-  pub client-high : c ≤ 16
-  client-high = omega (arith, within-high c (cfg .c) client-there, asks .handing .valid .c-high)
-
-  pub client-stood : (d : client.State) → place (cfg .c) c (r .clients) ≡ some (getD (r .clients) (c - 1) d)
-  client-stood d = place-some (cfg .c) c (r .clients) d client-there (clients-seated cfg (asks .handing .most) r (asks .handing .kept))
-
-  pub count-high : r .count ≤ 512
-  count-high = omega (arith, count-most cfg (asks .handing .most) r (asks .handing .kept), asks .handing .most-high)
-
-  pub left-fit : 80 * (r .count - 1) + 80 ≤ length messages
-  left-fit = omega (arith, count-most cfg (asks .handing .most) r (asks .handing .kept), asks .handing .inside, asks .handing .messages-length)
-
   module _ {x : client.State} (stood : place (cfg .c) c (r .clients) ≡ some x) where
-    pub hears : (sends : List ℕ) → length sends ≡ 80 * cfg .n → Hears cfg x c bytes read boards elements sends
-    hears sends long =
-        record {
-          valid = asks .handing .valid;
-          low = within-low c (cfg .c) client-there;
-          high = within-high c (cfg .c) client-there;
-          me = number-at cfg (asks .handing .most) r (asks .handing .kept) c x client-there stood;
-          within = within-at cfg (asks .handing .most) r (asks .handing .kept) c x client-there stood;
-          well = asks .handing .well;
-          kind = asks .kind;
-          client = asks .client;
-          read-length = asks .read-length;
-          boards-length = asks .boards-length;
-          elements-length = asks .elements-length;
-          sends-length = long;
-        }
-
     module _ {sends sends′ read′ elements′ : List ℕ} {y : Moved} (post : HeardPost cfg x c (messageOf cfg bytes) boards elements elements′ sends sends′ read read′ y) where
       abbrev its-move : protocolClient.Moved (List ℕ) (List ℕ)
       its-move = stepOf cfg c x (messageOf cfg bytes) (part (boardLength cfg) (c - 1) boards) (part (cfg .n * cfg .e) (c - 1) elements)

@@ -1,6 +1,6 @@
 -- What the types of a rig's parts tell: the bytes of a record are bytes, and the numbers of a server's tags have four bytes.
 use Prim.Native.Nat.{ℕ, zero, suc, _<_, _≤_}
-use mathlib.Core.Path.{_≡_, sym, ap, subst}
+use mathlib.Core.Path.{_≡_, sym, ap, subst, _∙_}
 use mathlib.Core.List.{List, [], _∷_, map}
 use native.Mathlib.Omega.{arith}
 use native.Mathlib.Decide.{decLt}
@@ -20,8 +20,10 @@ use Rattle.record.specs.Record.{highestNumber}
 use Rattle.record.proofs.Laws.{Bytes}
 use Rattle.server.specs.declared.State.{State}
 use Rattle.server.specs.View.{tagAt}
+use Rattle.client.proofs.State as client
+use Rattle.rig.specs.declared.Part.{Part}
 use Rattle.rig.specs.declared.Rig.{Rig}
-use Rattle.rig.specs.declared.Seat.{Seat}
+use Rattle.rig.proofs.Part as part
 use Rattle.rig.proofs.Rig as rig
 use Rattle.rig.proofs.Seat as seat
 
@@ -34,11 +36,15 @@ each-at R (x ∷ xs) (u ∷ us) h zero l d = (u, h .0)
 each-at R (x ∷ xs) (u ∷ us) h (suc j) l d = each-at R xs us (h .1) j (omega (arith, l)) d
 
 -- the same of an array in a struct
-pub field-at : (F : Field) (n : ℕ) (xs : List (F .Value)) (vs : List Val) → Is (array-field F n .row) (map (F .into) xs) vs
+field-at : (F : Field) (n : ℕ) (xs : List (F .Value)) (vs : List Val) → Is (array-field F n .row) (map (F .into) xs) vs
     → (j : ℕ) → j < length xs → (d : F .Value) → (u : Val) × Is (F .row) (F .into (getD xs j d)) (u ∷ [])
 field-at F n xs vs p j l d =
     subst (λ z. (u : Val) × Is (F .row) z (u ∷ [])) (List·getD-map (F .into) xs j d)
     (each-at (F .row) (map (F .into) xs) (p .0) (p .1 .1) j (subst (λ k. j < k) (sym (length-map xs (F .into))) l) (F .into d))
+
+-- how many it has
+array-length : (F : Field) (n : ℕ) (xs : List (F .Value)) (vs : List Val) → Is (array-field F n .row) (map (F .into) xs) vs → length xs ≡ n
+array-length F n xs vs p = sym (length-map xs (F .into)) ∙ p .1 .0 .1
 
 -- a record's bytes
 pub bytes-are : (n : ℕ) (bs : List ℕ) (vs : List Val) → Is (Array (UInt w8) n) bs vs → Bytes bs
@@ -63,12 +69,19 @@ pub record Numbered (x : State) : Type 0 where
   pub highest : x .highest .number ≤ highestNumber
   pub tags : (j : ℕ) → tagAt (x .tags) j .number ≤ highestNumber
 
--- those of every server of a rig have
-pub seat-numbered : (r : Rig) (vs : List Val) → Is rig.the-row r vs → (j : ℕ) → j < length (r .servers) → (d : Seat) → Numbered (getD (r .servers) j d .state)
-seat-numbered r vs p j l d =
-    let x = getD (r .servers) j d .state in
-    let q = field-at seat.the-field 16 (r .servers) _ (p .1 .1 .0) j l d .1 .1 .1 .0 in
+-- those of a part's server have
+pub part-numbered : (p : Part) (vs : List Val) → Is part.the-row p vs → Numbered (p .seat)
+part-numbered p vs is =
+    let x = p .seat in
+    let q = is .1 .1 .1 .0 in
     record {
       highest = tag-number (x .highest) _ (q .1 .1 .1 .0);
       tags = tags-numbers 8 (x .tags) _ (q .1 .1 .1 .1 .1 .1 .0);
     }
+
+-- a rig has sixteen places for servers, and as many for clients
+pub server-places : (r : Rig) (vs : List Val) → Is rig.the-row r vs → length (r .servers) ≡ 16
+server-places r vs p = array-length seat.the-field 16 (r .servers) _ (p .1 .1 .0)
+
+pub client-places : (r : Rig) (vs : List Val) → Is rig.the-row r vs → length (r .clients) ≡ 16
+client-places r vs p = array-length client.the-field 16 (r .clients) _ (p .1 .1 .1 .0)

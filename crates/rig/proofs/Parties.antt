@@ -6,7 +6,7 @@ use mathlib.Core.Option.{Option, none, some}
 use mathlib.Core.List.{List, [], _∷_}
 use native.Mathlib.Omega.{arith}
 use native.Mathlib.Decide.{ℕ-discrete, decLt}
-use borrow.Author.Tests.{le-leb, lt-leb, leb-true}
+use borrow.Author.Tests.{le-leb, leb-true}
 use lib.Dec.{eqb, leb}
 use lib.ListN.{length, set, getElem?}
 use Rattle.laws.proofs.Bools.{and-left, and-right}
@@ -51,22 +51,6 @@ module _ {A : Type 0} (n : ℕ) (xs : List A) (kept : ℕ → Option A → Bool)
   kept-at p a h e =
       ap (kept (p - 1)) (sym (rw h at e))
       ∙ below-at n (λ i. kept i (getElem? xs i)) all (p - 1) (omega (arith, within-low p n h, within-high p n h))
-
--- question 6 of a rig, as it is asked: of the count, of the servers, of the clients
-module _ (cfg : Config) (m : ℕ) (r : Rig) where
-  pub too-many : m < r .count → false ≡ rigKept cfg m r
-  unfolding rigKept
-  too-many h = rw (lt-leb (r .count) m h)
-
-  module _ (few : r .count ≤ m) where
-    pub servers-no : allBelow (cfg .n) (λ i. serverKept cfg i (getElem? (r .servers) i)) ≡ false → false ≡ rigKept cfg m r
-    unfolding rigKept
-    servers-no h = rw (le-leb (r .count) m few, h)
-
-    pub clients-last : allBelow (cfg .n) (λ i. serverKept cfg i (getElem? (r .servers) i)) ≡ true
-        → allBelow (cfg .c) (λ i. clientKept cfg i (getElem? (r .clients) i)) ≡ rigKept cfg m r
-    unfolding rigKept
-    clients-last h = rw (le-leb (r .count) m few, h)
 
 module _ (cfg : Config) (m : ℕ) (r : Rig) (h : rigKept cfg m r ≡ true) where
   abbrev servers : Bool

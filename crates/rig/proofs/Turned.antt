@@ -1,7 +1,7 @@
 -- What is left to show of an event: that it was refused with its number and changed nothing, or that it made the protocol's move.
 use Prim.Native.Nat.{ℕ, zero, suc, _+_, _≤_, _<_}
 use mathlib.Core.Path.{_≡_, refl, sym, ap, ap₂, subst, _∙_}
-use mathlib.Core.Bool.{Bool, true, false, cond, _&&_, true≢false}
+use mathlib.Core.Bool.{Bool, true, false, cond, _&&_}
 use mathlib.Core.Option.{Option, none, some}
 use mathlib.Core.List.{List, [], _∷_, _++_}
 use native.Mathlib.Omega.{arith}
@@ -42,17 +42,10 @@ unfolding allBelow
 below-all zero f h = refl
 below-all (suc n) f h = rw (below-all n f (λ i l. h i (omega (arith, l))), h n (omega arith))
 
--- a scan of the places: it goes on past a place of which it is so, and ends at one of which it is not
+-- a scan of the places goes on past a place of which it is so
 pub below-next : (i : ℕ) (f : ℕ → Bool) → allBelow i f ≡ true → f i ≡ true → allBelow (i + 1) f ≡ true
 unfolding allBelow
 below-next i f h e = ap (λ n. allBelow n f) (add-one i) ∙ ap₂ _&&_ h e
-
-pub below-no : (n : ℕ) (f : ℕ → Bool) (i : ℕ) → i < n → f i ≡ false → false ≡ allBelow n f
-below-no n f i l h = sym (told (allBelow n f) refl)
-  where
-    told : (b : Bool) → allBelow n f ≡ b → allBelow n f ≡ false
-    told true e = absurd (true≢false (sym (below-at n f e i l) ∙ h))
-    told false e = e
 
 module _ (cfg : Config) (m : ℕ) (start : List ℕ) (r : Rig) (a : Call (List ℕ)) (read : List ℕ) (l : Lent) where
   abbrev number : ℕ

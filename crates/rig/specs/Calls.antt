@@ -1,13 +1,15 @@
--- The rig's two calls: what each answers and leaves.
-use Prim.Native.Nat.{ℕ, _-_}
-use mathlib.Core.Bool.{Bool, true, false}
+-- The rig's calls: what each answers and leaves.
+use Prim.Native.Nat.{ℕ, _+_, _-_, _*_, _<_}
+use mathlib.Core.Bool.{Bool, true, false, cond, _&&_}
 use mathlib.Core.Path.{_≡_}
 use mathlib.Core.Option.{Option, none, some}
 use mathlib.Core.List.{List, [], _∷_, _++_, map}
-use lib.ListN.{length, drop, getElem?, replicate}
+use lib.Dec.{eqb, leb}
+use lib.ListN.{length, drop, getD, getElem?, replicate, set}
 use Rattle.config.specs.declared.Config.{Config}
+use Rattle.config.specs.Config.{boardLength, rigQuestions}
 use Rattle.config.specs.Number.{clientNumber}
-use Rattle.config.specs.Questions.{firstNo}
+use Rattle.config.specs.Questions.{ask, firstNo}
 use Rattle.config.specs.Refusal.{numberOf, verdictNumber}
 use Rattle.code.specs.Element.{element}
 use Rattle.record.specs.Message.{Message}
@@ -18,9 +20,11 @@ use Rattle.client.specs.Calls as clientCalls
 use Rattle.history.specs.Board as board
 use Rattle.history.specs.Board.{Call, refused, nothingEnded, writtenBy, spentBy, readBy}
 use Rattle.history.specs.Rig as protocol
-use Rattle.history.specs.Rig.{Code, beginWrite, beginRead, handOver, lose, double, crashServer, crashClient, codeOf, freshRig, listOf, unlessNo, without}
+use Rattle.history.specs.Rig.{Code, beginWrite, beginRead, handOver, lose, double, crashServer, crashClient, codeOf, freshRig, isWithin, listOf, unlessNo, without}
 use Rattle.rig.specs.declared.Answer.{Answer}
+use Rattle.rig.specs.declared.Change.{Change}
 use Rattle.rig.specs.declared.Made.{Made}
+use Rattle.rig.specs.declared.Part.{Part}
 use Rattle.rig.specs.declared.Rig.{Rig}
 use Rattle.rig.specs.declared.Seat.{Seat}
 use Rattle.rig.specs.declared.Turn.{Turn}
@@ -110,3 +114,53 @@ pub record EventPost (cfg : Config) (m : ℕ) (start : List ℕ) (r : Rig) (a : 
   pub lengths : sized cfg m l′ ≡ sized cfg m l
   -- "The first "no" is returned; state and buffers hold their old content"
   pub held : (eventNo cfg m start r a read l ≡ 0 → ⊥) → (t .rig ≡ r) × (l′ ≡ l)
+
+-- a part's server in its place
+abbrev pub seatOf : Part → Seat
+seatOf p = record { state = p .seat; up = p .up }
+
+-- the rig with a part put in its places
+abbrev pub withPart : Rig → Part → Rig
+withPart r p =
+    record {
+      servers = set (r .servers) (p .server) (seatOf p);
+      clients = set (r .clients) (p .client) (p .state);
+      count = p .count;
+    }
+
+-- what a change makes of a rig
+abbrev pub turned : Rig → Change → Turn
+turned r x = record { answer = x .answer; rig = withPart r (x .part) }
+
+-- the place of party number p, of 1 to n; the first where there is none
+abbrev pub placeFor : ℕ → ℕ → ℕ
+placeFor n p = cond (isWithin p n) (p - 1) 0
+
+-- the byte at an offset of the record at a position
+abbrev pub byteOf : ℕ → ℕ → List ℕ → ℕ
+byteOf i offset messages = getD messages (80 * i + offset) 0
+
+-- the number by which an event is called: of event 3, the byte at an offset of the record at the position, or 0 where there is none; of any
+-- other, the party's
+abbrev pub namedBy : ℕ → ℕ → ℕ → ℕ → ℕ → List ℕ → ℕ
+namedBy count code party i offset messages = cond (eqb code 3) (cond (leb count i) 0 (byteOf i offset messages)) party
+
+-- the first of questions 1 to 6 that is answered no, or 0
+abbrev pub firstSix : Config → ℕ → Rig → Call (List ℕ) → List ℕ → Lent → ℕ
+firstSix cfg m r a read l =
+    firstNo (rigQuestions cfg m
+    ++ ask 6 (eqb (length (a .board)) (boardLength cfg) && eqb (length read) (boardLength cfg) && sized cfg m l && rigKept cfg m r)
+    ∷ [])
+
+-- the place of n that an event can touch: that of the number by which it is called; the first where one of 1 to 6 is answered no
+abbrev pub touched : ℕ → ℕ → Config → ℕ → Rig → Call (List ℕ) → List ℕ → Lent → ℕ
+touched n offset cfg m r a read l =
+    cond (eqb (firstSix cfg m r a read l) 0) (placeFor n (namedBy (r .count) (a .code) (a .party) (a .position) offset (l .messages))) 0
+
+-- The same event by what it changes: the rig with that in its places is the one that the event leaves.
+pub record ChangePost (cfg : Config) (m : ℕ) (start : List ℕ) (r : Rig) (a : Call (List ℕ)) (read : List ℕ) (l : Lent) (x : Change) (read′ : List ℕ) (l′ : Lent) : Type 0 where
+  -- offset 2 of a record is its server, offset 1 its client
+  pub server : x .part .server ≡ touched (cfg .n) 2 cfg m r a read l
+  pub client : x .part .client ≡ touched (cfg .c) 1 cfg m r a read l
+  pub inside : (x .part .server < 16) × (x .part .client < 16)
+  pub event : EventPost cfg m start r a read l (turned r x) read′ l′

@@ -1,14 +1,16 @@
 -- What the inner functions of handing a message over to a client ask and give.
 use Prim.Native.Nat.{ℕ, _+_, _-_, _*_, _≤_}
-use mathlib.Core.Bool.{true, false}
+use mathlib.Core.Bool.{true, false, not}
 use mathlib.Core.Path.{_≡_}
 use mathlib.Core.List.{List, [], _∷_, _++_}
+use lib.Dec.{eqb}
 use lib.ListN.{length, set, take, drop}
 use lib.Seq.{paste}
 use Rattle.config.specs.declared.Client.{Client}
 use Rattle.config.specs.declared.Config.{Config}
 use Rattle.config.specs.Config.{Valid, boardLength}
 use Rattle.config.specs.Number.{clientNumber}
+use Rattle.config.specs.Refusal.{verdictNumber}
 use Rattle.tag.specs.Tag.{key}
 use Rattle.code.specs.Element.{element}
 use Rattle.code.specs.Decoded.{decodedPairs}
@@ -71,22 +73,20 @@ pub record Stepped (cfg : Config) (c : ℕ) (x : State) (m : Message (List ℕ))
   pub self : y .state .me ≡ x .me
   pub within : stateWithin cfg (y .state) ≡ true
 
--- what the step of client c on a record asks: the record is well formed and for this client, and each buffer has its length
+-- what the step of client c on a record asks: each buffer has its length
 pub record Hears (cfg : Config) (x : State) (c : ℕ) (message read boards elements sends : List ℕ) : Type 0 where
   pub valid : Valid cfg
   pub low : 1 ≤ c
   pub high : c ≤ cfg .c
   pub me : clientNumber (x .me) ≡ c
   pub within : stateWithin cfg x ≡ true
-  pub well : wellFormed cfg message ≡ true
-  pub kind : isForServer (messageOf cfg message .kind) ≡ false
-  pub client : messageOf cfg message .client ≡ c
+  pub message-length : length message ≡ 80
   pub read-length : length read ≡ boardLength cfg
   pub boards-length : length boards ≡ cfg .c * boardLength cfg
   pub elements-length : length elements ≡ cfg .c * (cfg .n * cfg .e)
   pub sends-length : length sends ≡ 80 * cfg .n
 
--- and what it gives: it looks at its own parts alone, and where it sends something it leaves the elements and the lent board
+-- what it gives of a message for this client: it looks at its own parts alone, and where it sends something it leaves the elements and the lent board
 pub record HeardPost (cfg : Config) (x : State) (c : ℕ) (m : Message (List ℕ)) (boards elements elements′ sends sends′ read read′ : List ℕ) (y : Moved) : Type 0 where
   pub stepped : Stepped cfg c x m (part (boardLength cfg) (c - 1) boards) (part (cfg .n * cfg .e) (c - 1) elements)
       (part (cfg .n * cfg .e) (c - 1) elements′) sends sends′ read read′ y
@@ -94,3 +94,10 @@ pub record HeardPost (cfg : Config) (x : State) (c : ℕ) (m : Message (List ℕ
   pub still : (y .sent ≡ 0 → ⊥) → (elements′ ≡ elements) × (read′ ≡ read)
   pub sound : Sound cfg (stepOf cfg c x m (part (boardLength cfg) (c - 1) boards) (part (cfg .n * cfg .e) (c - 1) elements) .sends)
   pub few : y .sent ≤ cfg .n
+
+-- and of any record: question 12 is the first no where the record is ill formed, and then the elements and the lent board stay
+pub record HearPost (cfg : Config) (x : State) (c : ℕ) (message boards elements elements′ sends sends′ read read′ : List ℕ) (y : Moved) : Type 0 where
+  pub number : eqb (verdictNumber (y .verdict)) 12 ≡ not (wellFormed cfg message)
+  pub held : wellFormed cfg message ≡ false → (elements′ ≡ elements) × (read′ ≡ read)
+  pub heard : wellFormed cfg message ≡ true → isForServer (messageOf cfg message .kind) ≡ false → messageOf cfg message .client ≡ c
+      → HeardPost cfg x c (messageOf cfg message) boards elements elements′ sends sends′ read read′ y

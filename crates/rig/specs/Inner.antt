@@ -1,17 +1,17 @@
 -- What the inner functions of the rig take and give.
-use Prim.Native.Nat.{ℕ, _+_, _-_, _*_, _≤_, _<_}
+use Prim.Native.Nat.{ℕ, _+_, _-_, _*_, _%_, _≤_, _<_}
 use mathlib.Core.Bool.{Bool, true, false, cond, _&&_}
 use mathlib.Core.Path.{_≡_}
-use mathlib.Core.Option.{Option, none, some}
-use mathlib.Core.List.{List, [], _∷_, _++_}
-use lib.Dec.{eqb}
-use lib.ListN.{length, set, getElem?, take, drop}
+use mathlib.Core.Option.{some}
+use mathlib.Core.List.{List, _++_}
+use lib.Dec.{eqb, leb}
+use lib.ListN.{length, set, getD, getElem?, take, drop}
 use Rattle.config.specs.declared.Config.{Config}
 use Rattle.config.specs.declared.Refusal.{Refusal}
 use Rattle.config.specs.declared.Verdict.{Verdict}
 use Rattle.config.specs.Config.{Valid, boardLength, rigQuestions}
 use Rattle.config.specs.Questions.{firstNo}
-use Rattle.config.specs.Refusal.{numberOf}
+use Rattle.config.specs.Refusal.{clamped, numberOf}
 use Rattle.client.specs.declared.Moved.{Moved}
 use Rattle.client.specs.declared.Phase.{Phase}
 use Rattle.client.specs.declared.State as client
@@ -21,12 +21,14 @@ use Rattle.history.specs.Rig.{isForServer, isWithin, listOf, without}
 use Rattle.record.specs.Record.{messageOf, wellFormed}
 use Rattle.server.specs.Calls.{storeLength}
 use Rattle.rig.specs.declared.Answer.{Answer}
+use Rattle.rig.specs.declared.Change.{Change}
+use Rattle.rig.specs.declared.Part.{Part}
 use Rattle.rig.specs.declared.Rig.{Rig}
 use Rattle.rig.specs.declared.Seat.{Seat}
 use Rattle.rig.specs.declared.Turn.{Turn}
 use Rattle.rig.specs.View.{Lent, lent, place, records}
-use Rattle.rig.specs.Questions.{rigKept, sized}
-use Rattle.rig.specs.Calls.{EventPost, called}
+use Rattle.rig.specs.Questions.{rigKept, sized, sizedBy}
+use Rattle.rig.specs.Calls.{EventPost, byteOf, called, namedBy, placeFor, seatOf, turned}
 
 -- a refusal, with the rig as it was
 abbrev pub refusedFor : Refusal → Rig → Turn
@@ -40,11 +42,55 @@ quiet r = record { answer = Answer.Nothing; rig = r }
 abbrev pub counted : Rig → ℕ → Rig
 counted r n = record { servers = r .servers; clients = r .clients; count = n }
 
+-- a part is what stands in a rig
+pub record PartOf (r : Rig) (p : Part) : Type 0 where
+  pub seat : getElem? (r .servers) (p .server) ≡ some (seatOf p)
+  pub state : getElem? (r .clients) (p .client) ≡ some (p .state)
+  pub count : r .count ≡ p .count
+
+-- the part is one of a rig, of which this holds
+pub record OfRig (p : Part) (P : Rig → Type 0) : Type 0 where
+  pub rig : Rig
+  pub part : PartOf rig p
+  pub holds : P rig
+
+-- A change of a part: the places stay, and of every rig that the part is of, and what the change makes of it, this holds.
+pub record OnRig (p : Part) (x : Change) (P : Rig → Turn → Type 0) : Type 0 where
+  pub server : x .part .server ≡ p .server
+  pub client : x .part .client ≡ p .client
+  pub holds : (r : Rig) → PartOf r p → P r (turned r x)
+
+-- a refusal, with the part as it was
+abbrev pub refusedPart : Refusal → Part → Change
+refusedPart why p = record { answer = Answer.No why; part = p }
+
+-- a refusal by its number, with the parties of the first places as they were
+pub record RefusedPost (r : Rig) (no : ℕ) (x : Change) : Type 0 where
+  pub server : x .part .server ≡ 0
+  pub client : x .part .client ≡ 0
+  pub why : Refusal
+  pub number : numberOf why ≡ clamped no
+  pub refuses : turned r x ≡ refusedFor why r
+
+-- the part has the server and the client that an event names
+pub record Named (cfg : Config) (p : Part) (code party i : ℕ) (messages : List ℕ) : Type 0 where
+  pub server : p .server ≡ placeFor (cfg .n) (namedBy (p .count) code party i 2 messages)
+  pub client : p .client ≡ placeFor (cfg .c) (namedBy (p .count) code party i 1 messages)
+
+-- the part has the server and the client that the record at a position names
+pub record NamedAt (cfg : Config) (p : Part) (i : ℕ) (messages : List ℕ) : Type 0 where
+  pub server : p .server ≡ placeFor (cfg .n) (byteOf i 2 messages)
+  pub client : p .client ≡ placeFor (cfg .c) (byteOf i 1 messages)
+
+-- past n there is nothing to ask
+abbrev pub unless : ℕ → ℕ → Bool → Bool
+unless n i b = cond (leb n i) true b
+
 -- at most m records are in flight, and they are all in the messages
-pub record Flies (m : ℕ) (r : Rig) (messages : List ℕ) : Type 0 where
+pub record Flies (m n : ℕ) (messages : List ℕ) : Type 0 where
   pub most : m ≤ 512
-  pub count : r .count ≤ m
-  pub fits : 80 * r .count ≤ length messages
+  pub count : n ≤ m
+  pub fits : 80 * n ≤ length messages
   pub room : 80 * m ≤ length messages
 
 pub record LosePost (r : Rig) (i : ℕ) (messages : List ℕ) (t : Turn) (after : List ℕ) : Type 0 where
@@ -66,12 +112,6 @@ withSeat r s x = record { servers = set (r .servers) (s - 1) x; clients = r .cli
 -- a server that is down: its state is kept
 abbrev pub downSeat : Seat → Seat
 downSeat x = record { state = x .state; up = false }
-
--- what crashing asks: a valid configuration, and every party in its place
-pub record Seated (cfg : Config) (r : Rig) : Type 0 where
-  pub valid : Valid cfg
-  pub servers : cfg .n ≤ length (r .servers)
-  pub clients : cfg .c ≤ length (r .clients)
 
 pub record CrashServerPost (cfg : Config) (r : Rig) (s : ℕ) (t : Turn) : Type 0 where
   pub missing : isWithin s (cfg .n) ≡ false → t ≡ refusedFor Refusal.Missing r
@@ -145,6 +185,11 @@ ReadPost cfg m r c messages t messages′ =
     (lent messages stores boards elements)
     t read (lent messages′ stores boards elements)
 
+-- what questions 1 to 6 show of the lent buffers and of how many records are in flight
+pub record Asking (cfg : Config) (m : ℕ) (r : Rig) (board read messages stores boards elements : List ℕ) : Type 0 where
+  pub five : firstNo (rigQuestions cfg m) ≡ 0
+  pub shape : (eqb (length board) (boardLength cfg) && eqb (length read) (boardLength cfg) && sizedBy cfg m (length messages) (length stores) (length boards) (length elements) && leb (r .count) m) ≡ true
+
 -- what every event asks: what questions 1 to 6 show of the rig and of the lent buffers
 pub record Holding (cfg : Config) (m : ℕ) (r : Rig) (read messages stores boards elements : List ℕ) : Type 0 where
   pub valid : Valid cfg
@@ -199,6 +244,30 @@ pub record Answering (cfg : Config) (m : ℕ) (r : Rig) (i c : ℕ) (bytes read 
   pub kind : isForServer (messageOf cfg bytes .kind) ≡ false
   pub client : messageOf cfg bytes .client ≡ c
   pub read-length : length read ≡ boardLength cfg
+  pub boards-length : length boards ≡ cfg .c * boardLength cfg
+  pub elements-length : length elements ≡ cfg .c * (cfg .n * cfg .e)
+
+-- what event 3 asks of a message that, if it is well formed, is for the part's server
+pub record ToServer (cfg : Config) (r : Rig) (p : Part) (i : ℕ) (messages : List ℕ) : Type 0 where
+  pub most : ℕ
+  pub most-high : most ≤ 512
+  pub valid : Valid cfg
+  pub kept : rigKept cfg most r ≡ true
+  pub inside : i < r .count
+  pub messages-length : length messages ≡ 80 * most
+  pub kind : byteOf i 0 messages % 2 ≡ 1
+  pub server : p .server ≡ placeFor (cfg .n) (byteOf i 2 messages)
+
+-- and of one that, if it is well formed, is for the part's client
+pub record ToClient (cfg : Config) (m : ℕ) (r : Rig) (p : Part) (i : ℕ) (read messages boards elements : List ℕ) : Type 0 where
+  pub most : m ≤ 512
+  pub valid : Valid cfg
+  pub kept : rigKept cfg m r ≡ true
+  pub inside : i < r .count
+  pub kind : byteOf i 0 messages % 2 ≡ 1 → ⊥
+  pub client : p .client ≡ placeFor (cfg .c) (byteOf i 1 messages)
+  pub read-length : length read ≡ boardLength cfg
+  pub messages-length : length messages ≡ 80 * m
   pub boards-length : length boards ≡ cfg .c * boardLength cfg
   pub elements-length : length elements ≡ cfg .c * (cfg .n * cfg .e)
 

@@ -1,7 +1,7 @@
 // A client begins to write or to read.
 use super::Answer;
-use super::Rig;
-use super::Turn;
+use super::Change;
+use super::Part;
 use client::Moved;
 use config::Config;
 use config::Refusal;
@@ -9,29 +9,29 @@ use config::Verdict;
 ghost use mathlib.Core.Path.{_≡_};
 ghost use Prim.Native.Nat.{_+_, _<_, _≤_};
 ghost use Rattle.config.specs.Config.{Valid};
-ghost use Rattle.config.specs.Refusal.{numberOf};
 ghost use Rattle.client.specs.State.{stateWithin};
 ghost use mathlib.Core.Bool.{true};
-ghost use Rattle.rig.specs.Inner.{BegunPost, Beginning, FullPost, ReadPost, WritePost, Writing};
+ghost use Rattle.rig.specs.Calls.{placeFor};
+ghost use Rattle.rig.specs.Inner.{BegunPost, Beginning, FullPost, OfRig, ReadPost, WritePost, Writing, OnRig};
 
-// The client of a place has moved, or was refused.
-fn begun(mut rig: Rig, i: usize, moved: Moved) -> Turn
-    requires { ⌜ (i < 16) × (rig .count + moved .sent ≤ 4096) ⌝ }
-    ensures { λ r. ⌜ BegunPost rig i moved r ⌝ }
+// The client has moved, or was refused.
+fn begun(mut part: Part, moved: Moved) -> Change
+    requires { ⌜ part .count + moved .sent ≤ 4096 ⌝ }
+    ensures { λ x. ⌜ OnRig part x (λ r t. BegunPost r (part .client) moved t) ⌝ }
 {
     let verdict = moved.verdict;
     let Verdict::No(why) = verdict else {
         let state = moved.state;
-        rig.clients[i] = state;
-        rig.count = rig.count + moved.sent;
-        return Turn {
+        part.state = state;
+        part.count = part.count + moved.sent;
+        return Change {
             answer: Answer::Nothing,
-            rig,
+            part,
         };
     };
-    Turn {
+    Change {
         answer: Answer::No(why),
-        rig,
+        part,
     }
 }
 
@@ -54,75 +54,75 @@ fn full(cfg: Config, x: client::State) -> Refusal
 pub(crate) fn write(
     cfg: Config,
     m: usize,
-    rig: Rig,
+    part: Part,
     party: u8,
     board: &[u8],
     messages: &mut [u8],
     boards: &mut [u8],
-) -> Turn
-    requires { ⌜ Writing cfg m rig (now board) (now messages) (now boards) ⌝ }
-    ensures { λ r. ⌜ WritePost cfg m rig party (now (board .entry)) (now (messages .entry)) (now (boards .entry)) r (now (messages .exit)) (now (boards .exit)) ⌝ }
+) -> Change
+    requires { ⌜ OfRig part (λ r. Writing cfg m r (now board) (now messages) (now boards)) ⌝ }
+    requires { ⌜ part .client ≡ placeFor (cfg .c) party ⌝ }
+    ensures { λ x. ⌜ OnRig part x (λ r t. WritePost cfg m r party (now (board .entry)) (now (messages .entry)) (now (boards .entry)) t (now (messages .exit)) (now (boards .exit))) ⌝ }
 {
     let c = party as usize;
     if c < 1 {
-        return Turn {
+        return Change {
             answer: Answer::No(Refusal::Missing),
-            rig,
+            part,
         };
     }
     if cfg.c < c {
-        return Turn {
+        return Change {
             answer: Answer::No(Refusal::Missing),
-            rig,
+            part,
         };
     }
-    let i = c - 1;
-    let x = rig.clients[i];
-    let count = rig.count;
+    let x = part.state;
+    let count = part.count;
     if m < count + cfg.n {
-        return Turn {
+        return Change {
             answer: Answer::No(full(cfg, x)),
-            rig,
+            part,
         };
     }
     let from = 80 * count;
     let end = from + 80 * cfg.n;
     let long = cfg.k * cfg.e;
-    let at = i * long;
+    let at = (c - 1) * long;
     let to = at + long;
     let moved = client::begin_write(cfg, x, board, &mut boards[at..to], &mut messages[from..end]);
-    begun(rig, i, moved)
+    begun(part, moved)
 }
 
 // Event 2: "begin read (client)". Questions 8 to 11, and 13.
-pub(crate) fn read(cfg: Config, m: usize, rig: Rig, party: u8, messages: &mut [u8]) -> Turn
-    requires { ⌜ Beginning cfg m rig (now messages) ⌝ }
-    ensures { λ r. ⌜ ReadPost cfg m rig party (now (messages .entry)) r (now (messages .exit)) ⌝ }
+pub(crate) fn read(cfg: Config, m: usize, part: Part, party: u8, messages: &mut [u8]) -> Change
+    requires { ⌜ OfRig part (λ r. Beginning cfg m r (now messages)) ⌝ }
+    requires { ⌜ part .client ≡ placeFor (cfg .c) party ⌝ }
+    ensures { λ x. ⌜ OnRig part x (λ r t. ReadPost cfg m r party (now (messages .entry)) t (now (messages .exit))) ⌝ }
 {
     let c = party as usize;
     if c < 1 {
-        return Turn {
+        return Change {
             answer: Answer::No(Refusal::Missing),
-            rig,
+            part,
         };
     }
     if cfg.c < c {
-        return Turn {
+        return Change {
             answer: Answer::No(Refusal::Missing),
-            rig,
+            part,
         };
     }
-    let i = c - 1;
-    let x = rig.clients[i];
-    let count = rig.count;
+    let x = part.state;
+    let count = part.count;
     if m < count + cfg.n {
-        return Turn {
+        return Change {
             answer: Answer::No(full(cfg, x)),
-            rig,
+            part,
         };
     }
     let from = 80 * count;
     let end = from + 80 * cfg.n;
     let moved = client::begin_read(cfg, x, &mut messages[from..end]);
-    begun(rig, i, moved)
+    begun(part, moved)
 }

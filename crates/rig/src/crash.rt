@@ -1,85 +1,82 @@
 // Crashing a party.
 use super::Answer;
-use super::Rig;
-use super::Seat;
-use super::Turn;
+use super::Change;
+use super::Part;
 use client::Phase;
 use config::Config;
 use config::Refusal;
 ghost use mathlib.Core.Path.{_≡_};
 ghost use Rattle.client.specs.Questions.{isUp};
-ghost use Rattle.rig.specs.Inner.{CrashClientPost, CrashServerPost, Seated};
+ghost use Rattle.rig.specs.Calls.{placeFor};
+ghost use Rattle.rig.specs.Inner.{CrashClientPost, CrashServerPost, OnRig};
 
 // Event 6: "crash a server". Questions 8 and 9.
-pub(crate) fn server(cfg: Config, mut rig: Rig, party: u8) -> Turn
-    requires { ⌜ Seated cfg rig ⌝ }
-    ensures { λ r. ⌜ CrashServerPost cfg rig party r ⌝ }
+pub(crate) fn server(cfg: Config, mut part: Part, party: u8) -> Change
+    requires { ⌜ part .server ≡ placeFor (cfg .n) party ⌝ }
+    ensures { λ x. ⌜ OnRig part x (λ r t. CrashServerPost cfg r party t) ⌝ }
 {
     let s = party as usize;
     if s < 1 {
-        return Turn {
+        return Change {
             answer: Answer::No(Refusal::Missing),
-            rig,
+            part,
         };
     }
     if cfg.n < s {
-        return Turn {
+        return Change {
             answer: Answer::No(Refusal::Missing),
-            rig,
+            part,
         };
     }
-    let i = s - 1;
-    let x = rig.servers[i];
-    if !x.up {
-        return Turn {
+    if !part.up {
+        return Change {
             answer: Answer::No(Refusal::Down),
-            rig,
+            part,
         };
     }
-    let state = x.state;
-    rig.servers[i] = Seat { state, up: false };
-    Turn {
+    part.up = false;
+    Change {
         answer: Answer::Nothing,
-        rig,
+        part,
     }
 }
 
 // Event 7: "crash a client". Questions 8 and 9.
-pub(crate) fn client(cfg: Config, mut rig: Rig, party: u8) -> Turn
-    requires { ⌜ Seated cfg rig ⌝ }
-    ensures { λ r. ⌜ CrashClientPost cfg rig party r ⌝ }
+pub(crate) fn client(cfg: Config, mut part: Part, party: u8) -> Change
+    requires { ⌜ part .client ≡ placeFor (cfg .c) party ⌝ }
+    ensures { λ x. ⌜ OnRig part x (λ r t. CrashClientPost cfg r party t) ⌝ }
 {
     let c = party as usize;
     if c < 1 {
-        return Turn {
+        return Change {
             answer: Answer::No(Refusal::Missing),
-            rig,
+            part,
         };
     }
     if cfg.c < c {
-        return Turn {
+        return Change {
             answer: Answer::No(Refusal::Missing),
-            rig,
+            part,
         };
     }
-    let i = c - 1;
-    let x = rig.clients[i];
+    let x = part.state;
     let phase = x.phase;
     if !is_up(phase) {
-        return Turn {
+        return Change {
             answer: Answer::No(Refusal::Down),
-            rig,
+            part,
         };
     }
     let me = x.me;
-    rig.clients[i] = client::State {
+    let down = client::State {
         me,
         operation: x.operation,
         phase: Phase::Down,
     };
-    Turn {
+    part.state = down;
+    Change {
         answer: Answer::Nothing,
-        rig,
+        part,
     }
 }
 

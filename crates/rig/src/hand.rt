@@ -1,71 +1,52 @@
 // A message is handed over.
 use super::Answer;
-use super::Rig;
-use super::Turn;
-use super::flight;
+use super::Change;
+use super::Part;
 use super::hear;
 use super::serve;
 use config::Config;
 use config::Refusal;
-use record::Kind;
-use record::Reading;
+use config::Verdict;
 ghost use mathlib.Core.Path.{_≡_};
-ghost use Rattle.history.specs.Rig.{isForServer};
-ghost use Rattle.rig.specs.Inner.{HandPost, Holding};
+ghost use Prim.Native.Nat.{_<_};
+ghost use lib.Dec.{eqb};
+ghost use Rattle.config.specs.Refusal.{verdictNumber};
+ghost use Rattle.rig.specs.Inner.{HandPost, Holding, NamedAt, OfRig, OnRig};
 
-// Whether a message of that kind is for a server: 1, 3, 5 and 7 are. The others are for a client.
-fn for_server(kind: Kind) -> bool
-    ensures { λ r. ⌜ r ≡ isForServer kind ⌝ }
+// Whether a step was refused because the record is ill formed.
+pub(crate) fn ill_formed(verdict: Verdict) -> bool
+    ensures { λ r. ⌜ r ≡ eqb (verdictNumber verdict) 12 ⌝ }
 {
-    kind.number() % 2 == 1
+    let Verdict::No(why) = verdict else {
+        return false;
+    };
+    why.number() == 12
 }
 
-// Event 3: "hand over the message at a position from 0". Questions 8, 12 and 13.
+// Event 3: "hand over the message at a position from 0". Questions 8, 12 and 13. A kind that is odd is a server's.
 pub(crate) fn hand(
     cfg: Config,
     m: usize,
-    rig: Rig,
+    part: Part,
     position: usize,
     read: &mut [u8],
     messages: &mut [u8],
     stores: &mut [u8],
     boards: &[u8],
     elements: &mut [u8],
-) -> Turn
-    requires { ⌜ Holding cfg m rig (now read) (now messages) (now stores) (now boards) (now elements) ⌝ }
-    ensures { λ r. ⌜ HandPost cfg m rig position (now (read .entry)) (now (messages .entry)) (now (stores .entry)) (now (boards .entry)) (now (elements .entry)) r (now (read .exit)) (now (messages .exit)) (now (stores .exit)) (now (elements .exit)) ⌝ }
+) -> Change
+    requires { ⌜ OfRig part (λ r. Holding cfg m r (now read) (now messages) (now stores) (now boards) (now elements)) ⌝ }
+    requires { ⌜ (position < part .count → NamedAt cfg part position (now messages)) ⌝ }
+    ensures { λ x. ⌜ OnRig part x (λ r t. HandPost cfg m r position (now (read .entry)) (now (messages .entry)) (now (stores .entry)) (now (boards .entry)) (now (elements .entry)) t (now (read .exit)) (now (messages .exit)) (now (stores .exit)) (now (elements .exit))) ⌝ }
 {
-    if rig.count <= position {
-        return Turn {
+    if part.count <= position {
+        return Change {
             answer: Answer::No(Refusal::Missing),
-            rig,
+            part,
         };
     }
-    let bytes = flight::lift(messages, 80 * position);
-    let Reading::Message(h) = record::read(cfg, &bytes) else {
-        return Turn {
-            answer: Answer::No(Refusal::IllFormed),
-            rig,
-        };
-    };
-    let kind = h.kind;
-    if for_server(kind) {
-        let server = h.server;
-        let s = server.number() as usize;
-        return serve::hand(cfg, rig, position, s, bytes, messages, stores);
+    if messages[80 * position] % 2 == 1 {
+        return serve::hand(cfg, part, position, messages, stores);
     }
-    let client = h.client;
-    let c = client.number() as usize;
-    hear::hand(
-        cfg,
-        m,
-        rig,
-        position,
-        c,
-        bytes,
-        read,
-        messages,
-        boards,
-        elements,
-    )
+    hear::hand(cfg, m, part, position, read, messages, boards, elements)
 }

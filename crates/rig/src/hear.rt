@@ -1,8 +1,9 @@
 // A message is handed to a client.
 use super::Answer;
-use super::Rig;
-use super::Turn;
+use super::Change;
+use super::Part;
 use super::flight;
+use super::hand;
 use client::Ended;
 use client::Moved;
 use config::Client;
@@ -11,9 +12,8 @@ use config::Refusal;
 ghost use mathlib.Core.Path.{_≡_};
 ghost use Prim.Native.Nat.{_+_, _*_, _<_, _≤_};
 ghost use lib.ListN.{length};
-ghost use Rattle.record.specs.Record.{messageOf};
-ghost use Rattle.rig.specs.Inner.{AnswerPost, Answering};
-ghost use Rattle.rig.specs.Heard.{HeardPost, Hears, endedBy, replaced, settled};
+ghost use Rattle.rig.specs.Inner.{AnswerPost, OfRig, OnRig, ToClient, refusedPart};
+ghost use Rattle.rig.specs.Heard.{HearPost, Hears, endedBy, replaced, settled};
 
 // The answer that names a client whose operation ended, if it did.
 fn ended_by(me: Client, ended: Ended) -> Answer
@@ -27,19 +27,18 @@ fn ended_by(me: Client, ended: Ended) -> Answer
     }
 }
 
-// The client of a place has moved, and so many records are in flight.
-fn settle(mut rig: Rig, i: usize, count: usize, moved: Moved) -> Turn
-    requires { ⌜ i < 16 ⌝ }
-    ensures { λ r. ⌜ r ≡ settled rig i count moved ⌝ }
+// The client has moved, and so many records are in flight.
+fn settle(mut part: Part, count: usize, moved: Moved) -> Change
+    ensures { λ x. ⌜ OnRig part x (λ r t. t ≡ settled r (part .client) count moved) ⌝ }
 {
     let state = moved.state;
     let me = state.me;
     let ended = moved.ended;
-    rig.clients[i] = state;
-    rig.count = count;
-    Turn {
+    part.state = state;
+    part.count = count;
+    Change {
         answer: ended_by(me, ended),
-        rig,
+        part,
     }
 }
 
@@ -65,7 +64,7 @@ fn step(
     sends: &mut [u8],
 ) -> Moved
     requires { ⌜ Hears cfg x c (now message) (now read) (now boards) (now elements) (now sends) ⌝ }
-    ensures { λ r. ⌜ HeardPost cfg x c (messageOf cfg (now (message .entry))) (now (boards .entry)) (now (elements .entry)) (now (elements .exit)) (now (sends .entry)) (now (sends .exit)) (now (read .entry)) (now (read .exit)) r ⌝ }
+    ensures { λ r. ⌜ HearPost cfg x c (now (message .entry)) (now (boards .entry)) (now (elements .entry)) (now (elements .exit)) (now (sends .entry)) (now (sends .exit)) (now (read .entry)) (now (read .exit)) r ⌝ }
 {
     let i = c - 1;
     let long = cfg.k * cfg.e;
@@ -85,24 +84,24 @@ fn step(
     )
 }
 
-// Event 3 of a message for client c: it leaves the list, the client takes its step, and what it sends goes to the end. Question 13.
+// Event 3 of a message that, if it is well formed, is for the part's client. The client takes its step, which puts question 12; the message leaves the list, and what
+// the client sends goes to the end. Question 13.
 pub(crate) fn hand(
     cfg: Config,
     m: usize,
-    rig: Rig,
+    part: Part,
     position: usize,
-    c: usize,
-    bytes: [u8; 80],
     read: &mut [u8],
     messages: &mut [u8],
     boards: &[u8],
     elements: &mut [u8],
-) -> Turn
-    requires { ⌜ Answering cfg m rig position c bytes (now read) (now messages) (now boards) (now elements) ⌝ }
-    ensures { λ r. ⌜ AnswerPost cfg m rig position (now (read .entry)) (now (messages .entry)) (now (boards .entry)) (now (elements .entry)) r (now (read .exit)) (now (messages .exit)) (now (elements .exit)) ⌝ }
+) -> Change
+    requires { ⌜ OfRig part (λ r. ToClient cfg m r part position (now read) (now messages) (now boards) (now elements)) ⌝ }
+    ensures { λ x. ⌜ OnRig part x (λ r t. AnswerPost cfg m r position (now (read .entry)) (now (messages .entry)) (now (boards .entry)) (now (elements .entry)) t (now (read .exit)) (now (messages .exit)) (now (elements .exit))) ⌝ }
 {
-    let i = c - 1;
-    let x = rig.clients[i];
+    let bytes = flight::lift(messages, 80 * position);
+    let x = part.state;
+    let c = part.client + 1;
     let mut sends = [0u8; 1280];
     let end = 80 * cfg.n;
     let moved = step(
@@ -115,15 +114,26 @@ pub(crate) fn hand(
         elements,
         &mut sends[0..end],
     );
-    let left = rig.count - 1;
+    let verdict = moved.verdict;
+    if hand::ill_formed(verdict) {
+        return refused(part, Refusal::IllFormed);
+    }
+    let left = part.count - 1;
     let count = left + moved.sent;
     if m < count {
-        return Turn {
-            answer: Answer::No(Refusal::Full),
-            rig,
-        };
+        return refused(part, Refusal::Full);
     }
     let sent = 80 * moved.sent;
     replace(messages, position, left, &sends[0..sent]);
-    settle(rig, i, count, moved)
+    settle(part, count, moved)
+}
+
+// A refusal, with the part as it was.
+fn refused(part: Part, why: Refusal) -> Change
+    ensures { λ x. ⌜ x ≡ refusedPart why part ⌝ }
+{
+    Change {
+        answer: Answer::No(why),
+        part,
+    }
 }

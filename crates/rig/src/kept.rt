@@ -1,52 +1,38 @@
 // Question 6 of what a rig keeps.
-use super::Rig;
 use super::Seat;
 use config::Config;
+ghost use mathlib.Core.Bool.{_&&_};
 ghost use mathlib.Core.Option.{some};
 ghost use mathlib.Core.Path.{_≡_};
-ghost use Prim.Native.Nat.{_*_, _<_};
-ghost use lib.ListN.{getElem?, length};
+ghost use Prim.Native.Nat.{_<_, _≤_};
 ghost use Rattle.config.specs.Config.{Valid};
-ghost use Rattle.server.specs.Calls.{storeLength};
-ghost use Rattle.rig.specs.Questions.{allBelow, clientKept, rigKept, serverKept};
+ghost use Rattle.rig.specs.Questions.{clientKept, serverKept};
+ghost use Rattle.rig.specs.Inner.{unless};
 
-// Whether the server of place i has the number of its place, and what it keeps is within its limits.
-fn server_kept(cfg: Config, i: usize, x: Seat, store: &[u8]) -> bool
-    requires { ⌜ (Valid cfg) × (i < 16) × (length (now store) ≡ storeLength cfg) ⌝ }
-    ensures { λ r. ⌜ r ≡ serverKept cfg i (some x) ⌝ }
+// Whether the server of place i, if the place is in use, has the number of its place, and what it keeps is within its limits.
+fn server_kept(cfg: Config, i: usize, x: Seat) -> bool
+    requires { ⌜ (Valid cfg) × (i < 16) ⌝ }
+    ensures { λ r. ⌜ r ≡ unless (cfg .n) i (serverKept cfg i (some x)) ⌝ }
 {
+    if cfg.n <= i {
+        return true;
+    }
     let state = x.state;
     let me = state.me;
     if me.number() as usize != i + 1 {
         return false;
     }
-    server::ask(cfg, state, store.len()) == 0
+    server::ask(cfg, state, (cfg.d + 1) * cfg.e) == 0
 }
 
-// The same of every server.
-fn servers(cfg: Config, seats: [Seat; 16], stores: &[u8]) -> bool
-    requires { ⌜ (Valid cfg) × (length (now stores) ≡ cfg .n * storeLength cfg) ⌝ }
-    ensures { λ r. ⌜ r ≡ allBelow (cfg .n) (λ i. serverKept cfg i (getElem? seats i)) ⌝ }
-{
-    let long = (cfg.d + 1) * cfg.e;
-    let mut i = 0;
-    while i < cfg.n {
-        let x = seats[i];
-        let at = i * long;
-        let end = at + long;
-        if !server_kept(cfg, i, x, &stores[at..end]) {
-            return false;
-        }
-        i += 1;
-    }
-    true
-}
-
-// Whether the client of place i has the number of its place, and what it keeps is within its limits.
+// The same of the client of place i.
 fn client_kept(cfg: Config, i: usize, x: client::State) -> bool
     requires { ⌜ (Valid cfg) × (i < 16) ⌝ }
-    ensures { λ r. ⌜ r ≡ clientKept cfg i (some x) ⌝ }
+    ensures { λ r. ⌜ r ≡ unless (cfg .c) i (clientKept cfg i (some x)) ⌝ }
 {
+    if cfg.c <= i {
+        return true;
+    }
     let me = x.me;
     if me.number() as usize != i + 1 {
         return false;
@@ -54,34 +40,24 @@ fn client_kept(cfg: Config, i: usize, x: client::State) -> bool
     client::ask(cfg, x) == 0
 }
 
-// The same of every client.
-fn clients(cfg: Config, states: [client::State; 16]) -> bool
-    requires { ⌜ Valid cfg ⌝ }
-    ensures { λ r. ⌜ r ≡ allBelow (cfg .c) (λ i. clientKept cfg i (getElem? states i)) ⌝ }
+// The same of both parties of place i.
+pub(crate) fn place(cfg: Config, i: usize, x: Seat, y: client::State) -> bool
+    requires { ⌜ (Valid cfg) × (i < 16) ⌝ }
+    ensures { λ r. ⌜ r ≡ (unless (cfg .n) i (serverKept cfg i (some x)) && unless (cfg .c) i (clientKept cfg i (some y))) ⌝ }
 {
-    let mut i = 0;
-    while i < cfg.c {
-        let x = states[i];
-        if !client_kept(cfg, i, x) {
-            return false;
-        }
-        i += 1;
+    if !server_kept(cfg, i, x) {
+        return false;
     }
-    true
+    client_kept(cfg, i, y)
 }
 
-// Question 6 of a rig.
-pub(crate) fn rig(cfg: Config, m: usize, r: Rig, stores: &[u8]) -> bool
-    requires { ⌜ (Valid cfg) × (length (now stores) ≡ cfg .n * storeLength cfg) ⌝ }
-    ensures { λ x. ⌜ x ≡ rigKept cfg m r ⌝ }
+// How many places are in use: the greater of N and C.
+pub(crate) fn places(cfg: Config) -> usize
+    requires { ⌜ Valid cfg ⌝ }
+    ensures { λ r. ⌜ (cfg .n ≤ r) × (cfg .c ≤ r) × (r ≤ 16) ⌝ }
 {
-    if m < r.count {
-        return false;
+    if cfg.n < cfg.c {
+        return cfg.c;
     }
-    let seats = r.servers;
-    if !servers(cfg, seats, stores) {
-        return false;
-    }
-    let states = r.clients;
-    clients(cfg, states)
+    cfg.n
 }

@@ -12,6 +12,7 @@ mod hear;
 mod kept;
 mod questions;
 mod serve;
+mod whom;
 
 use config::Client;
 use config::Config;
@@ -20,7 +21,7 @@ use config::Verdict;
 use tag::Tag;
 ghost use Prim.Native.Nat.{ℕ};
 ghost use mathlib.Core.List.{List};
-ghost use Rattle.rig.specs.Calls.{EventPost, MakePost, called};
+ghost use Rattle.rig.specs.Calls.{ChangePost, EventPost, MakePost, called};
 ghost use Rattle.rig.specs.View.{lent};
 
 // A server in its place: its state, and whether it is up. A crash keeps the state.
@@ -46,6 +47,23 @@ pub enum Answer {
     Spent { client: Client },
     Read { client: Client, tag: Tag },
     No(Refusal),
+}
+
+// What an event can touch of a rig: one server (its state, and whether it is up) and one client, with their places, and how many
+// records are in flight.
+pub struct Part {
+    pub server: usize,
+    pub seat: server::State,
+    pub client: usize,
+    pub count: usize,
+    pub state: client::State,
+    pub up: bool,
+}
+
+// What an event changes: the part that it can touch, as it leaves it. All else of the rig stays.
+pub struct Change {
+    pub answer: Answer,
+    pub part: Part,
 }
 
 // What an event leaves.
@@ -99,7 +117,7 @@ pub fn make(
 pub fn event(
     cfg: Config,
     m: usize,
-    rig: Rig,
+    mut rig: Rig,
     code: u8,
     party: u8,
     position: usize,
@@ -112,24 +130,68 @@ pub fn event(
 ) -> Turn
     ensures { λ r. ⌜ ((start : List ℕ) → EventPost cfg m start rig (called code party position (now (board .entry))) (now (read .entry)) (lent (now (messages .entry)) (now (stores .entry)) (now (boards .entry)) (now (elements .entry))) r (now (read .exit)) (lent (now (messages .exit)) (now (stores .exit)) (now (boards .exit)) (now (elements .exit)))) ⌝ }
 {
-    let no = questions::event(
+    let change = changes(
         cfg,
         m,
         rig,
+        code,
+        party,
+        position,
+        board,
+        read,
+        messages,
+        stores,
+        boards,
+        elements,
+    );
+    let answer = change.answer;
+    let part = change.part;
+    let s = part.server;
+    let c = part.client;
+    let kept = part.seat;
+    let state = part.state;
+    let seat = Seat {
+        state: kept,
+        up: part.up,
+    };
+    rig.servers[s] = seat;
+    rig.clients[c] = state;
+    rig.count = part.count;
+    Turn { answer, rig }
+}
+
+// The same event, for a host that keeps its rig in place: what it changes, for the host to put there.
+pub fn changes(
+    cfg: Config,
+    m: usize,
+    rig: Rig,
+    code: u8,
+    party: u8,
+    position: usize,
+    board: &[u8],
+    read: &mut [u8],
+    messages: &mut [u8],
+    stores: &mut [u8],
+    boards: &mut [u8],
+    elements: &mut [u8],
+) -> Change
+    ensures { λ r. ⌜ ((start : List ℕ) → ChangePost cfg m start rig (called code party position (now (board .entry))) (now (read .entry)) (lent (now (messages .entry)) (now (stores .entry)) (now (boards .entry)) (now (elements .entry))) r (now (read .exit)) (lent (now (messages .exit)) (now (stores .exit)) (now (boards .exit)) (now (elements .exit)))) ⌝ }
+{
+    let no = questions::event(
+        cfg,
+        m,
+        rig.count,
         board.len(),
         read.len(),
         messages.len(),
-        stores,
+        stores.len(),
         boards.len(),
         elements.len(),
     );
     if no != 0 {
-        return Turn {
-            answer: Answer::No(Refusal::of(no)),
-            rig,
-        };
+        return accept::refused(rig, no);
     }
-    accept::event(
+    accept::asked(
         cfg,
         m,
         rig,

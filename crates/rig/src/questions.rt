@@ -1,16 +1,13 @@
 // Questions 1 to 6 of the rig's calls: the number of the first that is answered no, or 0.
-use super::Rig;
-use super::kept;
 use config::Config;
 ghost use mathlib.Core.Bool.{_&&_};
 ghost use mathlib.Core.List.{[], _∷_, _++_};
 ghost use mathlib.Core.Path.{_≡_};
 ghost use Prim.Native.Nat.{_≤_};
-ghost use lib.Dec.{eqb};
-ghost use lib.ListN.{length};
+ghost use lib.Dec.{eqb, leb};
 ghost use Rattle.config.specs.Config.{Valid, boardLength, rigQuestions};
 ghost use Rattle.config.specs.Questions.{ask as question, firstNo};
-ghost use Rattle.rig.specs.Questions.{rigKept, sizedBy};
+ghost use Rattle.rig.specs.Questions.{sizedBy};
 
 // Whether the buffers lent to a rig have their lengths.
 fn sized(
@@ -64,28 +61,28 @@ pub(crate) fn make(
     0
 }
 
-// Of an event.
+// Of an event, but for question 6 of what the parties keep.
 pub(crate) fn event(
     cfg: Config,
     m: usize,
-    rig: Rig,
+    count: usize,
     board: usize,
     read: usize,
     messages: usize,
-    stores: &[u8],
+    stores: usize,
     boards: usize,
     elements: usize,
 ) -> u8
-    ensures { λ r. ⌜ r ≡ firstNo (rigQuestions cfg m ++ question 6 (eqb board (boardLength cfg) && eqb read (boardLength cfg) && sizedBy cfg m messages (length (now (stores .entry))) boards elements && rigKept cfg m rig) ∷ []) ⌝ }
+    ensures { λ r. ⌜ r ≡ firstNo (rigQuestions cfg m ++ question 6 (eqb board (boardLength cfg) && eqb read (boardLength cfg) && sizedBy cfg m messages stores boards elements && leb count m) ∷ []) ⌝ }
 {
-    let no = make(cfg, m, board, messages, stores.len(), boards, elements);
+    let no = make(cfg, m, board, messages, stores, boards, elements);
     if no != 0 {
         return no;
     }
     if read != cfg.k * cfg.e {
         return 6;
     }
-    if !kept::rig(cfg, m, rig, stores) {
+    if m < count {
         return 6;
     }
     0

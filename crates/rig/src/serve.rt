@@ -1,61 +1,92 @@
 // A server takes the message that is handed to it.
 use super::Answer;
-use super::Rig;
-use super::Seat;
-use super::Turn;
+use super::Change;
+use super::Part;
 use super::flight;
+use super::hand;
 use config::Config;
+use config::Refusal;
 use config::Verdict;
+use record::Reading;
+ghost use mathlib.Core.Bool.{false};
+ghost use mathlib.Core.List.{List};
 ghost use mathlib.Core.Path.{_≡_};
-ghost use Rattle.rig.specs.Inner.{ServePost, Serving};
+ghost use Prim.Native.Nat.{ℕ, _*_};
+ghost use lib.ListN.{length};
+ghost use Rattle.server.specs.Calls.{storeLength};
+ghost use Rattle.rig.specs.Inner.{OfRig, OnRig, ServePost, ToServer, recordAt};
 
-// Event 3 of a message for server s. The message leaves the list first. A server that is down takes nothing; the answer of one that is
-// up goes to the end, and at 15 there is none.
-pub(crate) fn hand(
+// Event 3 of a message for a server that is down: it is gone, unless it is ill formed.
+fn gone(
     cfg: Config,
-    mut rig: Rig,
+    mut part: Part,
     position: usize,
-    s: usize,
     bytes: [u8; 80],
     messages: &mut [u8],
-    stores: &mut [u8],
-) -> Turn
-    requires { ⌜ Serving cfg rig position s bytes (now messages) (now stores) ⌝ }
-    ensures { λ r. ⌜ ServePost cfg rig position (now (messages .entry)) (now (stores .entry)) r (now (messages .exit)) (now (stores .exit)) ⌝ }
+) -> Change
+    requires { ⌜ OfRig part (λ r. ToServer cfg r part position (now messages)) ⌝ }
+    requires { ⌜ (bytes ≡ recordAt position (now messages)) × (part .up ≡ false) ⌝ }
+    ensures { λ x. ⌜ OnRig part x (λ r t. (stores : List ℕ) → ServePost cfg r position (now (messages .entry)) stores t (now (messages .exit)) stores) ⌝ }
 {
-    let left = rig.count - 1;
-    flight::close(messages, 80 * position, 80 * left);
-    let i = s - 1;
-    let x = rig.servers[i];
-    if !x.up {
-        rig.count = left;
-        return Turn {
-            answer: Answer::Nothing,
-            rig,
+    let Reading::Message(_) = record::read(cfg, &bytes) else {
+        return Change {
+            answer: Answer::No(Refusal::IllFormed),
+            part,
         };
+    };
+    let left = part.count - 1;
+    flight::close(messages, 80 * position, 80 * left);
+    part.count = left;
+    Change {
+        answer: Answer::Nothing,
+        part,
+    }
+}
+
+// Event 3 of a message that, if it is well formed, is for the part's server. The server takes its step, which puts question 12; the message leaves the list, and
+// the answer goes to the end; at 15 there is none.
+pub(crate) fn hand(
+    cfg: Config,
+    mut part: Part,
+    position: usize,
+    messages: &mut [u8],
+    stores: &mut [u8],
+) -> Change
+    requires { ⌜ OfRig part (λ r. ToServer cfg r part position (now messages)) ⌝ }
+    requires { ⌜ length (now stores) ≡ cfg .n * storeLength cfg ⌝ }
+    ensures { λ x. ⌜ OnRig part x (λ r t. ServePost cfg r position (now (messages .entry)) (now (stores .entry)) t (now (messages .exit)) (now (stores .exit))) ⌝ }
+{
+    let bytes = flight::lift(messages, 80 * position);
+    if !part.up {
+        return gone(cfg, part, position, bytes, messages);
     }
     let long = (cfg.d + 1) * cfg.e;
-    let at = i * long;
+    let at = part.server * long;
     let end = at + long;
-    let state = x.state;
+    let state = part.seat;
     let mut answer = [0u8; 80];
     let stepped = server::step(cfg, state, &bytes, &mut stores[at..end], &mut answer);
-    let after = stepped.state;
-    rig.servers[i] = Seat {
-        state: after,
-        up: true,
-    };
     let verdict = stepped.verdict;
+    if hand::ill_formed(verdict) {
+        return Change {
+            answer: Answer::No(Refusal::IllFormed),
+            part,
+        };
+    }
+    let left = part.count - 1;
+    flight::close(messages, 80 * position, 80 * left);
+    let after = stepped.state;
+    part.seat = after;
     let Verdict::No(_) = verdict else {
         flight::lay(messages, 80 * left, answer);
-        return Turn {
+        return Change {
             answer: Answer::Nothing,
-            rig,
+            part,
         };
     };
-    rig.count = left;
-    Turn {
+    part.count = left;
+    Change {
         answer: Answer::Nothing,
-        rig,
+        part,
     }
 }

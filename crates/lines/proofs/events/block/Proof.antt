@@ -1,6 +1,7 @@
 -- `lines::events::block` is safe and ends: each turn uses a record. Assumes nothing.
 use Prim.Native.Nat.{ℕ, _+_, _-_, _*_, _≤_}
 use mathlib.Core.Path.{_≡_}
+use mathlib.Core.List.{[]}
 use lib.ListN.{length}
 use native.Mathlib.Omega.{arith}
 use borrow.Author.Needs.{needs}
@@ -18,7 +19,7 @@ record Inv (end size room long v most read output at used : ℕ) : Type 0 where
   used-within : used ≤ most
 
 abbrev Inv-loop : tie.InvT-loop
-Inv-loop cfg m run read₀ input output₀ messages₀ stores₀ boards₀ elements₀ size room turn₀ count₀ at₀ used₀ read output messages stores boards elements turn count at used =
+Inv-loop cfg m run read₀ input output₀ messages₀ stores₀ boards₀ elements₀ size room rig₀ count₀ at₀ used₀ read output messages stores boards elements rig count at used =
     Inv (run .end) size room (length input) (length read₀) (length output₀) (length read) (length output) at used
     × (length messages ≡ length messages₀)
     × (length stores ≡ length stores₀)
@@ -26,7 +27,7 @@ Inv-loop cfg m run read₀ input output₀ messages₀ stores₀ boards₀ eleme
     × (length elements ≡ length elements₀)
 
 abbrev μ-loop : tie.MeasureT-loop
-μ-loop cfg m run read₀ input output₀ messages₀ stores₀ boards₀ elements₀ size room turn₀ count₀ at₀ used₀ read output messages stores boards elements turn count at used = run .end - at
+μ-loop cfg m run read₀ input output₀ messages₀ stores₀ boards₀ elements₀ size room rig₀ count₀ at₀ used₀ read output messages stores boards elements rig count at used = run .end - at
 
 add-size : tie.Need-add-size Inv-loop μ-loop
 add-size c = search needs
@@ -67,47 +68,59 @@ shared-slice-read-little-2 c = search needs
 little-requires : tie.Need-little-requires Inv-loop μ-loop
 little-requires c κs = search needs
 
-shared-slice-read-event : tie.Need-shared-slice-read-event Inv-loop μ-loop
-shared-slice-read-event c = search needs
+shared-slice-read-changes : tie.Need-shared-slice-read-changes Inv-loop μ-loop
+shared-slice-read-changes c = search needs
 
-add-event : tie.Need-add-event Inv-loop μ-loop
-add-event c = search needs
+add-changes : tie.Need-add-changes Inv-loop μ-loop
+add-changes c = search needs
 
-shared-slice-read-event-2 : tie.Need-shared-slice-read-event-2 Inv-loop μ-loop
-shared-slice-read-event-2 c = search needs
+shared-slice-read-changes-2 : tie.Need-shared-slice-read-changes-2 Inv-loop μ-loop
+shared-slice-read-changes-2 c = search needs
 
-sub-event : tie.Need-sub-event Inv-loop μ-loop
-sub-event c = search needs
+sub-changes : tie.Need-sub-changes Inv-loop μ-loop
+sub-changes c = search needs
 
-part-event-start : tie.Need-part-event-start Inv-loop μ-loop
-part-event-start c = search needs
+part-changes-start : tie.Need-part-changes-start Inv-loop μ-loop
+part-changes-start c = search needs
 
-part-event-end : tie.Need-part-event-end Inv-loop μ-loop
-part-event-end c = search needs
+part-changes-end : tie.Need-part-changes-end Inv-loop μ-loop
+part-changes-end c = search needs
 
-event-requires : tie.Need-event-requires Inv-loop μ-loop
-event-requires c κs = search needs
+changes-requires : tie.Need-changes-requires Inv-loop μ-loop
+changes-requires c κs = search needs
+
+mul-seat : tie.Need-mul-seat Inv-loop μ-loop
+mul-seat c = omega (arith, c .before .before .before .before .before .before .before .before .before .before .before .before .before .changes .ensures [] .inside .0)
+
+element-set-from-seat : tie.Need-element-set-from-seat Inv-loop μ-loop
+element-set-from-seat c = omega (arith, c .before .before .before .before .before .before .before .before .before .before .before .before .before .changes .ensures [] .inside .0)
+
+mul-state : tie.Need-mul-state Inv-loop μ-loop
+mul-state c = omega (arith, c .before .before .before .before .before .before .before .before .before .before .before .before .before .changes .ensures [] .inside .1)
+
+element-set-from-state : tie.Need-element-set-from-state Inv-loop μ-loop
+element-set-from-state c = omega (arith, c .before .before .before .before .before .before .before .before .before .before .before .before .before .changes .ensures [] .inside .1)
 
 line-requires : tie.Need-line-requires Inv-loop μ-loop
 line-requires c κs =
-    let l = c .before .before .before .before .before .before .before .before .before .before .before .before .before .before .before .before .before .before .before .before .before .before .before .before .before .before .before .loop in
-    let e = c .before .before .before .before .before .before .before .before .before .before .before .before .event in
-    omega (arith, l .inv .0 .reads, l .inv .0 .writes, l .inv .0 .rooms, e .kept .1 .1 .1 .1 .1 .1 .1 .0, c .before .before .before .before .before .before .before .before .before .before .before .before .before .before .before .before .before .before .before .before .before .before .before .before .if2 .left)
+    let l = c .before .before .before .before .before .before .before .before .before .before .before .before .before .before .before .before .before .before .before .before .before .before .before .before .before .before .before .before .before .before .loop in
+    let e = c .before .before .before .before .before .before .before .before .before .before .before .before .before .before .before .changes in
+    omega (arith, l .inv .0 .reads, l .inv .0 .writes, l .inv .0 .rooms, e .kept .1 .1 .1 .1 .1 .1 .1 .0, c .before .before .before .before .before .before .before .before .before .before .before .before .before .before .before .before .before .before .before .before .before .before .before .before .before .before .before .if2 .left)
 
 wrapping-add-u64-requires : tie.Need-wrapping-add-u64-requires Inv-loop μ-loop
 wrapping-add-u64-requires c κs = search needs
 
 loop-less : tie.Need-loop-less Inv-loop μ-loop
 loop-less c =
-    let i = c .before .before .before .before .before .before .before .before .before .before .before .before .before .before .before .before .before .before .before .before .before .before .before .before .before .before .before .before .before .before .before .loop .inv .0 in
-    omega (arith, i .sizes, i .before, c .before .before .before .before .before .before .before .before .before .before .before .before .before .before .before .before .before .before .before .before .before .before .before .before .before .before .before .before .before .if1 .taken)
+    let i = c .before .before .before .before .before .before .before .before .before .before .before .before .before .before .before .before .before .before .before .before .before .before .before .before .before .before .before .before .before .before .before .before .before .before .loop .inv .0 in
+    omega (arith, i .sizes, i .before, c .before .before .before .before .before .before .before .before .before .before .before .before .before .before .before .before .before .before .before .before .before .before .before .before .before .before .before .before .before .before .before .before .if1 .taken)
 
 loop-again : tie.Need-loop-again Inv-loop μ-loop
 loop-again c =
-    let i = c .before .before .before .before .before .before .before .before .before .before .before .before .before .before .before .before .before .before .before .before .before .before .before .before .before .before .before .before .before .before .before .loop .inv in
-    let more = c .before .before .before .before .before .before .before .before .before .before .before .before .before .before .before .before .before .before .before .before .before .before .before .before .before .before .before .before .before .if1 .taken in
-    let room = c .before .before .before .before .before .before .before .before .before .before .before .before .before .before .before .before .before .before .before .before .before .before .before .before .before .before .before .before .if2 .left in
-    let e = c .before .before .before .before .before .before .before .before .before .before .before .before .before .before .before .before .event in
+    let i = c .before .before .before .before .before .before .before .before .before .before .before .before .before .before .before .before .before .before .before .before .before .before .before .before .before .before .before .before .before .before .before .before .before .before .loop .inv in
+    let more = c .before .before .before .before .before .before .before .before .before .before .before .before .before .before .before .before .before .before .before .before .before .before .before .before .before .before .before .before .before .before .before .before .if1 .taken in
+    let room = c .before .before .before .before .before .before .before .before .before .before .before .before .before .before .before .before .before .before .before .before .before .before .before .before .before .before .before .before .before .before .before .if2 .left in
+    let e = c .before .before .before .before .before .before .before .before .before .before .before .before .before .before .before .before .before .before .before .changes in
     let l = c .before .before .before .line in (
       record {
         reads = omega (arith, i .0 .reads, e .kept .1 .1 .1 .1 .1 .1 .1 .0);
@@ -185,13 +198,17 @@ block-spec =
     add-little-2
     shared-slice-read-little-2
     little-requires
-    shared-slice-read-event
-    add-event
-    shared-slice-read-event-2
-    sub-event
-    part-event-start
-    part-event-end
-    event-requires
+    shared-slice-read-changes
+    add-changes
+    shared-slice-read-changes-2
+    sub-changes
+    part-changes-start
+    part-changes-end
+    changes-requires
+    mul-seat
+    element-set-from-seat
+    mul-state
+    element-set-from-state
     line-requires
     wrapping-add-u64-requires
     loop-less

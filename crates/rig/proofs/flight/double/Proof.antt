@@ -1,18 +1,27 @@
+use Prim.Native.Nat.{_*_, _+_}
+use mathlib.Core.Path.{_≡_, sym, subst}
+use mathlib.Core.List.{_++_}
+use native.Mathlib.Omega.{arith}
 use denote.Ref.{now}
-use Rattle.rig.proofs.Flown.{double-done, double-full, double-missing}
 use borrow.Author.Needs.{needs}
+use lib.ListN.{take, drop}
+use Rattle.config.specs.declared.Refusal.{Refusal}
+use Rattle.rig.specs.Inner.{DoublePost, counted, quiet}
+use Rattle.rig.proofs.Flown.{double-done, double-full, double-missing}
+use Rattle.rig.proofs.Parted.{on-count, on-same}
 use Rattle.rig.proofs.flight.double.Statement.{statement}
 use Rattle.rig.proofs.flight.double.Tie as tie
 
 returns : tie.Need-returns
 returns c =
     let a = c .before .before .args in
-    double-missing (a .rig) (a .position) (now (a .messages)) (a .m) (c .if1 .taken)
+    on-same (a .part) _ Refusal.Missing (λ r o. double-missing r (a .position) (now (a .messages)) (a .m) (omega (arith, o .count, c .if1 .taken)))
 
 returns-2 : tie.Need-returns-2
 returns-2 c =
     let a = c .before .before .before .args in
-    double-full (a .rig) (a .position) (now (a .messages)) (a .m) (c .before .if1 .left) (c .if2 .taken)
+    on-same (a .part) _ Refusal.Full (λ r o.
+    double-full r (a .position) (now (a .messages)) (a .m) (omega (arith, o .count, c .before .if1 .left)) (omega (arith, o .count, c .if2 .taken)))
 
 mul-lift : tie.Need-mul-lift
 mul-lift c = search needs
@@ -26,8 +35,8 @@ mul-lay c = search needs
 lay-requires : tie.Need-lay-requires
 lay-requires c κs = search needs
 
-add-rig : tie.Need-add-rig
-add-rig c = search needs
+add-part : tie.Need-add-part
+add-part c = search needs
 
 same-length : tie.Need-same-length
 same-length c = search needs
@@ -36,12 +45,17 @@ returns-3 : tie.Need-returns-3
 returns-3 c =
     let s = c .before .before .before .before .before .before .before .before .before in
     let a = s .args in
-    double-done (a .rig) (a .position) (now (a .messages)) (a .m) _ _
-    (c .before .before .before .before .before .before .before .if1 .left)
-    (c .before .before .before .before .before .before .if2 .left)
+    let ms = now (a .messages) in
+    let copy = c .before .before .before .before .lift .result in
+    let after = c .before .before .lay .last .0 in
+    on-count (a .part) _ (a .part .count + 1) (λ r o.
+    subst (λ n. DoublePost (a .m) r (a .position) ms (quiet (counted r (n + 1))) after) (o .count)
+    (double-done r (a .position) ms (a .m) copy after
+    (omega (arith, o .count, c .before .before .before .before .before .before .before .if1 .left))
+    (omega (arith, o .count, c .before .before .before .before .before .before .if2 .left))
     (s .pre .room)
     (c .before .before .before .before .lift .ensures)
-    (c .before .before .lay .ensures)
+    (subst (λ n. after ≡ take (80 * n) ms ++ (copy ++ drop (80 * n + 80) ms)) (sym (o .count)) (c .before .before .lay .ensures))))
 
 pub double-spec : {M : Type 1} → statement M
 double-spec =
@@ -53,6 +67,6 @@ double-spec =
     lift-requires
     mul-lay
     lay-requires
-    add-rig
+    add-part
     same-length
     returns-3)

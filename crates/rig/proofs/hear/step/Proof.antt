@@ -5,7 +5,7 @@ use native.Mathlib.Omega.{arith}
 use denote.Ref.{now}
 use lib.ListN.{take, drop}
 use Rattle.config.specs.Config.{boardLength}
-use Rattle.rig.proofs.Answered.{board-ends, boards-fit, elements-end, elements-fit, heard, is-numbered}
+use Rattle.rig.proofs.Answered.{board-ends, boards-fit, elements-end, elements-fit, heeded, is-numbered}
 use Rattle.rig.proofs.Sizes.{received-small}
 use Rattle.rig.proofs.Starts.{put-form}
 use borrow.Author.Needs.{needs}
@@ -73,7 +73,7 @@ returns c =
     let j : at + boardLength (a .cfg) - at ≡ boardLength (a .cfg) = omega arith in
     let k : start + wide - start ≡ wide = omega arith in
     let es = c .before .before .before .before .before .before .step .last .1 .1 .1 .1 .0 in
-    heard (s .pre)
+    heeded (s .pre)
     (λ i. omega (arith, c .before .before .before .before .before .before .before .before .before .before .before .before .before .before .before .before .before .shared-slice-known .given i)) (is-numbered (a .x .phase) _ (s .good .1 .0 .1 .1 .1 .1 .0))
     (take (at + boardLength (a .cfg) - at) (drop at (now (a .boards)))) (take (start + wide - start) (drop start (now (a .elements)))) es
     (c .before .before .before .before .before .before .step .last .1 .1 .1 .1 .1 .0) (c .before .before .before .before .before .before .step .last .1 .1 .1 .1 .1 .1 .0) _ (c .before .before .before .before .before .before .step .result)

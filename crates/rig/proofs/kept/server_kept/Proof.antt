@@ -1,43 +1,71 @@
-use mathlib.Core.Path.{sym, ap, _∙_}
+use Prim.Native.Nat.{_+_, _*_}
 use mathlib.Core.Bool.{_&&_}
+use mathlib.Core.Option.{some}
+use mathlib.Core.Path.{refl, sym, ap, _∙_}
+use native.Mathlib.Omega.{arith}
 use borrow.Author.Tests.{eq-eqb}
-use denote.Ref.{now}
 use lib.Dec.{eqb}
-use lib.ListN.{length}
 use Rattle.server.specs.Calls.{stateQuestions, storeLength}
 use Rattle.server.specs.Kept.{stateKept}
-use Rattle.rig.proofs.Numbered.{other-server, own-server, six-told}
+use Rattle.rig.specs.Questions.{serverKept}
+use Rattle.rig.proofs.Numbered.{is-asked, not-asked, other-server, own-server, six-told}
+use Rattle.rig.proofs.Sizes.{store-small}
 use borrow.Author.Needs.{needs}
 use Rattle.rig.proofs.kept.server_kept.Statement.{statement}
 use Rattle.rig.proofs.kept.server_kept.Tie as tie
 
+returns : tie.Need-returns
+returns c =
+    let a = c .before .before .args in
+    not-asked (a .cfg .n) (a .i) (serverKept (a .cfg) (a .i) (some (a .x))) (c .if1 .taken)
+
 number-requires : tie.Need-number-requires
 number-requires c κs = search needs
 
-cast-if1 : tie.Need-cast-if1
-cast-if1 c = search needs
+cast-if2 : tie.Need-cast-if2
+cast-if2 c = search needs
 
-add-if1 : tie.Need-add-if1
-add-if1 c = search needs
+add-if2 : tie.Need-add-if2
+add-if2 c = search needs
 
-returns : tie.Need-returns
-returns c =
-    let a = c .before .before .before .before .before .args in
-    other-server (a .cfg) (a .i) (a .x) (λ e. c .if1 .taken (c .before .number .ensures ∙ e))
+returns-2 : tie.Need-returns-2
+returns-2 c =
+    let a = c .before .before .before .before .before .before .args in
+    other-server (a .cfg) (a .i) (a .x) (λ e. c .if2 .taken (c .before .number .ensures ∙ e))
+    ∙ is-asked (a .cfg .n) (a .i) (serverKept (a .cfg) (a .i) (some (a .x))) (c .before .before .before .before .if1 .left)
+
+add-ask : tie.Need-add-ask
+add-ask c = search needs
+
+mul-ask : tie.Need-mul-ask
+mul-ask c =
+    let s = c .before .before .before .before .before .before .before .before in
+    omega (arith, store-small (s .args .cfg) (s .pre .0))
 
 ask-requires : tie.Need-ask-requires
 ask-requires c κs = search needs
 
-returns-2 : tie.Need-returns-2
+returns-3 : tie.Need-returns-3
 unfolding stateQuestions
-returns-2 c =
-    let s = c .before .before .before .before .before .before in
+returns-3 c =
+    let s = c .before .before .before .before .before .before .before .before .before in
     let a = s .args in
-    let long = eqb (length (now (a .store))) (storeLength (a .cfg)) in
-    six-told (a .cfg) (s .pre .0) (long && stateKept (a .cfg) (a .x .state)) (c .ask .result) (c .ask .ensures)
-    ∙ ap (λ b. b && stateKept (a .cfg) (a .x .state)) (eq-eqb (length (now (a .store))) (storeLength (a .cfg)) (s .pre .2))
-    ∙ own-server (a .cfg) (a .i) (a .x) (sym (c .before .before .number .ensures) ∙ c .before .if1 .left)
+    let long = (a .cfg .d + 1) * a .cfg .e in
+    six-told (a .cfg) (s .pre .0) (eqb long (storeLength (a .cfg)) && stateKept (a .cfg) (a .x .state)) (c .ask .result) (c .ask .ensures)
+    ∙ ap (λ b. b && stateKept (a .cfg) (a .x .state)) (eq-eqb long (storeLength (a .cfg)) refl)
+    ∙ own-server (a .cfg) (a .i) (a .x) (sym (c .before .before .before .before .number .ensures) ∙ c .before .before .before .if2 .left)
+    ∙ is-asked (a .cfg .n) (a .i) (serverKept (a .cfg) (a .i) (some (a .x))) (c .before .before .before .before .before .before .before .if1 .left)
 
 pub server-kept-spec : {M : Type 1} → statement M
 server-kept-spec =
-    tie.close (tie.spec number-requires cast-if1 add-if1 returns ask-requires returns-2)
+    tie.close
+    (tie.spec
+    returns
+    number-requires
+    cast-if2
+    add-if2
+    returns-2
+    add-ask
+    mul-ask
+    ask-requires
+    returns-3)

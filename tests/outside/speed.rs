@@ -9,7 +9,7 @@ use std::path::Path;
 use std::process::Command;
 use std::time::Duration;
 
-const ROUNDS: usize = 7;
+const ROUNDS: usize = 15;
 
 /// Processor time of the children that have ended (Linux).
 fn of_children() -> Duration {

@@ -21,7 +21,7 @@ use Rattle.config.specs.Refusal.{verdictNumber}
 use Rattle.config.proofs.Questions.{firstNo-high, firstNo-pass, firstNo-stop, questions-numbered}
 use Rattle.config.proofs.Valid.{valid}
 use Rattle.tag.specs.Tag.{start}
-use Rattle.history.specs.Client as protocol
+use Rattle.protocol.specs.Client as protocol
 use Rattle.client.specs.declared.Ended.{Ended}
 use Rattle.client.specs.declared.Moved.{Moved}
 use Rattle.client.specs.declared.Phase.{Phase}

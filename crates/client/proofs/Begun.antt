@@ -18,8 +18,8 @@ use Rattle.tag.proofs.Order.{same-one}
 use Rattle.record.specs.Message.{Message}
 use Rattle.record.specs.Record.{clauses, kindAt, kindNumber, messageOf, operationAt, ownTag, wellFormed}
 use Rattle.record.proofs.Clauses.{clause, its-kind, its-tag, kind-number}
-use Rattle.history.specs.Client as protocol
-use Rattle.history.specs.Tags as tags
+use Rattle.protocol.specs.Client as protocol
+use Rattle.protocol.specs.Tags as tags
 use Rattle.client.specs.declared.Phase.{Phase}
 use Rattle.client.specs.declared.Phase.the-variants.{Idle, Asking, PreWriting, FinalisingWrite, FinalisingRead, Down}
 use Rattle.client.specs.declared.State.{State}

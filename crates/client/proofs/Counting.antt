@@ -23,9 +23,9 @@ use Rattle.record.specs.declared.Kind.{Kind}
 use Rattle.record.specs.declared.Kind.the-variants.{Query, QueryAnswer, PreWrite, PreWriteAnswer, WriteFinalise, WriteFinaliseAnswer, ReadFinalise, ReadFinaliseAnswer}
 use Rattle.record.specs.Calls.{limits, withElement}
 use Rattle.record.specs.Record.{elementAt, kindNumber}
-use Rattle.history.specs.Client as protocol
-use Rattle.history.specs.Number.{upd}
-use Rattle.history.specs.Tags as tags
+use Rattle.protocol.specs.Client as protocol
+use Rattle.protocol.specs.Number.{upd}
+use Rattle.protocol.specs.Tags as tags
 use Rattle.client.specs.declared.Phase.{Phase}
 use Rattle.client.specs.declared.Phase.the-variants.{Idle, Asking, PreWriting, FinalisingWrite, FinalisingRead, Down}
 use Rattle.client.specs.Count.{Countable, Counts, firstOf, placed, placedAt}

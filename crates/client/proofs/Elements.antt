@@ -11,7 +11,7 @@ use borrow.Author.Tests.{eq-eqb, ne-eqb}
 use lib.Dec.{eqb}
 use lib.ListN.{length}
 use Rattle.config.specs.declared.Config.{Config}
-use Rattle.history.specs.Number.{upd}
+use Rattle.protocol.specs.Number.{upd}
 use Rattle.client.specs.Count.{placedAt}
 use Rattle.client.specs.Servers.{member, withinServers}
 use Rattle.client.specs.State.{elementAt, received}

@@ -13,7 +13,7 @@ use lib.ListN.{length, getD, take, drop, set, length-append, length-map, length-
 use lib.Seq.{append-snoc, length-take-le, set-at, take-at, drop-at, drop-cons, drop-drop}
 use Rattle.config.specs.declared.Config.{Config}
 use Rattle.code.specs.Lists.{joined}
-use Rattle.history.specs.Number.{pairOf, present}
+use Rattle.protocol.specs.Number.{pairOf, present}
 use Rattle.client.specs.Gather.{Gathered, PickPost, lowest, numbersOf, elementsOf}
 use Rattle.client.specs.Place.{over}
 use Rattle.client.specs.Servers.{member}

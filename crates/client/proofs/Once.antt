@@ -14,9 +14,9 @@ use Rattle.laws.proofs.Bools.{and-left, and-right}
 use Rattle.config.specs.declared.Config.{Config}
 use Rattle.tag.specs.declared.Tag.{Tag}
 use Rattle.record.specs.Message.{Message}
-use Rattle.history.specs.Client.{Client, Phase, Moved, idle, asking, preWriting, finalisingWrite, finalisingRead, down, isFirst, awaits, awaited, counting, counted, enough, enoughToRead, highestNumber, nextTag, asked, spent, written, sendPreWrites, sendReadFinalises, sendWriteFinalises, endRead, ends, stays, settling, settle, clientStep}
-use Rattle.history.specs.Number.{count, nobody, nothingYet, upd}
-use Rattle.history.specs.Tags.{higher, kindNumber, same}
+use Rattle.protocol.specs.Client.{Client, Phase, Moved, idle, asking, preWriting, finalisingWrite, finalisingRead, down, isFirst, awaits, awaited, counting, counted, enough, enoughToRead, highestNumber, nextTag, asked, spent, written, sendPreWrites, sendReadFinalises, sendWriteFinalises, endRead, ends, stays, settling, settle, clientStep}
+use Rattle.protocol.specs.Number.{count, nobody, nothingYet, upd}
+use Rattle.protocol.specs.Tags.{higher, kindNumber, same}
 
 -- the servers counted in a phase
 abbrev pub countedIn : {Value Element : Type 0} → Phase Value Element → ℕ → Bool

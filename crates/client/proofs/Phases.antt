@@ -17,8 +17,8 @@ use Rattle.tag.specs.declared.Tag.{Tag}
 use Rattle.tag.specs.Tag.{allowed}
 use Rattle.code.specs.Decoded.{decodedPairs}
 use Rattle.code.specs.Element.{element}
-use Rattle.history.specs.Client as protocol
-use Rattle.history.specs.Number.{count, present}
+use Rattle.protocol.specs.Client as protocol
+use Rattle.protocol.specs.Number.{count, present}
 use Rattle.client.specs.declared.Ended.the-variants.{Nothing, Read, Spent, Written}
 use Rattle.client.specs.declared.Moved.{Moved}
 use Rattle.client.specs.declared.Phase.{Phase}

@@ -14,7 +14,7 @@ use Rattle.laws.proofs.Bools.{and-left, and-right}
 use Rattle.config.specs.declared.Config.{Config}
 use Rattle.code.specs.Decoded.{risingAbove}
 use Rattle.code.specs.Lists.{joined}
-use Rattle.history.specs.Number.{present, pairOf, count}
+use Rattle.protocol.specs.Number.{present, pairOf, count}
 use Rattle.client.specs.Servers.{member}
 use Rattle.client.specs.State.{received, elementAt}
 use Rattle.client.specs.Gather.{lowest, numbersOf, elementsOf}

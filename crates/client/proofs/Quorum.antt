@@ -17,9 +17,9 @@ use Rattle.config.specs.Config.{quorumOf}
 use Rattle.tag.specs.declared.Tag.{Tag}
 use Rattle.record.specs.Message.{Message}
 use Rattle.record.specs.Record.{messageOf, serverAt}
-use Rattle.history.specs.Client.{Client, Ended, Phase, Moved, idle, asking, preWriting, finalisingWrite, finalisingRead, down, nothing, written, spent, read, awaits, awaited, counting, counted, enough, enoughToRead, quorum, highestNumber, nextTag, asked, sendPreWrites, sendReadFinalises, sendWriteFinalises, endRead, ends, stays, settling, settle, clientStep, beginClient}
-use Rattle.history.specs.Number.{count, nobody, present, upd}
-use Rattle.history.specs.Tags.{higher}
+use Rattle.protocol.specs.Client.{Client, Ended, Phase, Moved, idle, asking, preWriting, finalisingWrite, finalisingRead, down, nothing, written, spent, read, awaits, awaited, counting, counted, enough, enoughToRead, quorum, highestNumber, nextTag, asked, sendPreWrites, sendReadFinalises, sendWriteFinalises, endRead, ends, stays, settling, settle, clientStep, beginClient}
+use Rattle.protocol.specs.Number.{count, nobody, present, upd}
+use Rattle.protocol.specs.Tags.{higher}
 use Rattle.client.proofs.Once.{countedIn, adds}
 
 -- the client is asking

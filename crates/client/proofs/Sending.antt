@@ -29,7 +29,7 @@ use Rattle.record.specs.Message.{Message}
 use Rattle.record.specs.Record.{all, elementAt, highestNumber, kindNumber, ofConfig, ownTag, presence, queryTag, recordOf}
 use Rattle.record.proofs.Answers.{write-last}
 use Rattle.record.proofs.Written.{header-message}
-use Rattle.history.specs.Number.{toEach}
+use Rattle.protocol.specs.Number.{toEach}
 use Rattle.client.specs.declared.send.Letter.{Letter}
 use Rattle.client.specs.Send.{Filled, Sendable, SendsOne, addressed, front, records}
 

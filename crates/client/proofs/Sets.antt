@@ -12,7 +12,7 @@ use lib.Count.{ones, ones-cat}
 use lib.Dec.{eqb, ltb, eqb·suc-suc, eqb·suc-zero, eqb·zero-suc}
 use lib.Pow.{shr-shr, mod-pow-add, pow-mono, pow-pos}
 use Rattle.laws.proofs.Bools.{and-left, and-right}
-use Rattle.history.specs.Number.{upd, count, nobody}
+use Rattle.protocol.specs.Number.{upd, count, nobody}
 use Rattle.client.specs.Servers.{member, withinServers}
 
 two-pos : zero < 2

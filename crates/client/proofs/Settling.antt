@@ -20,9 +20,9 @@ use Rattle.tag.specs.declared.Tag.{Tag}
 use Rattle.tag.specs.Tag.{allowed, start}
 use Rattle.code.specs.Element.{element}
 use Rattle.record.specs.declared.Kind.the-variants.{PreWrite, Query, ReadFinalise, WriteFinalise}
-use Rattle.history.specs.Client as protocol
-use Rattle.history.specs.Number.{nobody, nothingYet, toEach}
-use Rattle.history.specs.Tags.{startingTag}
+use Rattle.protocol.specs.Client as protocol
+use Rattle.protocol.specs.Number.{nobody, nothingYet, toEach}
+use Rattle.protocol.specs.Tags.{startingTag}
 use Rattle.client.specs.declared.Ended.{Ended}
 use Rattle.client.specs.declared.Moved.{Moved}
 use Rattle.client.specs.declared.Phase.{Phase}

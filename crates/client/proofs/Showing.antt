@@ -16,7 +16,7 @@ use Rattle.code.specs.Decode.{DecodePost, decodeQuestions}
 use Rattle.code.specs.Decoded.{decoded, decodedPairs, rising, risingAbove}
 use Rattle.code.specs.Lists.{joined}
 use Rattle.code.proofs.Decodable.{accepted as decode-accepted}
-use Rattle.history.specs.Number.{count, present}
+use Rattle.protocol.specs.Number.{count, present}
 use Rattle.client.specs.Gather.{Gathered, Gathers, Shows, elementsOf, lowest, numbersOf}
 use Rattle.client.specs.Servers.{member}
 use Rattle.client.specs.State.{received}

@@ -27,7 +27,7 @@ use Rattle.record.specs.Record.{clauses, kindAt, kindNumber, kindOf, messageOf,
 use Rattle.record.proofs.Answers.{read-last}
 use Rattle.record.proofs.Parties.{number-low}
 use Rattle.record.proofs.Clauses.{clause, its-client, its-kind, its-server, its-tag, kind-number}
-use Rattle.history.specs.Client as protocol
+use Rattle.protocol.specs.Client as protocol
 use Rattle.client.specs.declared.count.Awaited.{Awaited}
 use Rattle.client.specs.declared.Ended.{Ended}
 use Rattle.client.specs.declared.Moved.{Moved}

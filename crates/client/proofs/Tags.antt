@@ -10,7 +10,7 @@ use Rattle.config.specs.Config.{Valid}
 use Rattle.tag.specs.declared.Tag.{Tag}
 use Rattle.tag.specs.Tag.{above, allowed, key, same}
 use Rattle.tag.proofs.Order.{Small, above-key, allowed-client, key-one, not-above, same-one, same-self}
-use Rattle.history.specs.Tags as protocol
+use Rattle.protocol.specs.Tags as protocol
 
 -- an allowed tag's client number is a byte
 pub small : (cfg : Config) → Valid cfg → (t : Tag) → allowed (cfg .c) t ≡ true → Small t

@@ -25,9 +25,9 @@ use Rattle.code.specs.Decoded.{decodedPairs}
 use Rattle.code.specs.Element.{element}
 use Rattle.record.specs.Message.{Message}
 use Rattle.record.specs.Record.{highestNumber, messageOf, serverAt, tagAt, wellFormed}
-use Rattle.history.specs.Client as protocol
-use Rattle.history.specs.Number.{count, upd}
-use Rattle.history.specs.Tags.{higher}
+use Rattle.protocol.specs.Client as protocol
+use Rattle.protocol.specs.Number.{count, upd}
+use Rattle.protocol.specs.Tags.{higher}
 use Rattle.client.specs.declared.Ended.the-variants.{Written, Spent, Read}
 use Rattle.client.specs.declared.Moved.{Moved}
 use Rattle.client.specs.declared.NewState.{NewState}

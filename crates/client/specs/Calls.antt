@@ -16,7 +16,7 @@ use Rattle.tag.specs.Tag.{key}
 use Rattle.code.specs.Decoded.{decodedPairs}
 use Rattle.code.specs.Element.{element}
 use Rattle.record.specs.Record.{messageOf}
-use Rattle.history.specs.Client as protocol
+use Rattle.protocol.specs.Client as protocol
 use Rattle.client.specs.declared.Ended.{Ended}
 use Rattle.client.specs.declared.NewState.{NewState}
 use Rattle.client.specs.declared.Moved.{Moved}

@@ -14,7 +14,7 @@ use Rattle.record.specs.declared.Header.{Header}
 use Rattle.record.specs.Calls.{limits, withElement}
 use Rattle.record.specs.Message.{Message}
 use Rattle.record.specs.Record.{kindNumber}
-use Rattle.history.specs.Client.{awaited, awaits, counting}
+use Rattle.protocol.specs.Client.{awaited, awaits, counting}
 use Rattle.client.specs.declared.count.Awaited.{Awaited}
 use Rattle.client.specs.declared.Phase.{Phase}
 use Rattle.client.specs.declared.Phase.the-variants.{Idle, Asking, PreWriting, FinalisingWrite, FinalisingRead, Down}

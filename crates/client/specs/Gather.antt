@@ -8,7 +8,7 @@ use lib.ListN.{length, take, drop, set}
 use Rattle.config.specs.declared.Config.{Config}
 use Rattle.config.specs.Config.{Valid, boardLength}
 use Rattle.code.specs.Lists.{joined}
-use Rattle.history.specs.Number.{count, present}
+use Rattle.protocol.specs.Number.{count, present}
 use Rattle.client.specs.Place.{over}
 use Rattle.client.specs.Servers.{member, withinServers}
 use Rattle.client.specs.State.{elementAt, received}

@@ -13,7 +13,7 @@ use Rattle.tag.specs.Tag.{allowed}
 use Rattle.code.specs.Element.{element}
 use Rattle.record.specs.Message.{Message}
 use Rattle.record.specs.Record.{elementAt, kindNumber, ownTag, presence, queryTag, recordOf}
-use Rattle.history.specs.Number.{toEach}
+use Rattle.protocol.specs.Number.{toEach}
 use Rattle.client.specs.declared.send.Letter.{Letter}
 
 -- the records of messages, one after the other

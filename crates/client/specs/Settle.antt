@@ -15,7 +15,7 @@ use Rattle.tag.specs.Tag.{allowed, start}
 use Rattle.code.specs.Decoded.{decodedPairs}
 use Rattle.code.specs.Element.{element}
 use Rattle.record.specs.declared.Kind.the-variants.{Query}
-use Rattle.history.specs.Client as protocol
+use Rattle.protocol.specs.Client as protocol
 use Rattle.client.specs.declared.Ended.{Ended}
 use Rattle.client.specs.declared.Ended.the-variants.{Nothing, Written, Spent, Read}
 use Rattle.client.specs.declared.Moved.{Moved}

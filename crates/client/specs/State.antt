@@ -10,7 +10,7 @@ use Rattle.config.specs.Number.{clientNumber}
 use Rattle.config.specs.Questions.{within}
 use Rattle.tag.specs.declared.Tag.{Tag}
 use Rattle.tag.specs.Tag.{allowed}
-use Rattle.history.specs.Client as protocol
+use Rattle.protocol.specs.Client as protocol
 use Rattle.client.specs.declared.Phase.{Phase}
 use Rattle.client.specs.declared.Phase.the-variants.{Idle, Asking, PreWriting, FinalisingWrite, FinalisingRead, Down}
 use Rattle.client.specs.declared.State.{State}

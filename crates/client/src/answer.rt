@@ -16,7 +16,7 @@ ghost use Rattle.config.specs.Questions.{firstNo};
 ghost use Rattle.tag.specs.Tag.{key};
 ghost use Rattle.record.specs.Calls.{withElement};
 ghost use Rattle.record.specs.Record.{messageOf};
-ghost use Rattle.history.specs.Client as protocol;
+ghost use Rattle.protocol.specs.Client as protocol;
 ghost use Rattle.client.specs.Answer.{Heard, Heeds, Takes};
 ghost use Rattle.client.specs.Calls.{StepPost};
 ghost use Rattle.client.specs.Count.{placed};

@@ -1,7 +1,7 @@
 // A set of servers as the bits of a number: bit s is server s.
 ghost use mathlib.Core.Path.{_≡_};
 ghost use Prim.Native.Nat.{_<_};
-ghost use Rattle.history.specs.Number.{upd};
+ghost use Rattle.protocol.specs.Number.{upd};
 ghost use Rattle.client.specs.Servers.{member, withinServers};
 ghost use lib.Count.{ones};
 

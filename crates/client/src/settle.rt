@@ -20,7 +20,7 @@ ghost use Prim.Native.Nat.{ℕ, _<_};
 ghost use Rattle.code.specs.Element.{element};
 ghost use Rattle.config.specs.Config.{Valid};
 ghost use Rattle.config.specs.Number.{clientNumber};
-ghost use Rattle.history.specs.Client as protocol;
+ghost use Rattle.protocol.specs.Client as protocol;
 ghost use Rattle.client.specs.Send.{Sends};
 ghost use Rattle.client.specs.Servers.{member, withinServers};
 ghost use Rattle.client.specs.Settle.{Announced, Announces, Moves, Settled, Settles, idling, settle, staying};

@@ -6,7 +6,7 @@ use Rattle.code.specs.Element.{element, elementByte}
 use Rattle.code.specs.Decoded.{decoded, decodedByte}
 use Rattle.code.specs.Lists.{listOf}
 use Rattle.code.specs.Polynomial as polynomial
-use Rattle.history.proofs.Evaluate.{answersTo}
+use Rattle.protocol.proofs.Evaluate.{answersTo}
 
 pub figures : Figures
 unfolding times sum doubled double power inverseOf inverseBelow element elementByte decoded decodedByte listOf polynomial.sum polynomial.value polynomial.carried polynomial.rooted polynomial.roots polynomial.divided polynomial.scaled polynomial.lagrange polynomial.interpolated answersTo

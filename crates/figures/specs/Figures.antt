@@ -14,7 +14,7 @@ use Rattle.tag.specs.Tag.{above, key}
 use Rattle.record.specs.declared.Kind.{Kind}
 use Rattle.record.specs.declared.Kind.the-variants.{PreWrite, PreWriteAnswer, ReadFinalise, ReadFinaliseAnswer}
 use Rattle.record.specs.Message.{Message}
-use Rattle.history.specs.Server.{Server, Served, elementOf, freshServer, serverStep}
+use Rattle.protocol.specs.Server.{Server, Served, elementOf, freshServer, serverStep}
 
 -- N servers, any k, D, E and C clients
 abbrev pub config : ℕ → ℕ → ℕ → ℕ → ℕ → Config

@@ -7,7 +7,7 @@ use lib.ListN.{length}
 use Rattle.config.specs.declared.Config.{Config}
 use Rattle.config.specs.declared.Refusal.{Refusal}
 use Rattle.config.specs.Config.{Valid}
-use Rattle.history.specs.Board.{Call}
+use Rattle.protocol.specs.Board.{Call}
 use Rattle.rig.specs.declared.Rig.{Rig}
 use Rattle.rig.specs.declared.Turn.{Turn}
 use Rattle.rig.specs.Calls.{called}

@@ -6,7 +6,7 @@ use mathlib.Core.Bool.{true}
 use mathlib.Core.List.{List}
 use native.Mathlib.Decide.{ℕ-discrete}
 use Rattle.config.specs.declared.Config.{Config}
-use Rattle.history.specs.Board.{Event}
+use Rattle.protocol.specs.Board.{Event}
 use Rattle.rig.specs.declared.Rig.{Rig}
 use Rattle.rig.specs.View.{Lent}
 use Rattle.rig.specs.Questions.{rigKept, sized}

@@ -43,10 +43,10 @@ use Rattle.client.specs.State as clientView
 use Rattle.client.specs.State.{phaseOf, phaseWithin, stateWithin, tagWithin}
 use Rattle.client.proofs.Phase as phase
 use Rattle.client.proofs.Stepping.{asked-later}
-use Rattle.history.specs.Client as protocol
-use Rattle.history.specs.Client.{Client, Phase, idle, asking, preWriting, finalisingWrite, finalisingRead, down, nothing, spent, asked, awaited, awaits, counted, counting, endRead, ends, enough, enoughToRead, highestNumber, isFirst, sendEach, sendPreWrites, sendReadFinalises, sendWriteFinalises, settle, settling, stays}
-use Rattle.history.specs.Rig.{isForServer}
-use Rattle.history.proofs.Basics.{cond-elim}
+use Rattle.protocol.specs.Client as protocol
+use Rattle.protocol.specs.Client.{Client, Phase, idle, asking, preWriting, finalisingWrite, finalisingRead, down, nothing, spent, asked, awaited, awaits, counted, counting, endRead, ends, enough, enoughToRead, highestNumber, isFirst, sendEach, sendPreWrites, sendReadFinalises, sendWriteFinalises, settle, settling, stays}
+use Rattle.protocol.specs.Rig.{isForServer}
+use Rattle.protocol.proofs.Basics.{cond-elim}
 use Rattle.rig.specs.Heard.{HearPost, HeardPost, Hears, Stepped, stepOf}
 use Rattle.rig.specs.View.{part}
 use Rattle.rig.proofs.Begun.{length-toEach}

@@ -15,10 +15,10 @@ use Rattle.config.specs.Config.{Valid, boardLength, questions, rigQuestions}
 use Rattle.config.specs.Questions.{Question, ask, firstNo}
 use Rattle.config.proofs.Questions.{firstNo-pass, firstNo-stop, rigQuestions-numbered}
 use Rattle.config.proofs.Valid.{rig-stop, valid}
-use Rattle.history.specs.Board.{Call}
-use Rattle.history.specs.Client as protocol
-use Rattle.history.specs.Rig as protocolRig
-use Rattle.history.specs.Rig.{Code, codeOf, partyQuestions}
+use Rattle.protocol.specs.Board.{Call}
+use Rattle.protocol.specs.Client as protocol
+use Rattle.protocol.specs.Rig as protocolRig
+use Rattle.protocol.specs.Rig.{Code, codeOf, partyQuestions}
 use Rattle.rig.specs.declared.Rig.{Rig}
 use Rattle.rig.specs.View.{Lent, flight, view}
 use Rattle.rig.specs.Questions.{asked, codeQuestions, eventQuestions, makeQuestions, rigKept, sized}

@@ -13,11 +13,11 @@ use Rattle.config.specs.Questions.{firstNo}
 use Rattle.tag.specs.Tag.{key}
 use Rattle.code.specs.Element.{element}
 use Rattle.code.specs.Decoded.{decodedPairs}
-use Rattle.history.specs.Board.{Answer, Call, Event, Atomic}
-use Rattle.history.specs.Rig as protocol
-use Rattle.history.specs.Rig.{Code, codeOf, unlessNo, fresh, moves, refuses}
-use Rattle.history.specs.Boards.{IsBoard}
-use Rattle.history.proofs.Boards as boards
+use Rattle.protocol.specs.Board.{Answer, Call, Event, Atomic}
+use Rattle.protocol.specs.Rig as protocol
+use Rattle.protocol.specs.Rig.{Code, codeOf, unlessNo, fresh, moves, refuses}
+use Rattle.protocol.specs.Boards.{IsBoard}
+use Rattle.protocol.proofs.Boards as boards
 use Rattle.rig.specs.declared.Rig.{Rig}
 use Rattle.rig.specs.View.{Lent, flight, view}
 use Rattle.rig.specs.Questions.{codeQuestions, eventQuestions, makeQuestions, moveOf}
@@ -31,7 +31,7 @@ eventOf a x = record { call = a; answer = x }
 module _ (cfg : Config) (m : ℕ) (start : List ℕ) where
   -- the protocol's runs
   abbrev Seen : protocol.Rig (List ℕ) (List ℕ) → List (Event (List ℕ)) → Type 0
-  Seen v events = protocol.Runs key (element cfg) (decodedPairs cfg) cfg (IsBoard cfg) start v events
+  Seen v events = protocol.Execution key (element cfg) (decodedPairs cfg) cfg (IsBoard cfg) start v events
 
   -- an event that no question refuses is the protocol's move
   accepted : (v : protocol.Rig (List ℕ) (List ℕ)) (events : List (Event (List ℕ))) → Seen v events

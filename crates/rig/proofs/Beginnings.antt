@@ -21,7 +21,7 @@ use Rattle.client.specs.declared.State as client
 use Rattle.client.specs.Questions.{beginQuestions, beginReadQuestions, beginWriteQuestions, idleQuestions, isIdle, isUp, writeSized}
 use Rattle.client.specs.State.{stateWithin}
 use Rattle.record.proofs.Parties.{number-low}
-use Rattle.history.specs.Client.{highestNumber}
+use Rattle.protocol.specs.Client.{highestNumber}
 use Rattle.rig.specs.declared.Rig.{Rig}
 use Rattle.rig.specs.Inner.{BegunPost, FullPost, fullNumber, movedOn, quiet, refusedFor}
 

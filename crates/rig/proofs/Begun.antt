@@ -29,13 +29,13 @@ use Rattle.client.specs.Questions.{idleQuestions, isIdle, isUp}
 use Rattle.client.specs.Send as send
 use Rattle.client.specs.State as clientView
 use Rattle.client.specs.State.{phaseOf, stateWithin}
-use Rattle.history.specs.Board.{Call}
-use Rattle.history.specs.Client as protocolClient
-use Rattle.history.specs.Client.{beginClient, beginQuestions, sendEach}
-use Rattle.history.specs.Number.{toEach, nothingYet}
-use Rattle.history.specs.Tags.{startingTag}
-use Rattle.history.specs.Rig as protocol
-use Rattle.history.specs.Rig.{Code, codeOf, hasRoom, isWithin, partyQuestions}
+use Rattle.protocol.specs.Board.{Call}
+use Rattle.protocol.specs.Client as protocolClient
+use Rattle.protocol.specs.Client.{beginClient, beginQuestions, sendEach}
+use Rattle.protocol.specs.Number.{toEach, nothingYet}
+use Rattle.protocol.specs.Tags.{startingTag}
+use Rattle.protocol.specs.Rig as protocol
+use Rattle.protocol.specs.Rig.{Code, codeOf, hasRoom, isWithin, partyQuestions}
 use Rattle.rig.specs.declared.Rig.{Rig}
 use Rattle.rig.specs.declared.Turn.{Turn}
 use Rattle.rig.specs.View.{Lent, flight, messagesOf, part, place, records, view}

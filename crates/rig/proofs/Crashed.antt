@@ -12,7 +12,7 @@ use Rattle.config.specs.declared.Config.{Config}
 use Rattle.config.specs.declared.Refusal.{Refusal}
 use Rattle.client.specs.declared.State as client
 use Rattle.client.specs.Questions.{isUp}
-use Rattle.history.specs.Rig.{isWithin}
+use Rattle.protocol.specs.Rig.{isWithin}
 use Rattle.record.proofs.Callers.{some-one}
 use Rattle.rig.specs.declared.Rig.{Rig}
 use Rattle.rig.specs.declared.Seat.{Seat}

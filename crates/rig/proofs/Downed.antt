@@ -22,12 +22,12 @@ use Rattle.client.specs.declared.State as client
 use Rattle.client.specs.Questions.{isUp}
 use Rattle.client.specs.State as clientView
 use Rattle.client.specs.State.{phaseOf, phaseWithin, stateWithin}
-use Rattle.history.specs.Board.{Call}
-use Rattle.history.specs.Client as protocolClient
-use Rattle.history.specs.Client.{isDown}
-use Rattle.history.specs.Number.{upd}
-use Rattle.history.specs.Rig as protocol
-use Rattle.history.specs.Rig.{codeOf, crashServer, crashClient, hasRoom, isWithin, only, partyQuestions}
+use Rattle.protocol.specs.Board.{Call}
+use Rattle.protocol.specs.Client as protocolClient
+use Rattle.protocol.specs.Client.{isDown}
+use Rattle.protocol.specs.Number.{upd}
+use Rattle.protocol.specs.Rig as protocol
+use Rattle.protocol.specs.Rig.{codeOf, crashServer, crashClient, hasRoom, isWithin, only, partyQuestions}
 use Rattle.rig.specs.declared.Rig.{Rig}
 use Rattle.rig.specs.declared.Seat.{Seat}
 use Rattle.rig.specs.declared.Turn.{Turn}

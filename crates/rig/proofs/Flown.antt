@@ -6,7 +6,7 @@ use native.Mathlib.Omega.{arith}
 use lib.ListN.{length, take, drop, length-append, length-drop, drop-of-length-le, take-append-drop}
 use lib.Seq.{paste, length-paste, length-take-le, take-length, take-all, take-take, drop-drop}
 use Rattle.config.specs.declared.Refusal.{Refusal}
-use Rattle.history.specs.Rig.{without}
+use Rattle.protocol.specs.Rig.{without}
 use Rattle.rig.specs.declared.Rig.{Rig}
 use Rattle.rig.specs.View.{records}
 use Rattle.rig.specs.Inner.{DoublePost, LosePost, counted, quiet, refusedFor}

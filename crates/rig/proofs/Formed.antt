@@ -25,13 +25,13 @@ use Rattle.record.specs.declared.Kind.the-variants.{Query, QueryAnswer, PreWrit
 use Rattle.record.specs.Message.{Message}
 use Rattle.record.specs.Record.{all, highestNumber, isPresent, kindNumber, messageClauses, ofConfig, ownTag, presence, queryTag, sized}
 use Rattle.record.proofs.Clauses.{all-at}
-use Rattle.history.specs.Client as protocol
-use Rattle.history.specs.Client.{Phase, idle, asking, preWriting, finalisingWrite, finalisingRead, down, Moved, asked, awaited, awaits, clientStep, counted, counting, endRead, ends, enough, enoughToRead, isFirst, nextTag, sendEach, sendPreWrites, sendReadFinalises, sendWriteFinalises, settle, settling, stays}
-use Rattle.history.specs.Number.{nothingYet}
-use Rattle.history.specs.Rig.{isWithin, listOf}
-use Rattle.history.specs.Server.{Server, Stored, addLast, answerTo, atOrBelowFloor, dropSmallest, elementOf, finalised, inPlaceOf, isStored, others, preWrite, query, readAnswer, readFinalise, serverStep, serverStepOf, smallest, store, storeElement, writeFinalise}
-use Rattle.history.specs.Tags.{higher, same}
-use Rattle.history.proofs.Basics.{cond-elim}
+use Rattle.protocol.specs.Client as protocol
+use Rattle.protocol.specs.Client.{Phase, idle, asking, preWriting, finalisingWrite, finalisingRead, down, Moved, asked, awaited, awaits, clientStep, counted, counting, endRead, ends, enough, enoughToRead, isFirst, nextTag, sendEach, sendPreWrites, sendReadFinalises, sendWriteFinalises, settle, settling, stays}
+use Rattle.protocol.specs.Number.{nothingYet}
+use Rattle.protocol.specs.Rig.{isWithin, listOf}
+use Rattle.protocol.specs.Server.{Server, Stored, addLast, answerTo, atOrBelowFloor, dropSmallest, elementOf, finalised, inPlaceOf, isStored, others, preWrite, query, readAnswer, readFinalise, serverStep, serverStepOf, smallest, store, storeElement, writeFinalise}
+use Rattle.protocol.specs.Tags.{higher, same}
+use Rattle.protocol.proofs.Basics.{cond-elim}
 use Rattle.rig.proofs.Begun.{sound-toEach}
 use Rattle.rig.proofs.Moved.{Sound}
 use Rattle.rig.proofs.Places.{within-high, within-low}

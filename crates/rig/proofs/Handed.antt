@@ -16,9 +16,9 @@ use Rattle.code.specs.Element.{element}
 use Rattle.code.specs.Decoded.{decodedPairs}
 use Rattle.record.specs.Message.{Message}
 use Rattle.record.specs.Record.{messageOf, recordOf, wellFormed}
-use Rattle.history.specs.Board.{Call}
-use Rattle.history.specs.Rig as protocol
-use Rattle.history.specs.Rig.{codeOf, handOver, hasRoom, isForServer, only, partyQuestions, withFlight, without}
+use Rattle.protocol.specs.Board.{Call}
+use Rattle.protocol.specs.Rig as protocol
+use Rattle.protocol.specs.Rig.{codeOf, handOver, hasRoom, isForServer, only, partyQuestions, withFlight, without}
 use Rattle.rig.specs.declared.Rig.{Rig}
 use Rattle.rig.specs.declared.Turn.{Turn}
 use Rattle.rig.specs.View.{Lent, flight, messagesOf, records, view}

@@ -30,10 +30,10 @@ use Rattle.client.specs.Send as send
 use Rattle.client.specs.Settle.{endedOf, shown}
 use Rattle.client.specs.State as clientView
 use Rattle.client.specs.State.{stateWithin}
-use Rattle.history.specs.Board.{Call}
-use Rattle.history.specs.Client as protocolClient
-use Rattle.history.specs.Rig as protocol
-use Rattle.history.specs.Rig.{answered, handOver, handed, hasRoom, isForServer, isWithin, withFlight, without}
+use Rattle.protocol.specs.Board.{Call}
+use Rattle.protocol.specs.Client as protocolClient
+use Rattle.protocol.specs.Rig as protocol
+use Rattle.protocol.specs.Rig.{answered, handOver, handed, hasRoom, isForServer, isWithin, withFlight, without}
 use Rattle.rig.specs.declared.Rig.{Rig}
 use Rattle.rig.specs.declared.Turn.{Turn}
 use Rattle.rig.specs.View.{Lent, flight, messagesOf, part, place, records, view}

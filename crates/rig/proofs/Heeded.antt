@@ -12,7 +12,7 @@ use Rattle.config.specs.declared.Refusal.{Refusal}
 use Rattle.config.specs.Refusal.{verdictNumber}
 use Rattle.record.specs.Record.{messageOf, wellFormed}
 use Rattle.client.specs.declared.Moved.{Moved}
-use Rattle.history.specs.Rig.{isForServer, isWithin}
+use Rattle.protocol.specs.Rig.{isForServer, isWithin}
 use Rattle.rig.specs.declared.Change.{Change}
 use Rattle.rig.specs.declared.Part.{Part}
 use Rattle.rig.specs.declared.Rig.{Rig}

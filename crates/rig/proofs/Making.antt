@@ -31,9 +31,9 @@ use Rattle.client.specs.declared.State as client
 use Rattle.client.specs.declared.NewState.{NewState}
 use Rattle.client.specs.Calls as clientCalls
 use Rattle.client.proofs.Theorems as clientLaws
-use Rattle.history.specs.Client.{freshClient}
-use Rattle.history.specs.Rig.{freshRig, isWithin}
-use Rattle.history.specs.Server.{freshServer}
+use Rattle.protocol.specs.Client.{freshClient}
+use Rattle.protocol.specs.Rig.{freshRig, isWithin}
+use Rattle.protocol.specs.Server.{freshServer}
 use Rattle.rig.specs.declared.Rig.{Rig}
 use Rattle.rig.specs.declared.Seat.{Seat}
 use Rattle.rig.specs.View.{Lent, clientOf, clientSeen, messagesOf, part, place, records, serverOf, serverSeen, upOf, upSeen, view}

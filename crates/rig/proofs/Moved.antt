@@ -18,11 +18,11 @@ use Rattle.server.specs.View as serverView
 use Rattle.client.specs.declared.State as client
 use Rattle.client.specs.State as clientView
 use Rattle.client.specs.Send as send
-use Rattle.history.specs.Client.{Client}
-use Rattle.history.specs.Number.{upd}
-use Rattle.history.specs.Rig as protocol
-use Rattle.history.specs.Server.{Server}
-use Rattle.history.specs.Rig.{isWithin}
+use Rattle.protocol.specs.Client.{Client}
+use Rattle.protocol.specs.Number.{upd}
+use Rattle.protocol.specs.Rig as protocol
+use Rattle.protocol.specs.Server.{Server}
+use Rattle.protocol.specs.Rig.{isWithin}
 use Rattle.rig.specs.declared.Rig.{Rig}
 use Rattle.rig.specs.declared.Seat.{Seat}
 unfoldable pub use Rattle.rig.specs.Heard.{Sound}

@@ -9,7 +9,7 @@ use lib.Seq.{getD-drop, getD-take, length-take-le}
 use Rattle.config.specs.declared.Config.{Config}
 use Rattle.config.specs.Questions.{within}
 use Rattle.config.proofs.Questions.{within-low, within-high}
-use Rattle.history.specs.Rig.{isForServer, isWithin}
+use Rattle.protocol.specs.Rig.{isForServer, isWithin}
 use Rattle.record.specs.Record.{kindOf, messageOf, wellFormed}
 use Rattle.record.proofs.Clauses.{its-client, its-kind, its-server}
 use Rattle.rig.specs.Calls.{byteOf, placeFor}

@@ -24,19 +24,19 @@ use Rattle.record.specs.declared.Kind.the-variants.{Query}
 use Rattle.record.specs.Message.{Message}
 use Rattle.record.specs.Record.{highestNumber, ofConfig, recordOf}
 use Rattle.record.proofs.Laws.{written-well-formed}
-use Rattle.history.specs.Board.{Call, Event}
-use Rattle.history.specs.Client.{beginClient, beginQuestions, clientStep, firstNo as firstAsked, freshClient, isIdle}
-use Rattle.history.specs.Number.{nothingYet}
-use Rattle.history.specs.Rig as protocol
-use Rattle.history.specs.Rig.{Code, beginWrite, beginRead, handOver, lose, double, crashServer, crashClient, codeOf, fresh, freshRig, hasRoom, isForServer, isWithin, listOf, moves, only, partyQuestions, refuses, unlessNo, withFlight, without}
-use Rattle.history.specs.Server.{freshServer, serverStep}
-use Rattle.history.specs.Tags.{startingTag}
-use Rattle.history.proofs.Basics.{cond-elim, upd-elim}
+use Rattle.protocol.specs.Board.{Call, Event}
+use Rattle.protocol.specs.Client.{beginClient, beginQuestions, clientStep, firstNo as firstAsked, freshClient, isIdle}
+use Rattle.protocol.specs.Number.{nothingYet}
+use Rattle.protocol.specs.Rig as protocol
+use Rattle.protocol.specs.Rig.{Code, beginWrite, beginRead, handOver, lose, double, crashServer, crashClient, codeOf, fresh, freshRig, hasRoom, isForServer, isWithin, listOf, moves, only, partyQuestions, refuses, unlessNo, withFlight, without}
+use Rattle.protocol.specs.Server.{freshServer, serverStep}
+use Rattle.protocol.specs.Tags.{startingTag}
+use Rattle.protocol.proofs.Basics.{cond-elim, upd-elim}
 use Rattle.rig.specs.declared.Rig.{Rig}
 use Rattle.rig.specs.View.{Lent, flight, messagesOf, view}
 use Rattle.rig.specs.Questions.{asked, codeQuestions, eventQuestions, formed, formedFor, moveOf}
 use Rattle.rig.specs.Calls.{eventNo, outcome, recordsAfter}
-use Rattle.history.specs.Boards.{IsBoard}
+use Rattle.protocol.specs.Boards.{IsBoard}
 use Rattle.rig.specs.Runs.{Runs, made, event}
 use Rattle.rig.proofs.Asked.{event-later, party-asked}
 use Rattle.rig.proofs.Atomic.{origin, seen}
@@ -195,7 +195,7 @@ module _ (cfg : Config) (valid : Valid cfg) where
 
   -- along every run of the protocol
   pub run-fits : (start : List ℕ) {v : protocol.Rig (List ℕ) (List ℕ)} {events : List (Event (List ℕ))}
-      → protocol.Runs key (element cfg) (decodedPairs cfg) cfg (IsBoard cfg) start v events → Fits cfg v
+      → protocol.Execution key (element cfg) (decodedPairs cfg) cfg (IsBoard cfg) start v events → Fits cfg v
   unfolding protocol.moveOf
   run-fits start fresh = fresh-fits start
   run-fits start (refuses runs a number) = run-fits start runs

@@ -15,8 +15,8 @@ use Rattle.config.specs.Config.{Valid, boardLength, questions, rigQuestions}
 use Rattle.config.specs.Questions.{ask, firstNo, numbered}
 use Rattle.config.specs.Refusal.{clamped, numberOf}
 use Rattle.config.proofs.Questions.{firstNo-high, firstNo-pass, firstNo-stop, firstNo-yes, rigQuestions-numbered}
-use Rattle.history.specs.Board.{Call}
-use Rattle.history.specs.Rig.{codeOf}
+use Rattle.protocol.specs.Board.{Call}
+use Rattle.protocol.specs.Rig.{codeOf}
 use Rattle.rig.specs.declared.Change.{Change}
 use Rattle.rig.specs.declared.Part.{Part}
 use Rattle.rig.specs.declared.Rig.{Rig}

@@ -7,7 +7,7 @@ use mathlib.Core.List.{List, [], _∷_}
 use lib.ListN.{set, getElem?}
 use Rattle.config.specs.declared.Refusal.{Refusal}
 use Rattle.client.specs.declared.State as client
-use Rattle.history.specs.Rig.{isWithin}
+use Rattle.protocol.specs.Rig.{isWithin}
 use Rattle.record.proofs.Callers.{some-one}
 use Rattle.rig.specs.declared.Answer.{Answer}
 use Rattle.rig.specs.declared.Change.{Change}

@@ -14,7 +14,7 @@ use Rattle.config.specs.declared.Config.{Config}
 use Rattle.config.specs.Number.{clientNumber}
 use Rattle.client.specs.declared.State as client
 use Rattle.client.specs.State.{stateWithin}
-use Rattle.history.specs.Rig.{isWithin}
+use Rattle.protocol.specs.Rig.{isWithin}
 use Rattle.rig.specs.declared.Rig.{Rig}
 use Rattle.rig.specs.declared.Seat.{Seat}
 use Rattle.rig.specs.View.{place}

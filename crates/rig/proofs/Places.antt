@@ -12,8 +12,8 @@ use lib.Dec.{eqb, leb}
 use lib.ListN.{length, take, drop, set, getD, getElem?, length-drop, take-append-drop}
 use lib.Seq.{take-all, take-append-le, drop-append-le, drop-drop, take-at, drop-at, drop-append-add, length-take-le}
 use Rattle.laws.proofs.Bools.{and-left, and-right}
-use Rattle.history.specs.Number.{upd}
-use Rattle.history.specs.Rig.{isWithin}
+use Rattle.protocol.specs.Number.{upd}
+use Rattle.protocol.specs.Rig.{isWithin}
 use Rattle.rig.specs.View.{part, place}
 
 module _ {A : Type 0} where

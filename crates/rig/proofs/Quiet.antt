@@ -17,11 +17,11 @@ use Rattle.config.specs.Config.{boardLength, rigQuestions}
 use Rattle.config.specs.Questions.{Question, ask, firstNo}
 use Rattle.record.specs.Message.{Message}
 use Rattle.record.specs.Record.{messageOf}
-use Rattle.history.specs.Board.{Call}
-use Rattle.history.specs.Client as protocolClient
-use Rattle.history.specs.Number.{upd}
-use Rattle.history.specs.Rig as protocol
-use Rattle.history.specs.Rig.{codeOf, lose, double, crashServer, crashClient, hasRoom, isWithin, listOf, only, partyQuestions, withFlight, without}
+use Rattle.protocol.specs.Board.{Call}
+use Rattle.protocol.specs.Client as protocolClient
+use Rattle.protocol.specs.Number.{upd}
+use Rattle.protocol.specs.Rig as protocol
+use Rattle.protocol.specs.Rig.{codeOf, lose, double, crashServer, crashClient, hasRoom, isWithin, listOf, only, partyQuestions, withFlight, without}
 use Rattle.rig.specs.declared.Rig.{Rig}
 use Rattle.rig.specs.declared.Turn.{Turn}
 use Rattle.rig.specs.View.{Lent, clientOf, flight, messagesOf, records, serverOf, upOf, view}

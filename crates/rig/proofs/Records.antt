@@ -7,7 +7,7 @@ use native.Mathlib.Omega.{arith}
 use native.Mathlib.Nat.{zero-add, suc-add}
 use lib.ListN.{length, take, drop, getElem?, length-append, length-drop, take-append-drop}
 use lib.Seq.{take-all, take-append-le, drop-append-le, drop-drop, take-at, drop-at, length-take-le}
-use Rattle.history.specs.Rig.{without, listOf}
+use Rattle.protocol.specs.Rig.{without, listOf}
 use Rattle.rig.specs.View.{records}
 
 pub length-records : (n : ℕ) (bs : List ℕ) → length (records n bs) ≡ n

@@ -36,10 +36,10 @@ use Rattle.server.specs.View.{each, placeAt, tagAt}
 use Rattle.server.proofs.Held.{state-allowed, state-count, state-highest}
 use Rattle.server.proofs.Laws.{OnMessage, on-message}
 use Rattle.client.specs.Send as send
-use Rattle.history.specs.Board.{Call}
-use Rattle.history.specs.Rig as protocol
-use Rattle.history.specs.Rig.{handOver, hasRoom, isForServer, isWithin, listOf, only, withFlight, without}
-use Rattle.history.specs.Server.{Served, serverStep}
+use Rattle.protocol.specs.Board.{Call}
+use Rattle.protocol.specs.Rig as protocol
+use Rattle.protocol.specs.Rig.{handOver, hasRoom, isForServer, isWithin, listOf, only, withFlight, without}
+use Rattle.protocol.specs.Server.{Served, serverStep}
 use Rattle.rig.specs.declared.Rig.{Rig}
 use Rattle.rig.specs.declared.Seat.{Seat}
 use Rattle.rig.specs.View.{Lent, flight, messagesOf, part, place, records, serverOf, serverSeen, upOf, upSeen, view}

@@ -12,7 +12,7 @@ use Rattle.config.specs.declared.Config.{Config}
 use Rattle.config.specs.declared.Refusal.{Refusal}
 use Rattle.config.specs.Config.{Valid}
 use Rattle.config.specs.Refusal.{clamped, numberOf}
-use Rattle.history.specs.Rig.{isWithin}
+use Rattle.protocol.specs.Rig.{isWithin}
 use Rattle.rig.specs.declared.Answer.{Answer}
 use Rattle.rig.specs.declared.Part.{Part}
 use Rattle.rig.specs.declared.Rig.{Rig}

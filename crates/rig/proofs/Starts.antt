@@ -25,15 +25,15 @@ use Rattle.client.specs.Questions.{beginReadQuestions, beginWriteQuestions, idl
 use Rattle.client.specs.Send as send
 use Rattle.client.specs.State as clientView
 use Rattle.client.specs.State.{stateWithin}
-use Rattle.history.specs.Board.{Call}
-use Rattle.history.specs.Client as protocolClient
-use Rattle.history.specs.Client.{beginClient, sendEach}
-use Rattle.history.specs.Tags.{startingTag}
+use Rattle.protocol.specs.Board.{Call}
+use Rattle.protocol.specs.Client as protocolClient
+use Rattle.protocol.specs.Client.{beginClient, sendEach}
+use Rattle.protocol.specs.Tags.{startingTag}
 use Rattle.record.specs.declared.Kind.the-variants.{Query}
 use Rattle.record.specs.Message.{Message}
 use Rattle.record.proofs.Parties.{number-low}
-use Rattle.history.specs.Rig as protocol
-use Rattle.history.specs.Rig.{codeOf, beginWrite, beginRead, isWithin, partyQuestions}
+use Rattle.protocol.specs.Rig as protocol
+use Rattle.protocol.specs.Rig.{codeOf, beginWrite, beginRead, isWithin, partyQuestions}
 use Rattle.rig.specs.declared.Rig.{Rig}
 use Rattle.rig.specs.declared.Turn.{Turn}
 use Rattle.rig.specs.View.{Lent, part, place, view}

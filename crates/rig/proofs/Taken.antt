@@ -28,7 +28,7 @@ use Rattle.server.specs.Calls.{StepPost, answers, forServer, outcome, storeLeng
 use Rattle.server.specs.Inner.{Held}
 use Rattle.server.specs.Kept.{stateKept}
 use Rattle.server.proofs.Asked.{step-later}
-use Rattle.history.specs.Rig.{isForServer, isWithin}
+use Rattle.protocol.specs.Rig.{isForServer, isWithin}
 use Rattle.rig.specs.declared.Answer.{Answer}
 use Rattle.rig.specs.declared.Change.{Change}
 use Rattle.rig.specs.declared.Part.{Part}

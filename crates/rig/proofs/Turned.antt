@@ -17,10 +17,10 @@ use Rattle.config.specs.Config.{boardLength, rigQuestions}
 use Rattle.config.specs.Questions.{Question, ask, firstNo}
 use Rattle.config.specs.Refusal.{numberOf}
 use Rattle.config.proofs.Questions.{firstNo-pass, firstNo-yes, rigQuestions-numbered}
-use Rattle.history.specs.Board as board
-use Rattle.history.specs.Board.{Call, refused}
-use Rattle.history.specs.Rig as protocol
-use Rattle.history.specs.Rig.{Code, codeOf, unlessNo}
+use Rattle.protocol.specs.Board as board
+use Rattle.protocol.specs.Board.{Call, refused}
+use Rattle.protocol.specs.Rig as protocol
+use Rattle.protocol.specs.Rig.{Code, codeOf, unlessNo}
 use Rattle.rig.specs.declared.Rig.{Rig}
 use Rattle.rig.specs.declared.Turn.{Turn}
 use Rattle.rig.specs.View.{Lent, flight, view}

@@ -17,10 +17,10 @@ use Rattle.record.specs.Record.{recordOf}
 use Rattle.server.specs.Calls as server
 use Rattle.client.specs.declared.State as client
 use Rattle.client.specs.Calls as clientCalls
-use Rattle.history.specs.Board as board
-use Rattle.history.specs.Board.{Call, refused, nothingEnded, writtenBy, spentBy, readBy}
-use Rattle.history.specs.Rig as protocol
-use Rattle.history.specs.Rig.{Code, beginWrite, beginRead, handOver, lose, double, crashServer, crashClient, codeOf, freshRig, isWithin, listOf, unlessNo, without}
+use Rattle.protocol.specs.Board as board
+use Rattle.protocol.specs.Board.{Call, refused, nothingEnded, writtenBy, spentBy, readBy}
+use Rattle.protocol.specs.Rig as protocol
+use Rattle.protocol.specs.Rig.{Code, beginWrite, beginRead, handOver, lose, double, crashServer, crashClient, codeOf, freshRig, isWithin, listOf, unlessNo, without}
 use Rattle.rig.specs.declared.Answer.{Answer}
 use Rattle.rig.specs.declared.Change.{Change}
 use Rattle.rig.specs.declared.Made.{Made}

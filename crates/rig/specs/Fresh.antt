@@ -10,8 +10,8 @@ use Rattle.config.specs.Config.{Valid, boardLength}
 use Rattle.code.specs.Element.{element}
 use Rattle.server.specs.Calls.{storeLength}
 use Rattle.client.specs.declared.State as client
-use Rattle.history.specs.Client.{freshClient}
-use Rattle.history.specs.Server.{freshServer}
+use Rattle.protocol.specs.Client.{freshClient}
+use Rattle.protocol.specs.Server.{freshServer}
 use Rattle.rig.specs.declared.Rig.{Rig}
 use Rattle.rig.specs.declared.Seat.{Seat}
 use Rattle.rig.specs.View.{clientSeen, part, serverSeen, upSeen}

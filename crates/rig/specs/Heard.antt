@@ -22,8 +22,8 @@ use Rattle.client.specs.declared.State.{State}
 use Rattle.client.specs.Send as send
 use Rattle.client.specs.Settle.{endedOf, shown}
 use Rattle.client.specs.State.{stateWithin, view}
-use Rattle.history.specs.Client as protocol
-use Rattle.history.specs.Rig.{isForServer}
+use Rattle.protocol.specs.Client as protocol
+use Rattle.protocol.specs.Rig.{isForServer}
 use Rattle.rig.specs.declared.Answer.{Answer}
 use Rattle.rig.specs.declared.Rig.{Rig}
 use Rattle.rig.specs.declared.Turn.{Turn}

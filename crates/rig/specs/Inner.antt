@@ -16,8 +16,8 @@ use Rattle.client.specs.declared.Moved.{Moved}
 use Rattle.client.specs.declared.Phase.{Phase}
 use Rattle.client.specs.declared.State as client
 use Rattle.client.specs.Questions.{idleQuestions, isUp}
-use Rattle.history.specs.Board.{Call}
-use Rattle.history.specs.Rig.{isForServer, isWithin, listOf, without}
+use Rattle.protocol.specs.Board.{Call}
+use Rattle.protocol.specs.Rig.{isForServer, isWithin, listOf, without}
 use Rattle.record.specs.Record.{messageOf, wellFormed}
 use Rattle.server.specs.Calls.{storeLength}
 use Rattle.rig.specs.declared.Answer.{Answer}

@@ -17,9 +17,9 @@ use Rattle.server.specs.Calls.{storeLength}
 use Rattle.server.specs.Kept.{stateKept}
 use Rattle.client.specs.declared.State as client
 use Rattle.client.specs.State.{stateWithin}
-use Rattle.history.specs.Board.{Call}
-use Rattle.history.specs.Rig as protocol
-use Rattle.history.specs.Rig.{Code, Turn, codeOf, beginWrite, beginRead, handOver, lose, double, crashServer, crashClient, hasRoom, partyQuestions}
+use Rattle.protocol.specs.Board.{Call}
+use Rattle.protocol.specs.Rig as protocol
+use Rattle.protocol.specs.Rig.{Code, Turn, codeOf, beginWrite, beginRead, handOver, lose, double, crashServer, crashClient, hasRoom, partyQuestions}
 use Rattle.rig.specs.declared.Rig.{Rig}
 use Rattle.rig.specs.declared.Seat.{Seat}
 use Rattle.rig.specs.View.{Lent, flight, view}

@@ -5,7 +5,7 @@ use mathlib.Core.List.{List, [], _∷_, _++_}
 use Rattle.config.specs.declared.Config.{Config}
 use Rattle.config.specs.Refusal.{verdictNumber}
 use Rattle.code.specs.Lists.{Bytes}
-use Rattle.history.specs.Board.{Call, Event}
+use Rattle.protocol.specs.Board.{Call, Event}
 use Rattle.rig.specs.declared.Made.{Made}
 use Rattle.rig.specs.declared.Rig.{Rig}
 use Rattle.rig.specs.declared.Turn.{Turn}

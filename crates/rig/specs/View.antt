@@ -14,10 +14,10 @@ use Rattle.server.specs.Calls.{storeLength}
 use Rattle.server.specs.View as serverView
 use Rattle.client.specs.declared.State as client
 use Rattle.client.specs.State as clientView
-use Rattle.history.specs.Server.{Server, freshServer}
-use Rattle.history.specs.Client.{Client, freshClient}
-use Rattle.history.specs.Rig as protocol
-use Rattle.history.specs.Rig.{isWithin}
+use Rattle.protocol.specs.Server.{Server, freshServer}
+use Rattle.protocol.specs.Client.{Client, freshClient}
+use Rattle.protocol.specs.Rig as protocol
+use Rattle.protocol.specs.Rig.{isWithin}
 use Rattle.rig.specs.declared.Rig.{Rig}
 use Rattle.rig.specs.declared.Seat.{Seat}
 

@@ -22,7 +22,7 @@ use Rattle.record.specs.declared.Kind.{Kind}
 use Rattle.record.specs.declared.Kind.the-variants.{ReadFinaliseAnswer}
 use Rattle.record.specs.Message.{Message}
 use Rattle.record.specs.Record.{all, elementAt as elementIn, highestNumber, isPresent, kindNumber, messageClauses, ofConfig, ownTag, presence, queryTag, recordOf, sized}
-use Rattle.history.specs.Server.{answerTo, atOrBelowFloor, elementOf, readAnswer}
+use Rattle.protocol.specs.Server.{answerTo, atOrBelowFloor, elementOf, readAnswer}
 use Rattle.server.specs.declared.State.{State}
 use Rattle.server.specs.declared.Stepped.{Stepped}
 use Rattle.server.specs.Calls.{answerBytes, answers, raised}

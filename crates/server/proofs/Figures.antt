@@ -17,8 +17,8 @@ use Rattle.record.specs.declared.Kind.{Kind}
 use Rattle.record.specs.declared.Kind.the-variants.{PreWrite, PreWriteAnswer, ReadFinalise, ReadFinaliseAnswer}
 use Rattle.record.specs.Message.{Message}
 use Rattle.record.specs.Record.{all, messageClauses, ofConfig, recordOf}
-use Rattle.history.specs.Server.{Served, Server, Stored, addLast, answerTo, atOrBelowFloor, dropSmallest, elementOf, finalised, freshServer, inPlaceOf, isStored, others, preWrite, readAnswer, readFinalise, serverStep, serverStepOf, smallest, store, storeElement}
-use Rattle.history.specs.Tags.{higher, lower, startingTag}
+use Rattle.protocol.specs.Server.{Served, Server, Stored, addLast, answerTo, atOrBelowFloor, dropSmallest, elementOf, finalised, freshServer, inPlaceOf, isStored, others, preWrite, readAnswer, readFinalise, serverStep, serverStepOf, smallest, store, storeElement}
+use Rattle.protocol.specs.Tags.{higher, lower, startingTag}
 use Rattle.server.specs.declared.State.{State}
 use Rattle.server.specs.declared.Stepped.{Stepped}
 use Rattle.server.specs.Calls.{FreshPost, StepPost, answerBytes, answers, forServer, freshState, receives}

@@ -18,8 +18,8 @@ use Rattle.record.specs.declared.Kind.{Kind}
 use Rattle.record.specs.declared.Kind.the-variants.{Query, QueryAnswer, PreWrite, PreWriteAnswer, WriteFinalise, WriteFinaliseAnswer, ReadFinalise, ReadFinaliseAnswer}
 use Rattle.record.specs.Message.{Message}
 use Rattle.record.specs.Record.{all}
-use Rattle.history.specs.Server.{Server, Stored, addLast, atOrBelowFloor, dropSmallest, finalised, freshServer, inPlaceOf, isStored, others, preWrite, query, readFinalise, serverStep, serverStepOf, smallest, store, storeElement, writeFinalise}
-use Rattle.history.specs.Tags.{higher, lower, startingTag}
+use Rattle.protocol.specs.Server.{Server, Stored, addLast, atOrBelowFloor, dropSmallest, finalised, freshServer, inPlaceOf, isStored, others, preWrite, query, readFinalise, serverStep, serverStepOf, smallest, store, storeElement, writeFinalise}
+use Rattle.protocol.specs.Tags.{higher, lower, startingTag}
 use Rattle.server.specs.Kept.{among, every, floorKept, kept, once, serverKept, tagsOf}
 use Rattle.server.proofs.Held.{kept-allowed, kept-count, kept-floor, kept-highest, kept-once}
 use Rattle.server.proofs.Each.{or-left, or-right}

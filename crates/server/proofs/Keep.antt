@@ -13,7 +13,7 @@ use Rattle.config.specs.declared.Config.{Config}
 use Rattle.tag.specs.declared.Tag.{Tag}
 use Rattle.tag.specs.Tag.{allowed, key}
 use Rattle.tag.proofs.Order.{Small}
-use Rattle.history.specs.Server.{Stored, addLast, atOrBelowFloor, dropSmallest, isStored, store as stores}
+use Rattle.protocol.specs.Server.{Stored, addLast, atOrBelowFloor, dropSmallest, isStored, store as stores}
 use Rattle.server.specs.declared.State.{State}
 use Rattle.server.specs.Inner.{Appended, Dropped, Keeping, Keeps, Room, appended, dropped, lowest, placeIn, putAt}
 use Rattle.server.specs.Kept.{among, every, once}

@@ -8,8 +8,8 @@ use lib.Dec.{eqb, leb, ltb}
 use Rattle.tag.specs.declared.Tag.{Tag}
 use Rattle.tag.specs.Tag.{above, allowed, key, same}
 use Rattle.tag.proofs.Order.{Small, above-key, allowed-client, key-one, not-above, same-one, same-self}
-use Rattle.history.specs.Server.{atOrBelowFloor}
-use Rattle.history.specs.Tags.{higher}
+use Rattle.protocol.specs.Server.{atOrBelowFloor}
+use Rattle.protocol.specs.Tags.{higher}
 use mathlib.Core.Option.{none, some}
 
 -- an allowed tag's client number is a byte

@@ -31,8 +31,8 @@ use Rattle.record.specs.Message.{Message}
 use Rattle.record.specs.Record.{messageOf, ofConfig, recordOf, tagAt as tagIn, wellFormed}
 use Rattle.record.proofs.Clauses.{its-tag}
 use Rattle.record.proofs.Laws.{reads-back, record-long, written-well-formed}
-use Rattle.history.specs.Server.{Server, Served, Stored, finalised, freshServer, preWrite, query, readFinalise, serverStep, serverStepOf, writeFinalise}
-use Rattle.history.specs.Tags.{higher, startingTag}
+use Rattle.protocol.specs.Server.{Server, Served, Stored, finalised, freshServer, preWrite, query, readFinalise, serverStep, serverStepOf, writeFinalise}
+use Rattle.protocol.specs.Tags.{higher, startingTag}
 use Rattle.server.specs.declared.Floor.{Floor}
 use Rattle.server.specs.declared.State.{State}
 use Rattle.server.specs.declared.Stepped.{Stepped}

@@ -14,7 +14,7 @@ use Rattle.config.specs.Questions.{firstNo}
 use Rattle.tag.specs.declared.Tag.{Tag}
 use Rattle.tag.specs.Tag.{allowed, key}
 use Rattle.tag.proofs.Order.{Small}
-use Rattle.history.specs.Server.{elementOf}
+use Rattle.protocol.specs.Server.{elementOf}
 use Rattle.server.specs.declared.State.{State}
 use Rattle.server.specs.Calls.{LendPost, lendQuestions, lentBytes}
 use Rattle.server.specs.Inner.{Held, placeIn}

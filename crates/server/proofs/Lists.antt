@@ -14,8 +14,8 @@ use Rattle.laws.proofs.Bools.{and-left, and-right}
 use Rattle.tag.specs.declared.Tag.{Tag}
 use Rattle.tag.specs.Tag.{above, allowed, key, same}
 use Rattle.tag.proofs.Order.{Small}
-use Rattle.history.specs.Server.{Stored, elementOf, inPlaceOf, isStored, others, smallest}
-use Rattle.history.specs.Tags.{lower}
+use Rattle.protocol.specs.Server.{Stored, elementOf, inPlaceOf, isStored, others, smallest}
+use Rattle.protocol.specs.Tags.{lower}
 use Rattle.server.specs.declared.places.Least.{Least}
 use Rattle.server.specs.Inner.{leastFrom, placeIn}
 use Rattle.server.specs.Kept.{among, every, once}

@@ -19,8 +19,8 @@ use Rattle.record.specs.declared.Kind.{Kind}
 use Rattle.record.specs.declared.Kind.the-variants.{Query, QueryAnswer, PreWrite, PreWriteAnswer, WriteFinalise, WriteFinaliseAnswer, ReadFinalise, ReadFinaliseAnswer}
 use Rattle.record.specs.Message.{Message}
 use Rattle.record.specs.Record.{all}
-use Rattle.history.specs.Server.{Server, Served, Stored, addLast, answerTo, atOrBelowFloor, dropSmallest, elementOf, finalised, inPlaceOf, isStored, others, preWrite, query, readAnswer, readFinalise, serverStep, serverStepOf, smallest, store, storeElement, writeFinalise}
-use Rattle.history.specs.Tags.{higher, lower}
+use Rattle.protocol.specs.Server.{Server, Served, Stored, addLast, answerTo, atOrBelowFloor, dropSmallest, elementOf, finalised, inPlaceOf, isStored, others, preWrite, query, readAnswer, readFinalise, serverStep, serverStepOf, smallest, store, storeElement, writeFinalise}
+use Rattle.protocol.specs.Tags.{higher, lower}
 use Rattle.server.specs.Kept.{among, every, floorKept, kept, once, serverKept, tagsOf}
 use Rattle.server.specs.Order.{Reordered, SameButOrder, next, swap, then}
 use Rattle.server.proofs.Each.{or-left}

@@ -18,8 +18,8 @@ use Rattle.tag.proofs.Order.{Small, above-key, above-not-self, key-above, not-a
 use Rattle.record.specs.declared.Kind.{Kind}
 use Rattle.record.specs.declared.Kind.the-variants.{Query, QueryAnswer, PreWrite, PreWriteAnswer, WriteFinalise, WriteFinaliseAnswer, ReadFinalise, ReadFinaliseAnswer}
 use Rattle.record.specs.Message.{Message}
-use Rattle.history.specs.Server.{Server, Stored, addLast, atOrBelowFloor, finalised, freshServer, inPlaceOf, preWrite, query, readFinalise, serverStep, serverStepOf, store, storeElement, writeFinalise}
-use Rattle.history.specs.Tags.{startingTag}
+use Rattle.protocol.specs.Server.{Server, Stored, addLast, atOrBelowFloor, finalised, freshServer, inPlaceOf, preWrite, query, readFinalise, serverStep, serverStepOf, store, storeElement, writeFinalise}
+use Rattle.protocol.specs.Tags.{startingTag}
 use Rattle.server.specs.Kept.{among, every, floorKept, kept, serverKept, tagsOf}
 use Rattle.server.specs.Received.{Highest, eachAllowed, holds, receive, receivedAfter, serverAfter, withTag}
 use Rattle.server.proofs.Held.{kept-allowed, kept-floor}

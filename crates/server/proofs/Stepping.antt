@@ -24,7 +24,7 @@ use Rattle.record.specs.Calls.{withElement}
 use Rattle.record.specs.Message.{Message}
 use Rattle.record.specs.Record.{all, elementAt as elementIn, highestNumber, isPresent, kindNumber, messageClauses, ofConfig, ownTag, presence, recordOf, sized}
 use Rattle.record.proofs.Clauses.{all-at}
-use Rattle.history.specs.Server.{Served, answerTo, elementOf, finalised, preWrite, query, readAnswer, readFinalise, serverStep, serverStepOf, storeElement, writeFinalise}
+use Rattle.protocol.specs.Server.{Served, answerTo, elementOf, finalised, preWrite, query, readAnswer, readFinalise, serverStep, serverStepOf, storeElement, writeFinalise}
 use Rattle.server.specs.declared.State.{State}
 use Rattle.server.specs.declared.Stepped.{Stepped}
 use Rattle.server.specs.Calls.{Steps, answerBytes, answers, outcome, raised, receives, stateQuestions, stays, storeLength}

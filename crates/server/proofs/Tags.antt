@@ -12,7 +12,7 @@ use Rattle.laws.proofs.Bools.{and-left, and-right}
 use Rattle.tag.specs.declared.Tag.{Tag}
 use Rattle.tag.specs.Tag.{above, allowed, key, same}
 use Rattle.tag.proofs.Order.{Small, key-above, key-one, same-one, same-self}
-use Rattle.history.specs.Tags.{lower}
+use Rattle.protocol.specs.Tags.{lower}
 use Rattle.server.specs.Kept.{among, every, once}
 use Rattle.server.proofs.Each.{or-left, or-right}
 use Rattle.server.proofs.Keys.{same-eqb, small}

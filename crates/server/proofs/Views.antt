@@ -16,7 +16,7 @@ use Rattle.config.specs.declared.Config.{Config}
 use Rattle.tag.specs.declared.Tag.{Tag}
 use Rattle.tag.specs.Tag.{allowed, key, same, start}
 use Rattle.tag.proofs.Order.{Small}
-use Rattle.history.specs.Server.{Server, Stored, addLast, dropSmallest, inPlaceOf, others, smallest}
+use Rattle.protocol.specs.Server.{Server, Stored, addLast, dropSmallest, inPlaceOf, others, smallest}
 use Rattle.server.specs.declared.Floor.{Floor}
 use Rattle.server.specs.declared.State.{State}
 use Rattle.server.specs.declared.places.Least.{Least}

@@ -18,8 +18,8 @@ use Rattle.record.specs.declared.Kind.{Kind}
 use Rattle.record.specs.declared.Kind.the-variants.{Query, QueryAnswer, PreWrite, PreWriteAnswer, WriteFinalise, WriteFinaliseAnswer, ReadFinalise, ReadFinaliseAnswer}
 use Rattle.record.specs.Message.{Message}
 use Rattle.record.specs.Record.{messageOf, recordOf, wellFormed}
-use Rattle.history.specs.Server.{Served, elementOf, serverStep}
-use Rattle.history.specs.Tags.{higher}
+use Rattle.protocol.specs.Server.{Served, elementOf, serverStep}
+use Rattle.protocol.specs.Tags.{higher}
 use Rattle.server.specs.declared.Floor.{Floor}
 use Rattle.server.specs.declared.State.{State}
 use Rattle.server.specs.declared.Stepped.{Stepped}

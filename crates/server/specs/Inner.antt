@@ -19,7 +19,7 @@ use Rattle.record.specs.declared.Kind.{Kind}
 use Rattle.record.specs.Calls.{withElement}
 use Rattle.record.specs.Message.{Message}
 use Rattle.record.specs.Record.{elementAt as elementIn, highestNumber, ofConfig, recordOf}
-use Rattle.history.specs.Server.{elementOf, readAnswer, store as stores}
+use Rattle.protocol.specs.Server.{elementOf, readAnswer, store as stores}
 use Rattle.server.specs.declared.Floor.{Floor}
 use Rattle.server.specs.declared.State.{State}
 use Rattle.server.specs.declared.Stepped.{Stepped}

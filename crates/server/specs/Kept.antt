@@ -12,7 +12,7 @@ use Rattle.config.specs.Questions.{within}
 use Rattle.tag.specs.declared.Tag.{Tag}
 use Rattle.tag.specs.Tag.{above, allowed, same}
 use Rattle.record.specs.Record.{all}
-use Rattle.history.specs.Server.{Server, Stored}
+use Rattle.protocol.specs.Server.{Server, Stored}
 use Rattle.server.specs.declared.State.{State}
 use Rattle.server.specs.View.{floorOf, tagsUsed}
 

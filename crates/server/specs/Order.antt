@@ -1,7 +1,7 @@
 -- Servers that differ in the order of what they store: "The order of stored elements in the store is free".
 use mathlib.Core.Path.{_≡_}
 use mathlib.Core.List.{List, [], _∷_}
-use Rattle.history.specs.Server.{Server}
+use Rattle.protocol.specs.Server.{Server}
 
 -- the same things, in any order
 pub data Reordered {A : Type 0} : List A → List A → Type 0 where

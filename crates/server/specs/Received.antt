@@ -10,7 +10,7 @@ use Rattle.tag.specs.Tag.{above as aboveTag, allowed, key}
 use Rattle.record.specs.declared.Kind.{Kind}
 use Rattle.record.specs.declared.Kind.the-variants.{Query, QueryAnswer, PreWrite, PreWriteAnswer, WriteFinalise, WriteFinaliseAnswer, ReadFinalise, ReadFinaliseAnswer}
 use Rattle.record.specs.Message.{Message}
-use Rattle.history.specs.Server.{Server, serverStep}
+use Rattle.protocol.specs.Server.{Server, serverStep}
 use Rattle.server.specs.Kept.{among, tagsOf}
 
 module _ {Element : Type 0} where

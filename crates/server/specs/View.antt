@@ -7,7 +7,7 @@ use lib.ListN.{getD, take, drop}
 use Rattle.config.specs.declared.Config.{Config}
 use Rattle.tag.specs.declared.Tag.{Tag}
 use Rattle.tag.specs.Tag.{start}
-use Rattle.history.specs.Server.{Server, Stored}
+use Rattle.protocol.specs.Server.{Server, Stored}
 use Rattle.server.specs.declared.Floor.{Floor}
 use Rattle.server.specs.declared.State.{State}
 

@@ -3,7 +3,7 @@ use borrow.Author.Tests.{eq-eqb, ne-eqb}
 use Rattle.config.specs.declared.Config.{Config}
 use Rattle.record.specs.declared.Header.{Header}
 use Rattle.record.specs.Calls.{withElement}
-use Rattle.history.specs.Client.{awaited}
+use Rattle.protocol.specs.Client.{awaited}
 use Rattle.client.specs.declared.count.Awaited.{Awaited}
 use Rattle.client.specs.declared.State.{State}
 use Rattle.client.specs.Count.{PhaseCounted, StateCounted}

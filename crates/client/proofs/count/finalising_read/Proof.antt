@@ -1,7 +1,7 @@
 use mathlib.Core.Path.{_≡_, sym, _∙_, ap}
 use Prim.Native.Nat.{ℕ}
 use borrow.Author.Tests.{not-true, not-false}
-use Rattle.history.specs.Number.{upd}
+use Rattle.protocol.specs.Number.{upd}
 use Rattle.client.specs.Servers.{member}
 use Rattle.client.proofs.Counting.{finalising-read-counts, finalising-read-other, server-small}
 use borrow.Author.Needs.{needs}

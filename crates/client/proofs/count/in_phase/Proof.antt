@@ -1,7 +1,7 @@
 use mathlib.Core.Path.{_≡_, refl, sym, subst}
 use Rattle.config.specs.declared.Config.{Config}
 use Rattle.record.specs.declared.Header.{Header}
-use Rattle.history.specs.Client.{awaits}
+use Rattle.protocol.specs.Client.{awaits}
 use Rattle.client.specs.declared.count.Awaited.{Awaited}
 use Rattle.client.specs.declared.Phase.{Phase}
 use Rattle.client.specs.Count.{Countable, PhaseCounted}

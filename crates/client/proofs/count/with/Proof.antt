@@ -1,7 +1,7 @@
 use mathlib.Core.Path.{_∙_, ap}
 use mathlib.Core.Bool.{true}
 use Prim.Native.Nat.{ℕ}
-use Rattle.history.specs.Number.{upd}
+use Rattle.protocol.specs.Number.{upd}
 use Rattle.client.specs.Servers.{member}
 use borrow.Author.Needs.{needs}
 use Rattle.client.proofs.count.with.Statement.{statement}

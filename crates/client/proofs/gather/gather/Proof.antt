@@ -9,7 +9,7 @@ use lib.ListN.{length, drop, length-take}
 use lib.Seq.{take-nil}
 use Rattle.config.specs.declared.Config.{Config}
 use Rattle.code.specs.Lists.{joined}
-use Rattle.history.specs.Number.{present}
+use Rattle.protocol.specs.Number.{present}
 use Rattle.client.specs.State.{received}
 use Rattle.client.specs.Gather.{Gathered, Gathers, lowest}
 use Rattle.client.proofs.Gathering.{gathered-more}

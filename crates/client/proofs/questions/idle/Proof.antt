@@ -4,7 +4,7 @@ use Prim.Native.Nat.{ℕ}
 use borrow.Author.Tests.{lt-ltb, le-ltb}
 use lib.Dec.{ltb}
 use Rattle.config.specs.Questions.{firstNo}
-use Rattle.history.specs.Client.{highestNumber}
+use Rattle.protocol.specs.Client.{highestNumber}
 use Rattle.client.specs.declared.Phase.{Phase}
 use Rattle.client.specs.declared.Phase.the-variants.{Idle}
 use Rattle.client.specs.declared.State.{State}

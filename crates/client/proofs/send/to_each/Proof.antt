@@ -11,7 +11,7 @@ use lib.Seq.{length-take-le}
 use Rattle.config.specs.declared.Config.{Config}
 use Rattle.record.specs.Message.{Message}
 use Rattle.record.specs.Record.{recordOf}
-use Rattle.history.specs.Number.{toEach}
+use Rattle.protocol.specs.Number.{toEach}
 use Rattle.client.specs.declared.send.Letter.{Letter}
 use Rattle.client.specs.Send.{messageTo, records}
 use Rattle.client.proofs.Sending.{sent-more}

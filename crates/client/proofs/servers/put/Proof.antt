@@ -9,7 +9,7 @@ use borrow.Author.Needs.{needs}
 use Rattle.client.proofs.servers.put.Statement.{statement}
 use Rattle.client.proofs.servers.put.Tie as tie
 use Rattle.client.proofs.Sets.{member-le, put-in, take-out, put-lt, upd-same}
-use Rattle.history.specs.Number.{upd}
+use Rattle.protocol.specs.Number.{upd}
 use Rattle.client.specs.Servers.{member}
 
 -- the machine's shift

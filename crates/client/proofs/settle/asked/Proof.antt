@@ -2,7 +2,7 @@ use denote.Ref.{now}
 use mathlib.Core.Path.{_≡_, refl, sym, subst}
 use borrow.Author.Tests.{not-true, not-false}
 use Rattle.config.specs.Number.{clientNumber}
-use Rattle.history.specs.Client as protocol
+use Rattle.protocol.specs.Client as protocol
 use Rattle.client.specs.declared.Ended.the-variants.{Spent}
 use Rattle.client.specs.declared.Moved.{Moved}
 use Rattle.client.specs.Settle.{Settled}

@@ -1,6 +1,6 @@
 use mathlib.Core.Path.{_≡_, sym, _∙_, ap₂}
 use lib.Dec.{leb}
-use Rattle.history.specs.Client.{enough, quorum}
+use Rattle.protocol.specs.Client.{enough, quorum}
 use Rattle.client.proofs.Sets.{size-ones}
 use borrow.Author.Needs.{needs}
 use Rattle.client.proofs.settle.enough.Statement.{statement}

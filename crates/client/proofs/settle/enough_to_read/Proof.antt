@@ -6,7 +6,7 @@ use borrow.Author.Tests.{not-true, not-false}
 use lib.Count.{ones}
 use lib.Dec.{leb}
 use Rattle.config.specs.declared.Config.{Config}
-use Rattle.history.specs.Client as protocol
+use Rattle.protocol.specs.Client as protocol
 use Rattle.client.specs.Servers.{member, withinServers}
 use Rattle.client.specs.State.{received}
 use Rattle.client.proofs.Present.{length-present}

@@ -2,7 +2,7 @@ use denote.Ref.{now}
 use mathlib.Core.Path.{_≡_}
 use Prim.Native.Nat.{ℕ, _+_}
 use Rattle.tag.specs.declared.Tag.{Tag}
-use Rattle.history.specs.Client as protocol
+use Rattle.protocol.specs.Client as protocol
 use Rattle.client.proofs.Settling.{pre-writes-go, pre-writes-settled}
 use borrow.Author.Needs.{needs}
 use Rattle.client.proofs.settle.pre_writes.Statement.{statement}

@@ -3,7 +3,7 @@ use mathlib.Core.Bool.{true}
 use borrow.Author.Needs.{needs}
 use borrow.Author.Tests.{not-true, not-false}
 use Rattle.config.specs.declared.Refusal.{Refusal}
-use Rattle.history.specs.Rig.{isWithin}
+use Rattle.protocol.specs.Rig.{isWithin}
 use Rattle.rig.specs.declared.Answer.{Answer}
 use Rattle.rig.specs.Inner.{CrashClientPost, downState, quiet}
 use Rattle.rig.proofs.Crashed.{client-crashed, client-down, no-client, outside-high, outside-low}

@@ -2,7 +2,7 @@ use mathlib.Core.Path.{_≡_, sym, ap₂, subst, _∙_}
 use mathlib.Core.Bool.{true}
 use borrow.Author.Tests.{not-true, not-false}
 use Rattle.config.specs.declared.Refusal.{Refusal}
-use Rattle.history.specs.Rig.{isWithin}
+use Rattle.protocol.specs.Rig.{isWithin}
 use Rattle.rig.specs.Calls.{seatOf}
 use Rattle.rig.specs.Inner.{CrashServerPost, downSeat, quiet}
 use Rattle.rig.proofs.Crashed.{no-server, outside-high, outside-low, server-crashed, server-down}

@@ -5,7 +5,7 @@ use native.Mathlib.Omega.{arith}
 use Prim.Native.Nat.{_<_}
 use Rattle.tag.specs.Tag.{key}
 use Rattle.tag.proofs.Order.{Small}
-use Rattle.history.specs.Server.{atOrBelowFloor}
+use Rattle.protocol.specs.Server.{atOrBelowFloor}
 use Rattle.server.specs.declared.Floor.{Floor}
 use Rattle.server.specs.View.{floorOf}
 use Rattle.server.proofs.Keys.{at-or-below-floor}

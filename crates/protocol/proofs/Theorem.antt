@@ -1,0 +1,50 @@
+-- Demand 3 over the model: "Every list's history has an order that fits." The definitions are those of specs/Board.antt (histories and what
+-- fits), specs/Rig.antt (the rig's events) and specs/Laws.antt (what is asked of the order of tags and of the code).
+use Prim.Native.Nat.{ℕ, _≤_}
+use mathlib.Core.Path.{_≡_, refl}
+use mathlib.Core.List.{List, [], List·Memᴰ}
+use Rattle.config.specs.declared.Config.{Config}
+use Rattle.tag.specs.declared.Tag.{Tag}
+use Rattle.protocol.specs.Board.{Call, Event, Atomic}
+use Rattle.protocol.specs.Rig.{Rig, freshRig, run, Execution, fresh}
+use Rattle.protocol.specs.Laws.{TagOrder, Coding}
+use Rattle.protocol.proofs.World.{Setting, know}
+use Rattle.protocol.proofs.Move.{invariant}
+use Rattle.protocol.proofs.Order.{ordered}
+use Rattle.protocol.proofs.Calls.{calls-run}
+
+-- Values and elements of any types; a key that orders tags; a code; a configuration with k at least 1; a starting board.
+module _ {Value Element : Type 0} (cfg : Config) (key : Tag → ℕ) (tags : TagOrder cfg key)
+    (IsBoard : Value → Type 0) (encode : Value → ℕ → Element) (decode : List (ℕ × Element) → Value) (coding : Coding cfg IsBoard encode decode)
+    (positive : 1 ≤ cfg .k) (start : Value) (startIsBoard : IsBoard start)
+  where
+    -- The events of every run from the fresh rig, in which any event may have been refused for any reason, have a history with an order that
+    -- fits.
+    pub atomic : {r : Rig Value Element} {events : List (Event Value)} → Execution key encode decode cfg IsBoard start r events
+        → Atomic key start events
+    unfolding know
+    atomic runs =
+        let S : Setting = record {
+          Value = Value;
+          Element = Element;
+          cfg = cfg;
+          key = key;
+          encode = encode;
+          decode = decode;
+          IsBoard = IsBoard;
+          tags = tags;
+          coding = coding;
+          positive = positive;
+          start = start;
+          startIsBoard = startIsBoard;
+        } in
+        let a = invariant S runs in
+        let found = ordered S (a .good .log) (a .recorded) (λ n. refl) in
+        record { order = found .0; fits = found .1; tagsRise = found .2 }
+
+    -- The same of every list of calls, with M the most that may be in flight: refused ones included, the events that the model answers to
+    -- them have a history with an order that fits.
+    pub atomic-calls : (most : ℕ) (calls : List (Call Value)) → ((a : Call Value) → List·Memᴰ a calls → a .code ≡ 1 → IsBoard (a .board))
+        → Atomic key start (run key encode decode cfg most (freshRig encode start) calls)
+    atomic-calls most calls boards =
+        atomic (calls-run key encode decode cfg IsBoard start most calls boards (freshRig encode start) [] fresh .1)

@@ -1,13 +1,25 @@
 //! Checks of the model and of the search themselves.
 
-use crate::history::{History, Operation, fits, search};
+use crate::history::{History, Operation, fits, history, search};
+use crate::maker::List;
 use crate::model::*;
 use crate::programs;
 use crate::random::Random;
 
 /// All checks; the number that failed.
 pub fn all() -> usize {
-    let sections = [figures(), code(), server(), client(), rig(), lines(), orders(), small_histories()];
+    let sections = [
+        figures(),
+        code(),
+        server(),
+        client(),
+        rig(),
+        lines(),
+        spent(),
+        histories(),
+        orders(),
+        small_histories(),
+    ];
     let checks: Vec<_> = sections.concat();
     let failed: Vec<_> = checks.iter().filter(|(_, holds)| !holds).collect();
     failed.iter().for_each(|(what, _)| println!("FAILED: {what}"));
@@ -227,6 +239,61 @@ fn lines() -> Checks {
             "M is little-endian",
             simulate(&[3, 1, 0, 1, 2, 1, 2]) == "0 no 5\n" && simulate(&[3, 1, 0, 1, 2, 0, 2, 0]).is_empty(),
         ),
+    ]
+}
+
+/// A write that ends spent, by the model's own lines: the servers have finalised the last number.
+fn spent() -> Checks {
+    let mut rig = Rig::make(programs::PROGRAM, &[0]).unwrap();
+    rig.servers.iter_mut().for_each(|s| s.highest = tag(u32::MAX, 2));
+    let handed_over = [0, 0, 1, 1].map(|position| [3, 0, position, 0, 0]).concat();
+    let input = [vec![1, 1, 0, 0, 5], handed_over].concat();
+    let mut out = vec![];
+    programs::events(rig, &mut &input[..], &mut out).unwrap();
+    vec![("a spent line", out == b"1 ok\n2 ok\n3 ok\n4 ok\n5 spent\n")]
+}
+
+/// Of the program's events (code, party, board byte), the client that each answer names, and the lines: how many
+/// operations the history has, and whether there is an order that fits. Nothing if it is no history.
+fn taken(events: &[(u8, u8, u8)], named: &[u8], lines: &str) -> Option<(usize, bool)> {
+    let input = events.iter().flat_map(|(code, party, byte)| [*code, *party, 0, 0, *byte]).collect();
+    let named = named.to_vec();
+    let list = List { general: false, input, config: programs::PROGRAM, start: vec![0], named };
+    let history = history(&list, lines).ok()?;
+    Some((history.operations.len(), search(&history).is_some()))
+}
+
+fn histories() -> Checks {
+    const WRITE: (u8, u8, u8) = (1, 1, 5);
+    const READ: (u8, u8, u8) = (2, 2, 0);
+    const OTHER: (u8, u8, u8) = (3, 0, 0);
+    let write_then_read = |named: &[u8], lines| taken(&[WRITE, OTHER, READ, OTHER], named, lines);
+    let spent_then_read = |lines| write_then_read(&[0, 1, 0, 2], lines);
+    vec![
+        ("spent: left out", spent_then_read("1 ok\n2 spent\n3 ok\n4 read 0 0 00") == Some((1, true))),
+        (
+            "spent: its bytes are shown",
+            spent_then_read("1 ok\n2 spent\n3 ok\n4 read 1 1 05") == Some((1, false)),
+        ),
+        (
+            "unended: its bytes are shown",
+            write_then_read(&[0, 0, 0, 2], "1 ok\n2 ok\n3 ok\n4 read 1 1 05") == Some((2, true)),
+        ),
+        (
+            "refused: its bytes are shown",
+            write_then_read(&[0, 0, 0, 2], "1 no 13\n2 ok\n3 ok\n4 read 1 1 05") == Some((1, false)),
+        ),
+        (
+            "the client writes again after spent",
+            taken(
+                &[WRITE, OTHER, (1, 1, 6), OTHER, READ, OTHER],
+                &[0, 1, 0, 1, 0, 2],
+                "1 ok\n2 spent\n3 ok\n4 written 1 1\n5 ok\n6 read 1 1 06",
+            ) == Some((2, true)),
+        ),
+        ("spent ends no read", taken(&[READ, OTHER], &[0, 2], "1 ok\n2 spent").is_none()),
+        ("spent with nothing open", taken(&[OTHER], &[1], "1 spent").is_none()),
+        ("spent twice", taken(&[WRITE, OTHER, OTHER], &[0, 1, 1], "1 ok\n2 spent\n3 spent").is_none()),
     ]
 }
 

@@ -2,7 +2,7 @@
 
 use crate::history::{fits, history, search};
 use crate::lists;
-use crate::maker::{List, Seen};
+use crate::maker::{List, Seen, never};
 use crate::model::Config;
 use crate::programs;
 use crate::random::Random;
@@ -12,6 +12,9 @@ use std::thread;
 
 /// C of lists whose histories are searched, at most.
 const SEARCHED: usize = 4;
+
+/// N and k of reads that count as large, at least.
+const LARGE: (usize, usize) = (12, 8);
 
 /// What the model prints.
 pub fn lines(list: &List) -> String {
@@ -69,12 +72,60 @@ fn ordered(list: &List, lines: &str) -> Result<usize, String> {
     }
 }
 
+/// What the programs have printed that `Seen` doesn't count, in lines that were the model's.
+#[derive(Default, Debug)]
+struct Printed {
+    /// By number.
+    making_refused: [usize; 6],
+    short_header: usize,
+    short_starting_board: usize,
+    short_event_of_board: usize,
+    short_event_of_simulate: usize,
+    /// Reads ended.
+    large_reads: usize,
+}
+
+impl Printed {
+    fn note(&mut self, list: &List, lines: &str) {
+        let large = list.config.n >= LARGE.0 && list.config.k >= LARGE.1;
+        for line in lines.lines() {
+            let mut words = line.split(' ');
+            match (words.next().unwrap(), words.next().unwrap()) {
+                ("0", "no") => self.making_refused[words.next().unwrap().parse::<usize>().unwrap()] += 1,
+                ("0", _) if list.input.len() < 7 => self.short_header += 1,
+                ("0", _) => self.short_starting_board += 1,
+                (_, "short") if list.general => self.short_event_of_simulate += 1,
+                (_, "short") => self.short_event_of_board += 1,
+                (_, "read") => self.large_reads += large as usize,
+                _ => {}
+            }
+        }
+    }
+
+    /// What hasn't been printed.
+    fn missing(&self) -> Vec<&'static str> {
+        never(&[
+            ("1 at making", self.making_refused[1]),
+            ("2 at making", self.making_refused[2]),
+            ("3 at making", self.making_refused[3]),
+            ("4 at making", self.making_refused[4]),
+            ("5 at making", self.making_refused[5]),
+            ("short, a header", self.short_header),
+            ("short, a starting board", self.short_starting_board),
+            ("short, an event of board", self.short_event_of_board),
+            ("short, an event of simulate", self.short_event_of_simulate),
+            ("reads with large N and k", self.large_reads),
+        ])
+    }
+}
+
 #[derive(Default)]
 struct Tally {
     lists: usize,
     events: usize,
     histories: usize,
     operations: usize,
+    printed: Printed,
     failed: usize,
 }
 
@@ -99,6 +150,7 @@ impl Tally {
         if let Some(what) = difference(&expected, &printed) {
             return self.report(list, name, &what, directory);
         }
+        self.printed.note(list, &printed);
         if list.config.c <= SEARCHED && !list.named.is_empty() {
             self.histories += 1;
             match ordered(list, &printed) {
@@ -109,8 +161,8 @@ impl Tally {
     }
 }
 
-/// Lists of a seed, on both programs.
-pub fn compare(seed: u64, count: u64, directory: &str, board: &str, simulate: &str) -> usize {
+/// So many lists of a seed, on both programs, up to so many failures.
+pub fn compare([seed, count, most]: [u64; 3], directory: &str, board: &str, simulate: &str) -> usize {
     let (mut seen, mut tally) = (Seen::default(), Tally::default());
     let random = &mut Random::new(seed, u64::MAX - 1);
     println!("seed {seed}, {count} lists: {board} and {simulate}");
@@ -124,26 +176,34 @@ pub fn compare(seed: u64, count: u64, directory: &str, board: &str, simulate: &s
             list.input.splice(0..0, [3, 1, 0, 1, 2, 64, 0, 0]);
             tally.one(&list, &format!("{name} by simulate"), simulate, random, directory);
         }
-        if tally.failed >= 5 {
-            println!("stopped after five");
+        if tally.failed as u64 >= most {
+            println!("stopped at {most}");
             break;
         }
     }
     if tally.failed == 0 {
         let long = lists::long(seed, programs::PROGRAM, false, 20_000, &mut seen);
         tally.one(&long, &format!("seed {seed} long list"), board, random, directory);
-        let config = Config { n: 5, k: 2, d: 2, e: 2, c: 3, m: 512 };
-        let long = lists::long(seed, config, true, 20_000, &mut seen);
-        tally.one(&long, &format!("seed {seed} long list by simulate"), simulate, random, directory);
+        let few = Config { n: 5, k: 2, d: 2, e: 2, c: 3, m: 512 };
+        let all = Config { n: 16, k: 16, d: 2, e: 4, c: 3, m: 512 };
+        for (config, events) in [(few, 20_000), (all, 8_000)] {
+            let long = lists::long(seed, config, true, events, &mut seen);
+            tally.one(&long, &format!("seed {seed} long list by simulate"), simulate, random, directory);
+        }
+        let full = lists::full(seed, &mut seen);
+        tally.one(&full, &format!("seed {seed} full list by simulate"), simulate, random, directory);
     }
-    println!("met: {seen:?}");
-    if tally.failed == 0 && (tally.events < 200_000 || !seen.all()) {
-        tally.failed += 1;
-        println!("FAILED: too few lists to meet everything");
+    let Tally { lists, events, histories, operations, printed, mut failed } = tally;
+    println!("met: {seen:?}\nand: {printed:?}");
+    let missing = [seen.missing(), printed.missing()].concat();
+    if failed == 0 && (events < 200_000 || !missing.is_empty()) {
+        failed += 1;
+        println!("FAILED: too few lists; never met: {missing:?}");
     }
-    let Tally { lists, events, histories, operations, failed } = tally;
     println!("{lists} lists, {events} events, {failed} failed");
-    println!("{histories} histories of {operations} operations searched for an order that fits");
+    println!(
+        "{histories} histories of {operations} operations searched for an order that fits (C at most {SEARCHED})"
+    );
     failed
 }
 

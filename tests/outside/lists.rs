@@ -148,10 +148,9 @@ fn refused(random: &mut Random) -> List {
     List { general: true, input, config, start: vec![], named: vec![] }
 }
 
-/// A long list in which operations go on ending: no faults, few writes at once.
-pub fn long(seed: u64, config: Config, general: bool, events: usize, seen: &mut Seen) -> List {
-    let random = &mut Random::new(seed, u64::MAX);
-    let mood = Mood {
+/// No faults, few writes at once.
+fn busy(random: &mut Random, config: &Config) -> Mood {
+    Mood {
         begin: 50,
         write: 500,
         lose: 0,
@@ -164,9 +163,27 @@ pub fn long(seed: u64, config: Config, general: bool, events: usize, seen: &mut 
         order: Order::Any,
         adverse: false,
         boards: 0,
-        ..any_mood(random, &config)
-    };
+        ..any_mood(random, config)
+    }
+}
+
+/// A long list in which operations go on ending.
+pub fn long(seed: u64, config: Config, general: bool, events: usize, seen: &mut Seen) -> List {
+    let random = &mut Random::new(seed, u64::MAX);
+    let mood = busy(random, &config);
     let mut maker = Maker::new(random, seen, mood, config, general);
     (0..events).for_each(|_| maker.any());
+    maker.list
+}
+
+/// As many in flight as there can be, and more refused; then all is handed over.
+pub fn full(seed: u64, seen: &mut Seen) -> List {
+    let random = &mut Random::new(seed, u64::MAX - 2);
+    let config = Config { n: 16, k: 8, d: 3, e: 2, c: 4, m: 512 };
+    let mood = busy(random, &config);
+    let mut maker = Maker::new(random, seen, mood, config, true);
+    maker.fill();
+    (0..2 * config.n).for_each(|position| maker.position(5, position));
+    maker.settle();
     maker.list
 }

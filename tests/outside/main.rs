@@ -16,7 +16,7 @@ use std::path::Path;
 use std::process::exit;
 
 const USAGE: &str = "outside checks
-outside compare SEED LISTS DIRECTORY BOARD SIMULATE
+outside compare SEED LISTS FAILURES DIRECTORY BOARD SIMULATE
 outside search SEED LISTS
 outside speed SEED DIRECTORY BOARD SIMULATE
 outside edit EDIT SOURCES DIRECTORY";
@@ -27,24 +27,30 @@ fn main() {
     let (mut input, mut out) =
         (BufReader::with_capacity(1 << 16, io::stdin()), BufWriter::with_capacity(1 << 16, io::stdout()));
     if called == "board" {
-        programs::board(&mut input, &mut out).and_then(|()| out.flush()).unwrap();
-        return;
+        return ended(programs::board(&mut input, &mut out).and_then(|()| out.flush()));
     }
     if called == "simulate" {
-        programs::simulate(&mut input, &mut out).and_then(|()| out.flush()).unwrap();
-        return;
+        return ended(programs::simulate(&mut input, &mut out).and_then(|()| out.flush()));
     }
     let number = |i: usize| args.get(i).and_then(|a| a.parse().ok()).unwrap_or_else(|| usage());
     let word = |i: usize| args.get(i).map(String::as_str).unwrap_or_else(|| usage());
     let failed = match word(1) {
         "checks" => checks::all(),
-        "compare" => compare::compare(number(2), number(3), word(4), word(5), word(6)),
+        "compare" => compare::compare([number(2), number(3), number(4)], word(5), word(6), word(7)),
         "search" => compare::search_all(number(2), number(3)),
         "speed" => speed::speed(number(2), word(3), word(4), word(5)),
         "edit" => edit(word(2), word(3), word(4)),
         _ => usage(),
     };
     exit(if failed == 0 { 0 } else { 1 })
+}
+
+/// A program stops where it can't read or write.
+fn ended(run: io::Result<()>) {
+    if let Err(why) = run {
+        eprintln!("{why}");
+        exit(1)
+    }
 }
 
 fn usage() -> ! {

@@ -37,14 +37,30 @@ pub struct Seen {
 }
 
 impl Seen {
-    /// Everything that a list can meet has been met.
-    pub fn all(&self) -> bool {
-        let refused = [7, 8, 9, 10, 13].map(|number| self.refused[number]);
-        let handed = [self.handed_to_crashed, self.not_awaited, self.may_not_answer];
-        let counts =
-            [&refused[..], &handed, &[self.ok, self.written, self.read, self.refused_13_at_handing_over]];
-        counts.concat().iter().all(|count| *count > 0) && self.most_in_flight == 512
+    /// What a list can meet and none has met.
+    pub fn missing(&self) -> Vec<&'static str> {
+        let counts = [
+            ("ok", self.ok),
+            ("written", self.written),
+            ("read", self.read),
+            ("7", self.refused[7]),
+            ("8", self.refused[8]),
+            ("9", self.refused[9]),
+            ("10", self.refused[10]),
+            ("13", self.refused[13]),
+            ("13 at handing over", self.refused_13_at_handing_over),
+            ("handed to a crashed party", self.handed_to_crashed),
+            ("not awaited (14)", self.not_awaited),
+            ("may not answer (15)", self.may_not_answer),
+            ("512 in flight", (self.most_in_flight == 512) as usize),
+        ];
+        never(&counts)
     }
+}
+
+/// The names of counts that are 0.
+pub fn never(counts: &[(&'static str, usize)]) -> Vec<&'static str> {
+    counts.iter().filter(|(_, count)| *count == 0).map(|(name, _)| *name).collect()
 }
 
 #[derive(Clone, Copy)]

@@ -41,7 +41,7 @@ pub fn simulate(input: &mut impl Read, out: &mut impl Write) -> io::Result<()> {
     events(Rig::make(config, &board).expect("asked above"), input, out)
 }
 
-fn events(mut rig: Rig, input: &mut impl Read, out: &mut impl Write) -> io::Result<()> {
+pub fn events(mut rig: Rig, input: &mut impl Read, out: &mut impl Write) -> io::Result<()> {
     let mut record = vec![0; 4 + rig.config.v()];
     for count in 1u64.. {
         let got = take(input, &mut record)?;

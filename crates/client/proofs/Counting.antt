@@ -1,220 +1,95 @@
--- An answer counted, phase by phase. Assumes nothing.
-use mathlib.Core.Path.{_≡_, refl, sym, ap, ap₂, _∙_}
-use mathlib.Core.Bool.{Bool, true, false, cond, not, _&&_}
-use mathlib.Core.Option.{Option, none, some}
+-- An answer counted, phase by phase: what the code makes of a phase is what the protocol does, and stays within its limits. Assumes
+-- nothing.
+use mathlib.Core.Path.{_≡_, refl, sym, ap, ap₂}
+use mathlib.Core.Bool.{Bool, true, cond, _&&_}
+use mathlib.Core.Option.{none, some}
 use mathlib.Core.List.{List}
-use Prim.Native.Nat.{ℕ, _+_, _*_, _≤_, _<_}
+use Prim.Native.Nat.{ℕ, _+_, _*_, _≤_}
 use native.Mathlib.Omega.{arith}
-use borrow.Author.Tests.{eqb-true}
-use lib.Dec.{eqb}
-use lib.ListN.{length, take, drop, length-drop}
+use lib.ListN.{length, drop, length-drop}
 use lib.Seq.{length-take-le}
 use Rattle.laws.proofs.Bools.{and-left, and-right}
 use Rattle.config.specs.declared.Config.{Config}
 use Rattle.config.specs.Config.{Valid}
-use Rattle.config.specs.Number.{clientNumber, serverNumber}
+use Rattle.config.specs.Number.{serverNumber}
 use Rattle.config.specs.Questions.{within}
 use Rattle.config.proofs.Questions.{within-low, within-high}
 use Rattle.tag.specs.declared.Tag.{Tag}
 use Rattle.tag.specs.Tag.{allowed, key, same}
-use Rattle.tag.proofs.Order.{Small, same-one}
 use Rattle.record.specs.declared.Header.{Header}
-use Rattle.record.specs.declared.Kind.{Kind}
-use Rattle.record.specs.declared.Kind.the-variants.{Query, QueryAnswer, PreWrite, PreWriteAnswer, WriteFinalise, WriteFinaliseAnswer, ReadFinalise, ReadFinaliseAnswer}
-use Rattle.record.specs.Calls.{limits, withElement}
-use Rattle.record.specs.Record.{elementAt, kindNumber}
+use Rattle.record.specs.Calls.{withElement}
+use Rattle.record.specs.Record.{elementIn}
 use Rattle.protocol.specs.Client as protocol
-use Rattle.protocol.specs.Number.{upd}
-use Rattle.protocol.specs.Tags as tags
+use Rattle.protocol.specs.Tags.{higher, sameKey}
 use Rattle.client.specs.declared.Phase.{Phase}
 use Rattle.client.specs.declared.Phase.the-variants.{Idle, Asking, PreWriting, FinalisingWrite, FinalisingRead, Down}
-use Rattle.client.specs.Count.{Countable, Counts, firstOf, placed, placedAt}
-use Rattle.client.specs.Servers.{member, withinServers}
-use Rattle.client.specs.State.{phaseOf, phaseWithin, received, tagWithin}
-use Rattle.client.proofs.Elements.{received-more, received-none}
-use Rattle.client.proofs.Sets.{put-within}
-use Rattle.client.proofs.Tags.{same-key, small}
+use Rattle.client.specs.Servers.{withinServers}
+use Rattle.client.specs.State.{phaseOf, phaseWithin, placed, tagWithin}
+use Rattle.client.specs.inner.Count.{awaitsOf, countingOf, firstOf, putOf}
+use Rattle.client.proofs.Elements.{received-put}
+use Rattle.client.proofs.Phases.{set-in, tag-in, tag-within}
+use Rattle.client.proofs.Sets.{member-put, put-within}
+use Rattle.client.proofs.Tags.{higher-allowed, same-key, small}
 
-same-kind : (k : Kind) → tags.kindNumber k ≡ kindNumber k
-same-kind Query = refl
-same-kind QueryAnswer = refl
-same-kind PreWrite = refl
-same-kind PreWriteAnswer = refl
-same-kind WriteFinalise = refl
-same-kind WriteFinaliseAnswer = refl
-same-kind ReadFinalise = refl
-same-kind ReadFinaliseAnswer = refl
+module _ (cfg : Config) (v : Valid cfg) (h : Header) (server-in : within 1 (cfg .n) (serverNumber (h .server)) ≡ true)
+    (tag-ok : allowed (cfg .c) (h .tag) ≡ true) where
+  abbrev s : ℕ
+  s = serverNumber (h .server)
 
-module _ (cfg : Config) (h : Header) where
-  -- the first answer of a server, of a kind
-  pub first-is : (kind counted : ℕ) (bs : List ℕ) → protocol.isFirst kind (member counted) (withElement cfg h bs) ≡ firstOf kind counted h
-  unfolding protocol.isFirst withElement
-  first-is kind counted bs =
-      ap (λ (n : ℕ). eqb n kind && not (member counted (serverNumber (h .server)))) (same-kind (h .kind))
+  low : 1 ≤ s
+  low = within-low 1 (cfg .n) s server-in
 
-  module _ (valid : Valid cfg) (in-limits : limits cfg h ≡ true) where
-    parties : (within 1 (cfg .c) (clientNumber (h .client)) && within 1 (cfg .n) (serverNumber (h .server))) ≡ true
-    parties = and-left (within 1 (cfg .c) (clientNumber (h .client)) && within 1 (cfg .n) (serverNumber (h .server))) (allowed (cfg .c) (h .tag)) in-limits
+  high : s ≤ cfg .n
+  high = within-high 1 (cfg .n) s server-in
 
-    server-within : within 1 (cfg .n) (serverNumber (h .server)) ≡ true
-    server-within = and-right (within 1 (cfg .c) (clientNumber (h .client))) (within 1 (cfg .n) (serverNumber (h .server))) parties
+  -- ---- awaited
 
-    pub server-low : 1 ≤ serverNumber (h .server)
-    server-low = within-low 1 (cfg .n) (serverNumber (h .server)) server-within
+  same-is : (first : Bool) (t : Tag) (counted : ℕ) → tagWithin cfg t counted ≡ true → (first && sameKey key (h .tag) t) ≡ (first && same (h .tag) t)
+  same-is first t counted w =
+      ap (λ (b : Bool). first && b) (same-key (h .tag) t (small cfg v (h .tag) tag-ok) (small cfg v t (tag-in cfg t counted w)))
 
-    pub server-high : serverNumber (h .server) ≤ cfg .n
-    server-high = within-high 1 (cfg .n) (serverNumber (h .server)) server-within
+  pub awaits-is : (p : Phase) → phaseWithin cfg p ≡ true → (kept es bs : List ℕ)
+      → protocol.awaits key (phaseOf cfg p kept es) (withElement cfg h bs) ≡ awaitsOf p h
+  unfolding protocol.awaits protocol.isFirst phaseOf phaseWithin withElement awaitsOf
+  awaits-is Idle w kept es bs = refl
+  awaits-is (Asking writes best counted) w kept es bs = refl
+  awaits-is (PreWriting tag counted) w kept es bs = same-is (firstOf 4 counted h) tag counted w
+  awaits-is (FinalisingWrite tag counted) w kept es bs = same-is (firstOf 6 counted h) tag counted w
+  awaits-is (FinalisingRead tag counted sent) w kept es bs =
+      same-is (firstOf 8 counted h) tag counted (and-left (tagWithin cfg tag counted) (withinServers (cfg .n) sent) w)
+  awaits-is Down w kept es bs = refl
 
-    pub server-small : serverNumber (h .server) < 32
-    server-small = omega (arith, server-high, valid .n-high)
+  -- ---- counted
 
-    pub tag-allowed : allowed (cfg .c) (h .tag) ≡ true
-    tag-allowed =
-        and-right (within 1 (cfg .c) (clientNumber (h .client)) && within 1 (cfg .n) (serverNumber (h .server))) (allowed (cfg .c) (h .tag)) in-limits
+  put-in : (set : ℕ) (b : Bool) → withinServers (cfg .n) set ≡ true → withinServers (cfg .n) (putOf set s b) ≡ true
+  put-in set b w = put-within (cfg .n) set s b w low high
 
-    pub tag-small : Small (h .tag)
-    tag-small = small cfg valid (h .tag) tag-allowed
+  one-more : (t u : Tag) (counted : ℕ) → tagWithin cfg t counted ≡ true → allowed (cfg .c) u ≡ true → tagWithin cfg u (putOf counted s true) ≡ true
+  one-more t u counted w a = tag-within cfg u (putOf counted s true) a (put-in counted true (set-in cfg t counted w))
 
-    -- the same, and of a tag
-    pub first-of-tag-is : (kind counted : ℕ) (t : Tag) → Small t → (bs : List ℕ)
-        → (protocol.isFirst kind (member counted) (withElement cfg h bs) && tags.same key (h .tag) t) ≡ (firstOf kind counted h && same (h .tag) t)
-    first-of-tag-is kind counted t st bs =
-        ap₂ (λ (a b : Bool). a && b) (first-is kind counted bs) (same-key (h .tag) t tag-small st)
+  pub counting-within : (p : Phase) → phaseWithin cfg p ≡ true → phaseWithin cfg (countingOf p h) ≡ true
+  unfolding phaseWithin countingOf
+  counting-within Idle w = refl
+  counting-within (Asking writes best counted) w =
+      one-more best (higher key best (h .tag)) counted w (higher-allowed (cfg .c) best (h .tag) (tag-in cfg best counted w) tag-ok)
+  counting-within (PreWriting tag counted) w = one-more tag tag counted w (tag-in cfg tag counted w)
+  counting-within (FinalisingWrite tag counted) w = one-more tag tag counted w (tag-in cfg tag counted w)
+  counting-within (FinalisingRead tag counted sent) w =
+      let t = and-left (tagWithin cfg tag counted) (withinServers (cfg .n) sent) w in
+      rw (one-more tag tag counted t (tag-in cfg tag counted t))
+      (put-in sent (h .present) (and-right (tagWithin cfg tag counted) (withinServers (cfg .n) sent) w))
+  counting-within Down w = refl
 
--- a tag and a set within their limits
-module _ (cfg : Config) (t : Tag) (counted : ℕ) (w : tagWithin cfg t counted ≡ true) where
-  pub its-tag : allowed (cfg .c) t ≡ true
-  its-tag = and-left (allowed (cfg .c) t) (withinServers (cfg .n) counted) w
-
-  pub its-set : withinServers (cfg .n) counted ≡ true
-  its-set = and-right (allowed (cfg .c) t) (withinServers (cfg .n) counted) w
-
-pub tag-within : (cfg : Config) (t : Tag) (counted : ℕ) → allowed (cfg .c) t ≡ true → withinServers (cfg .n) counted ≡ true → tagWithin cfg t counted ≡ true
-tag-within cfg t counted a b = rw (a, b)
-
--- an element in a record has E bytes
-element-long : (cfg : Config) (bs : List ℕ) → 16 + cfg .e ≤ length bs → length (elementAt cfg bs) ≡ cfg .e
-element-long cfg bs room = length-take-le (cfg .e) (drop 16 bs) (omega (arith, length-drop 16 bs))
-
-module _ (cfg : Config) (h : Header) where
-  abbrev server : ℕ
-  server = serverNumber (h .server)
-
-  abbrev Adds : ℕ → ℕ → Type 0
-  Adds counted set = member set ≡ upd (member counted) server true
-
-  -- ---- asking
-  module _ (writes : Bool) (best : Tag) (counted : ℕ) (c : Countable cfg (Asking writes best counted) h) where
-    pub asking-within : tagWithin cfg best counted ≡ true
-    unfolding phaseWithin
-    asking-within = c .within
-
-    pub asking-other : firstOf 2 counted h ≡ false
-        → (kept es bs : List ℕ) → protocol.awaits key (phaseOf cfg (Asking writes best counted) kept es) (withElement cfg h bs) ≡ false
-    unfolding protocol.awaits phaseOf
-    asking-other out kept es bs = first-is cfg h 2 counted bs ∙ out
-
-    pub asking-counts : (later : Tag) (set : ℕ) → firstOf 2 counted h ≡ true → Adds counted set → tags.higher key best (h .tag) ≡ later
-        → allowed (cfg .c) later ≡ true → Counts cfg (Asking writes best counted) h (Asking writes later set)
-    unfolding protocol.awaits protocol.counting phaseOf phaseWithin withElement
-    asking-counts later set is adds high ok =
-        record {
-          is-awaited = λ kept es bs. first-is cfg h 2 counted bs ∙ is;
-          counts = λ kept es bs whole room. ap₂ (protocol.asking (cond writes (some kept) none)) (sym high) adds;
-          within =
-              tag-within cfg later set ok
-              (put-within (cfg .n) counted set server true (its-set cfg best counted asking-within) (server-low cfg h (c .valid) (c .header)) (server-high cfg h (c .valid) (c .header)) adds);
-          tag = tt;
-        }
-
-  -- ---- the phases that have a tag
-  module _ (t : Tag) (counted : ℕ) (valid : Valid cfg) (header : limits cfg h ≡ true) (ok : tagWithin cfg t counted ≡ true) where
-    of-tag : (kind : ℕ) (b : Bool) → (firstOf kind counted h && same (h .tag) t) ≡ b
-        → (bs : List ℕ) → (protocol.isFirst kind (member counted) (withElement cfg h bs) && tags.same key (h .tag) t) ≡ b
-    of-tag kind b is bs = first-of-tag-is cfg h valid header kind counted t (small cfg valid t (its-tag cfg t counted ok)) bs ∙ is
-
-    one-more : (set : ℕ) → Adds counted set → tagWithin cfg t set ≡ true
-    one-more set adds =
-        tag-within cfg t set (its-tag cfg t counted ok)
-        (put-within (cfg .n) counted set server true (its-set cfg t counted ok) (server-low cfg h valid header) (server-high cfg h valid header) adds)
-
-  module _ (t : Tag) (counted : ℕ) (c : Countable cfg (PreWriting t counted) h) where
-    pub pre-writing-other : (firstOf 4 counted h && same (h .tag) t) ≡ false
-        → (kept es bs : List ℕ) → protocol.awaits key (phaseOf cfg (PreWriting t counted) kept es) (withElement cfg h bs) ≡ false
-    unfolding protocol.awaits phaseOf phaseWithin withElement
-    pre-writing-other out kept es bs = of-tag t counted (c .valid) (c .header) (c .within) 4 false out bs
-
-    pub pre-writing-counts : (set : ℕ) → (firstOf 4 counted h && same (h .tag) t) ≡ true → Adds counted set
-        → Counts cfg (PreWriting t counted) h (PreWriting t set)
-    unfolding protocol.awaits protocol.counting phaseOf phaseWithin withElement
-    pre-writing-counts set is adds =
-        record {
-          is-awaited = λ kept es bs. of-tag t counted (c .valid) (c .header) (c .within) 4 true is bs;
-          counts = λ kept es bs whole room. ap (protocol.preWriting t) adds;
-          within = one-more t counted (c .valid) (c .header) (c .within) set adds;
-          tag = (
-            sym (same-one (h .tag) t (and-right (firstOf 4 counted h) (same (h .tag) t) is)),
-            eqb-true (kindNumber (h .kind)) 4
-                (and-left (eqb (kindNumber (h .kind)) 4) (not (member counted server)) (and-left (firstOf 4 counted h) (same (h .tag) t) is)),
-          );
-        }
-
-  module _ (t : Tag) (counted : ℕ) (c : Countable cfg (FinalisingWrite t counted) h) where
-    pub finalising-write-other : (firstOf 6 counted h && same (h .tag) t) ≡ false
-        → (kept es bs : List ℕ) → protocol.awaits key (phaseOf cfg (FinalisingWrite t counted) kept es) (withElement cfg h bs) ≡ false
-    unfolding protocol.awaits phaseOf phaseWithin withElement
-    finalising-write-other out kept es bs = of-tag t counted (c .valid) (c .header) (c .within) 6 false out bs
-
-    pub finalising-write-counts : (set : ℕ) → (firstOf 6 counted h && same (h .tag) t) ≡ true → Adds counted set
-        → Counts cfg (FinalisingWrite t counted) h (FinalisingWrite t set)
-    unfolding protocol.awaits protocol.counting phaseOf phaseWithin withElement
-    finalising-write-counts set is adds =
-        record {
-          is-awaited = λ kept es bs. of-tag t counted (c .valid) (c .header) (c .within) 6 true is bs;
-          counts = λ kept es bs whole room. ap (protocol.finalisingWrite t) adds;
-          within = one-more t counted (c .valid) (c .header) (c .within) set adds;
-          tag = tt;
-        }
-
-  module _ (t : Tag) (counted sent : ℕ) (c : Countable cfg (FinalisingRead t counted sent) h) where
-    read-within : tagWithin cfg t counted ≡ true
-    unfolding phaseWithin
-    read-within = and-left (tagWithin cfg t counted) (withinServers (cfg .n) sent) (c .within)
-
-    sent-within : withinServers (cfg .n) sent ≡ true
-    unfolding phaseWithin
-    sent-within = and-right (tagWithin cfg t counted) (withinServers (cfg .n) sent) (c .within)
-
-    pub finalising-read-other : (firstOf 8 counted h && same (h .tag) t) ≡ false
-        → (kept es bs : List ℕ) → protocol.awaits key (phaseOf cfg (FinalisingRead t counted sent) kept es) (withElement cfg h bs) ≡ false
-    unfolding protocol.awaits phaseOf withElement
-    finalising-read-other out kept es bs = of-tag t counted (c .valid) (c .header) read-within 8 false out bs
-
-    -- the elements received after the answer
-    later-elements : (set′ : ℕ) → member set′ ≡ upd (member sent) server (h .present) → (es bs : List ℕ) → length es ≡ cfg .n * cfg .e
-        → 16 + cfg .e ≤ length bs
-        → received cfg (placedAt cfg server (cond (h .present) (some (elementAt cfg bs)) none) es) set′
-        ≡ upd (received cfg es sent) server (cond (h .present) (some (elementAt cfg bs)) none)
-    unfolding placedAt
-    later-elements set′ adds es bs whole room = go (h .present) adds
-      where
-        go : (b : Bool) → member set′ ≡ upd (member sent) server b
-            → received cfg (placedAt cfg server (cond b (some (elementAt cfg bs)) none) es) set′ ≡ upd (received cfg es sent) server (cond b (some (elementAt cfg bs)) none)
-        go true e =
-            received-more cfg es sent set′ server whole (server-low cfg h (c .valid) (c .header)) (server-high cfg h (c .valid) (c .header)) sent-within
-            (elementAt cfg bs) (element-long cfg bs room) e
-        go false e =
-            received-none cfg es sent set′ server whole (server-low cfg h (c .valid) (c .header)) (server-high cfg h (c .valid) (c .header)) sent-within e
-
-    pub finalising-read-counts : (set set′ : ℕ) → (firstOf 8 counted h && same (h .tag) t) ≡ true → Adds counted set
-        → member set′ ≡ upd (member sent) server (h .present) → Counts cfg (FinalisingRead t counted sent) h (FinalisingRead t set set′)
-    unfolding protocol.awaits protocol.counting phaseOf phaseWithin withElement
-    finalising-read-counts set set′ is adds adds′ =
-        record {
-          is-awaited = λ kept es bs. of-tag t counted (c .valid) (c .header) read-within 8 true is bs;
-          counts = λ kept es bs whole room. ap₂ (protocol.finalisingRead t) adds (later-elements set′ adds′ es bs whole room);
-          within =
-              rw (one-more t counted (c .valid) (c .header) read-within set adds)
-              (put-within (cfg .n) sent set′ server (h .present) sent-within (server-low cfg h (c .valid) (c .header)) (server-high cfg h (c .valid) (c .header)) adds′);
-          tag = tt;
-        }
+  pub counting-is : (p : Phase) → phaseWithin cfg p ≡ true → (kept es bs : List ℕ) → length es ≡ cfg .n * cfg .e → 16 + cfg .e ≤ length bs
+      → protocol.counting key (phaseOf cfg p kept es) (withElement cfg h bs) ≡ phaseOf cfg (countingOf p h) kept (placed cfg (withElement cfg h bs) es)
+  unfolding protocol.counting phaseOf phaseWithin withElement countingOf
+  counting-is Idle w kept es bs whole room = refl
+  counting-is (Asking writes best counted) w kept es bs whole room =
+      ap (protocol.asking (cond writes (some kept) none) (higher key best (h .tag))) (sym (member-put counted s true))
+  counting-is (PreWriting tag counted) w kept es bs whole room = ap (protocol.preWriting tag) (sym (member-put counted s true))
+  counting-is (FinalisingWrite tag counted) w kept es bs whole room = ap (protocol.finalisingWrite tag) (sym (member-put counted s true))
+  counting-is (FinalisingRead tag counted sent) w kept es bs whole room =
+      ap₂ (protocol.finalisingRead tag) (sym (member-put counted s true))
+      (sym (received-put cfg es sent s whole low high (and-right (tagWithin cfg tag counted) (withinServers (cfg .n) sent) w) (elementIn cfg bs)
+      (length-take-le (cfg .e) (drop 16 bs) (omega (arith, length-drop 16 bs))) (h .present)))
+  counting-is Down w kept es bs whole room = refl

@@ -1,158 +1,173 @@
--- Gathering the elements of the k lowest servers: one server picked or passed over, and what is gathered so far. Assumes nothing.
+-- Gathering the elements of the k lowest servers: one server more, how many there are, and the board that they decode to. Assumes
+-- nothing.
 use mathlib.Core.Path.{_≡_, refl, sym, ap, ap₂, _∙_, subst}
-use mathlib.Core.Bool.{Bool, true, false, cond, _&&_, and-false}
-use mathlib.Core.Option.{none, some}
-use mathlib.Core.List.{List, [], _∷_, _++_, map, append-assoc, map-append}
+use mathlib.Core.Bool.{Bool, true, false, cond, _&&_, and-false, and-true}
+use mathlib.Core.Option.{Option, none, some}
+use mathlib.Core.List.{List, [], _∷_, _++_, map, append-assoc, append-nil, map-append}
 use Prim.Native.Nat.{ℕ, zero, suc, _+_, _-_, _*_, _≤_, _<_}
-use native.Mathlib.Nat.{zero-mul}
-use native.Mathlib.Numerals.{add-one}
 use native.Mathlib.Omega.{arith}
-use borrow.Author.Tests.{ltb-true, ltb-false, lt-ltb, le-ltb}
+use borrow.Author.Tests.{eq-eqb, ltb-true, ltb-false}
 use lib.Dec.{ltb}
-use lib.ListN.{length, getD, take, drop, set, length-append, length-map, length-take, length-drop}
-use lib.Seq.{append-snoc, length-take-le, set-at, take-at, drop-at, drop-cons, drop-drop}
+use lib.ListN.{length, take, drop, set, length-append, length-map, length-take}
+use lib.Seq.{take-append-le, take-all, take-at}
+use Rattle.laws.specs.Parts.{over, part}
+use Rattle.laws.proofs.Bools.{and-left}
+use Rattle.laws.proofs.Parts.{part-length}
 use Rattle.config.specs.declared.Config.{Config}
-use Rattle.code.specs.Lists.{joined}
-use Rattle.protocol.specs.Number.{pairOf, present}
-use Rattle.client.specs.Gather.{Gathered, PickPost, lowest, numbersOf, elementsOf}
-use Rattle.client.specs.Place.{over}
+use Rattle.config.specs.declared.Verdict.{Verdict}
+use Rattle.config.specs.Questions.{firstNo}
+use Rattle.config.proofs.Valid.{valid-asked}
+use Rattle.code.specs.Decode.{DecodePost, decodeQuestions}
+use Rattle.code.specs.Decoded.{decoded, decodedPairs, rising}
+use Rattle.laws.specs.Bytes.{joined}
+use Rattle.code.proofs.Decodable.{accepted}
+use Rattle.record.specs.Record.{isPresent}
+use Rattle.protocol.specs.Boards.{Element, decode}
+use Rattle.protocol.specs.Number.{count, pairOf, present}
+use Rattle.protocol.proofs.Boards.{rises}
+use Rattle.protocol.proofs.Present.{present-rising, rising-take}
 use Rattle.client.specs.Servers.{member}
-use Rattle.client.specs.State.{elementAt, received}
-use Rattle.client.proofs.Bounds.{slot}
-use Rattle.client.proofs.Present.{joined-more, lowest-none, lowest-more, lowest-full}
+use Rattle.client.specs.State.{received}
+use Rattle.client.specs.inner.Gather.{GatherPost, PickPost, Showable, elementsOf, lowest, numbersOf}
+use Rattle.client.proofs.Fronts.{over-front, set-front}
 
-module _ (cfg : Config) (sent s found : ℕ) (es numbers packed : List ℕ) where
-  abbrev picks : Bool
-  picks = ltb found (cfg .k) && member sent s
+-- ---- as many have something as the set has members
 
-  pub passed-over : picks ≡ false → PickPost cfg sent s found es numbers numbers packed packed found
-  passed-over h = record { count = rw h; numbered = rw h; joint = rw h }
-
-  pub picked : (packed′ : List ℕ) → found < cfg .k → member sent s ≡ true → packed′ ≡ over (found * cfg .e) (cfg .e) (elementAt cfg es s) packed
-      → PickPost cfg sent s found es numbers (set numbers found s) packed packed′ (found + 1)
-  picked packed′ few is e =
-      let h : picks ≡ true = rw (lt-ltb found (cfg .k) few, is) in
-      record { count = rw h; numbered = rw h; joint = rw h e }
-
--- ---- one pair more
-
-module _ (cfg : Config) (pairs : List (ℕ × List ℕ)) (s : ℕ) (e : List ℕ) (numbers numbers₁ packed packed₁ : List ℕ) (found : ℕ)
-    (sofar : Gathered cfg pairs numbers numbers₁ packed packed₁ found) (room : found < length numbers)
-    (long : length (elementsOf pairs) ≡ found * cfg .e) where
-  front : length (numbersOf pairs) ≡ found
-  front = length-map pairs (λ p. p .0) ∙ sym (sofar .count)
-
-  one-more : numbersOf (pairs ++ (s, e) ∷ []) ++ drop (found + 1) numbers ≡ numbersOf pairs ++ s ∷ drop (suc found) numbers
-  one-more = rw (map-append, add-one) (append-snoc (numbersOf pairs) s (drop (suc found) numbers))
-
-  pub more-numbers : set numbers₁ found s ≡ numbersOf (pairs ++ (s, e) ∷ []) ++ drop (found + 1) numbers
-  more-numbers =
-      ap (λ (l : List ℕ). set l found s) (sofar .numbered ∙ ap (λ (l : List ℕ). numbersOf pairs ++ l) (drop-cons numbers found 0 room))
-      ∙ set-at (numbersOf pairs) (getD numbers found 0) (drop (suc found) numbers) s found front
-      ∙ sym one-more
-
-  before : take (found * cfg .e) packed₁ ≡ elementsOf pairs
-  before = ap (take (found * cfg .e)) (sofar .joint) ∙ take-at (elementsOf pairs) (drop (found * cfg .e) packed) (found * cfg .e) long
-
-  after : drop (found * cfg .e + cfg .e) packed₁ ≡ drop ((found + 1) * cfg .e) packed
-  after =
-      let size : found * cfg .e + cfg .e ≡ (found + 1) * cfg .e = omega arith in
-      sym (drop-drop (cfg .e) (found * cfg .e) packed₁)
-      ∙ ap (drop (cfg .e)) (ap (drop (found * cfg .e)) (sofar .joint) ∙ drop-at (elementsOf pairs) (drop (found * cfg .e) packed) (found * cfg .e) long)
-      ∙ drop-drop (cfg .e) (found * cfg .e) packed ∙ ap (λ (n : ℕ). drop n packed) size
-
-  one-joined : elementsOf (pairs ++ (s, e) ∷ []) ≡ elementsOf pairs ++ e
-  one-joined = rw map-append (joined-more (map (λ p. p .1) pairs) e)
-
-  pub more-packed : over (found * cfg .e) (cfg .e) e packed₁ ≡ elementsOf (pairs ++ (s, e) ∷ []) ++ drop ((found + 1) * cfg .e) packed
-  more-packed =
-      ap₂ (λ (a b : List ℕ). a ++ (e ++ b)) before after
-      ∙ sym (append-assoc (elementsOf pairs) e (drop ((found + 1) * cfg .e) packed))
-      ∙ ap (λ (l : List ℕ). l ++ drop ((found + 1) * cfg .e) packed) (sym one-joined)
-
-  pub more-pairs : Gathered cfg (pairs ++ (s, e) ∷ []) numbers (set numbers₁ found s) packed (over (found * cfg .e) (cfg .e) e packed₁) (found + 1)
-  more-pairs =
-      record {
-        count = ap (λ (n : ℕ). n + 1) (sofar .count) ∙ sym (length-append pairs ((s, e) ∷ []));
-        numbered = more-numbers;
-        joint = more-packed;
-      }
-
--- ---- the elements have E bytes each
-
-abbrev Sized : ℕ → List (ℕ × List ℕ) → Type 0
-Sized e [] = Unit {0}
-Sized e (p ∷ ps) = (length (p .1) ≡ e) × Sized e ps
-
-sized-more : (e : ℕ) (ps qs : List (ℕ × List ℕ)) → Sized e ps → Sized e qs → Sized e (ps ++ qs)
-sized-more e [] qs h g = g
-sized-more e (p ∷ ps) qs h g = (h .0, sized-more e ps qs (h .1) g)
-
-sized-take : (e k : ℕ) (ps : List (ℕ × List ℕ)) → Sized e ps → Sized e (take k ps)
-sized-take e zero ps h = tt
-sized-take e (suc k) [] h = tt
-sized-take e (suc k) (p ∷ ps) h = (h .0, sized-take e k ps (h .1))
-
-pub sized-length : (e : ℕ) (ps : List (ℕ × List ℕ)) → Sized e ps → length (elementsOf ps) ≡ length ps * e
-unfolding joined
-sized-length e [] h = sym (zero-mul e)
-sized-length e (p ∷ ps) h = length-append (p .1) (elementsOf ps) ∙ omega (arith, sized-length e ps (h .1))
-
-module _ (cfg : Config) (es : List ℕ) (sent : ℕ) (whole : length es ≡ cfg .n * cfg .e) where
-  pub element-length : (s : ℕ) → 1 ≤ s → s ≤ cfg .n → length (elementAt cfg es s) ≡ cfg .e
-  element-length s low high =
-      let within : s - 1 < cfg .n = omega arith in
-      length-take-le (cfg .e) (drop ((s - 1) * cfg .e) es) (omega (arith, length-drop ((s - 1) * cfg .e) es, slot (cfg .e) within))
-
-  sized-one : (s : ℕ) → 1 ≤ s → s ≤ cfg .n → Sized (cfg .e) (pairOf s (received cfg es sent s))
-  unfolding received pairOf
-  sized-one s low high = go (member sent s)
-    where
-      go : (b : Bool) → Sized (cfg .e) (pairOf s (cond b (some (elementAt cfg es s)) none))
-      go true = (element-length s low high, tt)
-      go false = tt
-
-  sized-present : (i : ℕ) → i ≤ cfg .n → Sized (cfg .e) (present i (received cfg es sent))
-  unfolding present
-  sized-present zero h = tt
-  sized-present (suc i) h =
-      sized-more (cfg .e) (present i (received cfg es sent)) (pairOf (suc i) (received cfg es sent (suc i))) (sized-present i (omega arith))
-      (sized-one (suc i) (omega arith) h)
-
-  pub lowest-length : (i : ℕ) → i ≤ cfg .n → length (elementsOf (lowest cfg es sent i)) ≡ length (lowest cfg es sent i) * cfg .e
-  lowest-length i h =
-      sized-length (cfg .e) (lowest cfg es sent i) (sized-take (cfg .e) (cfg .k) (present i (received cfg es sent)) (sized-present i h))
+pub present-count : {A : Type 0} (f : ℕ → Option A) (g : ℕ → Bool) → ((s : ℕ) → isPresent (f s) ≡ g s) → (n : ℕ) → length (present n f) ≡ count g n
+unfolding present count pairOf
+present-count f g h zero = refl
+present-count {A} f g h (suc n) =
+    length-append (present n f) (pairOf (suc n) (f (suc n))) ∙ ap₂ (λ (a b : ℕ). a + b) (present-count f g h n) (go (f (suc n)) (h (suc n)))
+  where
+    go : (o : Option A) → isPresent o ≡ g (suc n) → length (pairOf (suc n) o) ≡ cond (g (suc n)) 1 0
+    go none e = rw (sym e)
+    go (some a) e = rw (sym e)
 
 -- ---- one server more
 
-along : {cfg : Config} {pairs pairs′ : List (ℕ × List ℕ)} {numbers packed n n′ p p′ : List ℕ} {f f′ : ℕ}
-    → pairs′ ≡ pairs → n′ ≡ n → p′ ≡ p → f′ ≡ f → Gathered cfg pairs numbers n packed p f → Gathered cfg pairs′ numbers n′ packed p′ f′
-along a b c d g = rw (a, b, c, d) g
+-- the first k of a list, and of one with x at its end
+take-next : {A : Type 0} (k : ℕ) (xs : List A) (x : A) → take k (xs ++ x ∷ []) ≡ cond (ltb (length (take k xs)) k) (take k xs ++ x ∷ []) (take k xs)
+take-next {A} k xs x = go (ltb (length (take k xs)) k) refl
+  where
+    go : (b : Bool) → ltb (length (take k xs)) k ≡ b → take k (xs ++ x ∷ []) ≡ cond b (take k xs ++ x ∷ []) (take k xs)
+    go true h =
+        let short : length xs < k = omega (arith, ltb-true (length (take k xs)) k h, length-take k xs) in
+        take-all k (xs ++ x ∷ []) (omega (arith, length-append xs (x ∷ []))) ∙ ap (λ (l : List A). l ++ x ∷ []) (sym (take-all k xs (omega arith)))
+    go false h = take-append-le k xs (x ∷ []) (omega (arith, ltb-false (length (take k xs)) k h, length-take k xs))
+
+joined-more : (ls : List (List ℕ)) (l : List ℕ) → joined (ls ++ l ∷ []) ≡ joined ls ++ l
+unfolding joined
+joined-more [] l = append-nil l
+joined-more (x ∷ ls) l = ap (λ (r : List ℕ). x ++ r) (joined-more ls l) ∙ sym (append-assoc x (joined ls) l)
+
+module _ (cfg : Config) (es : List ℕ) (sent : ℕ) where
+  abbrev pair : ℕ → ℕ × Element
+  pair s = (s, part (cfg .e) (s - 1) es)
+
+  lowest-next : (i : ℕ) → lowest cfg es sent (suc i)
+      ≡ cond (ltb (length (lowest cfg es sent i)) (cfg .k) && member sent (suc i)) (lowest cfg es sent i ++ pair (suc i) ∷ []) (lowest cfg es sent i)
+  unfolding present received pairOf
+  lowest-next i = go (member sent (suc i))
+    where
+      go : (b : Bool) → take (cfg .k) (present i (received cfg es sent) ++ pairOf (suc i) (cond b (some (part (cfg .e) (suc i - 1) es)) none))
+          ≡ cond (ltb (length (lowest cfg es sent i)) (cfg .k) && b) (lowest cfg es sent i ++ pair (suc i) ∷ []) (lowest cfg es sent i)
+      go true = rw (and-true (ltb (length (lowest cfg es sent i)) (cfg .k))) (take-next (cfg .k) (present i (received cfg es sent)) (pair (suc i)))
+      go false = rw (and-false (ltb (length (lowest cfg es sent i)) (cfg .k)), append-nil)
+
+  -- a server in the set has an element
+  pub received-present : (s : ℕ) → isPresent (received cfg es sent s) ≡ member sent s
+  unfolding received
+  received-present s = go (member sent s)
+    where
+      go : (b : Bool) → isPresent (cond b (some (part (cfg .e) (s - 1) es)) none) ≡ b
+      go true = refl
+      go false = refl
+
+  pub length-present : (n : ℕ) → length (present n (received cfg es sent)) ≡ count (member sent) n
+  length-present n = present-count (received cfg es sent) (member sent) received-present n
+
+-- ---- what is gathered
 
 module _ (cfg : Config) (sent : ℕ) (es numbers packed : List ℕ) (i found r : ℕ) (numbers₁ numbers₂ packed₁ packed₂ : List ℕ)
-    (sofar : Gathered cfg (lowest cfg es sent i) numbers numbers₁ packed packed₁ found)
+    (sofar : GatherPost cfg (lowest cfg es sent i) numbers numbers₁ packed packed₁ found)
     (pick : PickPost cfg sent (suc i) found es numbers₁ numbers₂ packed₁ packed₂ r) where
-  abbrev test : Bool
-  test = ltb found (cfg .k) && member sent (suc i)
+  abbrev pairs : List (ℕ × Element)
+  pairs = lowest cfg es sent i
 
-  abbrev Later : Type 0
-  Later = Gathered cfg (lowest cfg es sent (suc i)) numbers numbers₂ packed packed₂ r
+  abbrev e : Element
+  e = part (cfg .e) (suc i - 1) es
 
-  same : test ≡ false → lowest cfg es sent (suc i) ≡ lowest cfg es sent i → Later
-  same h e = along e (rw h at (pick .numbered)) (rw h at (pick .joint)) (rw h at (pick .count)) sofar
+  -- one pair more
+  more : length e ≡ cfg .e → found < length numbers
+      → GatherPost cfg (pairs ++ (suc i, e) ∷ []) numbers (set numbers₁ found (suc i)) packed (over (found * cfg .e) (cfg .e) e packed₁) (found + 1)
+  more long room =
+      let next : found * cfg .e + cfg .e ≡ (found + 1) * cfg .e = omega arith in
+      let names : numbersOf (pairs ++ (suc i, e) ∷ []) ≡ numbersOf pairs ++ suc i ∷ [] = rw map-append in
+      let all : elementsOf (pairs ++ (suc i, e) ∷ []) ≡ elementsOf pairs ++ e = rw map-append (joined-more (map (λ p. p .1) pairs) e) in
+      record {
+        count = ap (λ (n : ℕ). n + 1) (sofar .count) ∙ sym (length-append pairs ((suc i, e) ∷ []));
+        numbered =
+            ap (λ (l : List ℕ). set l found (suc i)) (sofar .numbered)
+            ∙ set-front (numbersOf pairs) numbers found (length-map pairs (λ p. p .0) ∙ sym (sofar .count)) (suc i) room
+            ∙ ap (λ (l : List ℕ). l ++ drop (found + 1) numbers) (sym names);
+        joint =
+            ap (over (found * cfg .e) (cfg .e) e) (sofar .joint)
+            ∙ over-front (elementsOf pairs) packed (found * cfg .e) (sofar .long) (cfg .e) e
+            ∙ ap₂ (λ (l : List ℕ) (n : ℕ). l ++ drop n packed) (sym all) next;
+        long = ap length all ∙ length-append (elementsOf pairs) e ∙ omega (arith, sofar .long);
+      }
 
-  full : ltb found (cfg .k) ≡ false → length (lowest cfg es sent i) ≡ cfg .k
-  full h = omega (arith, ltb-false found (cfg .k) h, sofar .count, length-take (cfg .k) (present i (received cfg es sent)))
-
-  pub gathered-more : length es ≡ cfg .n * cfg .e → i < cfg .n → cfg .k ≤ length numbers → Later
-  gathered-more whole high room = go (ltb found (cfg .k)) refl (member sent (suc i)) refl
+  pub gathered-more : length es ≡ cfg .n * cfg .e → i < cfg .n → cfg .k ≤ length numbers
+      → GatherPost cfg (lowest cfg es sent (suc i)) numbers numbers₂ packed packed₂ r
+  gathered-more whole high room =
+      rw (lowest-next cfg es sent i, pick .numbered, pick .joint, pick .count, sym (sofar .count)) (go (ltb found (cfg .k) && member sent (suc i)) refl)
     where
-      go : (a : Bool) → ltb found (cfg .k) ≡ a → (b : Bool) → member sent (suc i) ≡ b → Later
-      go false ha b hb = same (rw ha) (lowest-full cfg es sent i (full ha))
-      go true ha false hb = same (rw hb (and-false (ltb found (cfg .k)))) (lowest-none cfg es sent i hb)
-      go true ha true hb =
-          let few : found < cfg .k = ltb-true found (cfg .k) ha in
-          let both : test ≡ true = rw (ha, hb) in
-          along (lowest-more cfg es sent i hb (omega (arith, sofar .count))) (rw both at (pick .numbered)) (rw both at (pick .joint)) (rw both at (pick .count))
-          (more-pairs cfg (lowest cfg es sent i) (suc i) (elementAt cfg es (suc i)) numbers numbers₁ packed packed₁ found sofar (omega arith)
-          (lowest-length cfg es sent whole i (omega arith) ∙ ap (λ (n : ℕ). n * cfg .e) (sym (sofar .count))))
+      go : (b : Bool) → (ltb found (cfg .k) && member sent (suc i)) ≡ b
+          → GatherPost cfg (cond b (pairs ++ (suc i, e) ∷ []) pairs) numbers (cond b (set numbers₁ found (suc i)) numbers₁) packed
+          (cond b (over (found * cfg .e) (cfg .e) e packed₁) packed₁) (cond b (found + 1) found)
+      go true h =
+          more (part-length (cfg .e) (suc i - 1) (cfg .n) es (omega arith) whole)
+          (omega (arith, ltb-true found (cfg .k) (and-left (ltb found (cfg .k)) (member sent (suc i)) h)))
+      go false h = sofar
+
+-- ---- what it decodes to
+
+-- all servers done, there are k
+pub gathered-all : (cfg : Config) (sent : ℕ) (es : List ℕ) {numbers numbers′ packed packed′ : List ℕ} {i found : ℕ} → i ≡ cfg .n → cfg .k ≤ count (member sent) (cfg .n)
+    → GatherPost cfg (lowest cfg es sent i) numbers numbers′ packed packed′ found → GatherPost cfg (lowest cfg es sent (cfg .n)) numbers numbers′ packed packed′ (cfg .k)
+gathered-all cfg sent es {numbers} {numbers′} {packed} {packed′} {i} {found} end enough got =
+    let all : GatherPost cfg (lowest cfg es sent (cfg .n)) numbers numbers′ packed packed′ found =
+    subst (λ (j : ℕ). GatherPost cfg (lowest cfg es sent j) numbers numbers′ packed packed′ found) end got in
+    let many : found ≡ cfg .k =
+    all .count ∙ omega (arith, length-take (cfg .k) (present (cfg .n) (received cfg es sent)), length-present cfg es sent (cfg .n)) in
+    subst (GatherPost cfg (lowest cfg es sent (cfg .n)) numbers numbers′ packed packed′) many all
+
+module _ (cfg : Config) (sent : ℕ) (es board : List ℕ) (ok : Showable cfg sent es board) (numbers numbers′ packed packed′ : List ℕ)
+    (got : GatherPost cfg (lowest cfg es sent (cfg .n)) numbers numbers′ packed packed′ (cfg .k)) where
+  abbrev ps : List (ℕ × Element)
+  ps = lowest cfg es sent (cfg .n)
+
+  names-long : length (numbersOf ps) ≡ cfg .k
+  names-long = length-map ps (λ p. p .0) ∙ sym (got .count)
+
+  up : rising (cfg .n) (numbersOf ps) ≡ true
+  up =
+      rises (cfg .n) 0 ps
+      (rising-take (cfg .k) 0 (cfg .n) (present (cfg .n) (received cfg es sent)) (present-rising (cfg .n) (received cfg es sent)))
+
+  -- the questions of decoding them are all answered yes
+  passes : firstNo (decodeQuestions cfg (numbersOf ps) (length (elementsOf ps)) (length board)) ≡ 0
+  passes =
+      sym (accepted cfg (numbersOf ps) (length (elementsOf ps)) (length board) (valid-asked cfg (ok .valid))
+      (eq-eqb (length (elementsOf ps)) (length (numbersOf ps) * cfg .e) (got .long ∙ ap (λ (n : ℕ). n * cfg .e) (sym names-long)))
+      (ok .board-length) up (omega (arith, names-long)))
+
+  pub shows : (after : List ℕ) (r : Verdict) → DecodePost cfg (take (cfg .k) numbers′) (take (cfg .k * cfg .e) packed′) board after r → after ≡ decode cfg ps
+  unfolding decodedPairs
+  shows after r post =
+      let p : DecodePost cfg (numbersOf ps) (elementsOf ps) board after r =
+      subst (λ (l : List ℕ). DecodePost cfg (numbersOf ps) l board after r)
+      (ap (take (cfg .k * cfg .e)) (got .joint) ∙ take-at (elementsOf ps) (drop (cfg .k * cfg .e) packed) (cfg .k * cfg .e) (got .long))
+      (subst (λ (l : List ℕ). DecodePost cfg l (take (cfg .k * cfg .e) packed′) board after r)
+      (ap (take (cfg .k)) (got .numbered) ∙ take-at (numbersOf ps) (drop (cfg .k) numbers) (cfg .k) names-long) post) in
+      p .buffer ∙ ap (λ (b : Bool). cond b (decoded cfg (numbersOf ps) (elementsOf ps)) board) (eq-eqb _ 0 passes)

@@ -1,19 +1,17 @@
-pub mod Answers
+mod Answers
 pub mod Asked
-pub mod Begun
-pub mod Bounds
-pub mod Counting
-pub mod Elements
-pub mod Gathering
+mod Counting
+mod Elements
+mod Fronts
+mod Gathering
 pub mod Once
-pub mod Phases
-pub mod Places
-pub mod Present
+mod Onward
+mod Phases
 pub mod Quorum
-pub mod Sending
-pub mod Sets
-pub mod Settling
-pub mod Showing
-pub mod Stepping
-pub mod Tags
+mod Receiving
+mod Sending
+mod Sets
+mod Settling
+mod Stepping
+mod Tags
 pub mod Theorems

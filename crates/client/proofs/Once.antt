@@ -1,65 +1,47 @@
 -- A phase counts each server once: an answer that is awaited is of a server not counted yet, counting it adds that server and no
 -- other, and the same answer handed over again is not awaited, whatever the step did. Of any client of the protocol. Assumes nothing.
-use mathlib.Core.Path.{_≡_, refl, sym, ap, ap₂, _∙_}
-use mathlib.Core.Bool.{Bool, true, false, cond, not, _&&_, and-false}
-use mathlib.Core.Logic.{_⊎_, inl, inr}
-use mathlib.Core.Option.{Option, none, some}
+use mathlib.Core.Path.{_≡_, refl, ap, ap₂, _∙_}
+use mathlib.Core.Bool.{Bool, true, false, cond, not, and-false}
 use mathlib.Core.List.{List}
 use Prim.Native.Nat.{ℕ, zero, suc, _+_, _≤_, _<_}
 use native.Mathlib.Decide.{ℕ-discrete}
 use native.Mathlib.Omega.{arith}
-use borrow.Author.Tests.{eq-eqb, ne-eqb, eqb-true}
-use lib.Dec.{eqb, ltb}
+use borrow.Author.Tests.{eqb-true, ne-eqb}
+use lib.Dec.{eqb}
 use Rattle.laws.proofs.Bools.{and-left, and-right}
 use Rattle.config.specs.declared.Config.{Config}
 use Rattle.tag.specs.declared.Tag.{Tag}
 use Rattle.record.specs.Message.{Message}
-use Rattle.protocol.specs.Client.{Client, Phase, Moved, idle, asking, preWriting, finalisingWrite, finalisingRead, down, isFirst, awaits, awaited, counting, counted, enough, enoughToRead, highestNumber, nextTag, asked, spent, written, sendPreWrites, sendReadFinalises, sendWriteFinalises, endRead, ends, stays, settling, settle, clientStep}
-use Rattle.protocol.specs.Number.{count, nobody, nothingYet, upd}
-use Rattle.protocol.specs.Tags.{higher, kindNumber, same}
-
--- the servers counted in a phase
-abbrev pub countedIn : {Value Element : Type 0} → Phase Value Element → ℕ → Bool
-countedIn idle = nobody
-countedIn (asking b t cs) = cs
-countedIn (preWriting t cs) = cs
-countedIn (finalisingWrite t cs) = cs
-countedIn (finalisingRead t cs es) = cs
-countedIn down = nobody
-
-not-so : (b : Bool) → not b ≡ true → b ≡ false
-not-so true h = cc
-not-so false h = refl
-
-and-out : (a b : Bool) → b ≡ false → (a && b) ≡ false
-and-out a b h = rw h (and-false a)
-
-upd-there : (f : ℕ → Bool) (s : ℕ) (b : Bool) → upd f s b s ≡ b
-unfolding upd
-upd-there f s b = rw (eq-eqb s s refl)
-
-upd-else : (f : ℕ → Bool) (s : ℕ) (b : Bool) (t : ℕ) → (t ≡ s → ⊥) → upd f s b t ≡ f t
-unfolding upd
-upd-else f s b t h = rw (ne-eqb t s h)
+use Rattle.record.specs.Record.{kindNumber}
+use Rattle.protocol.specs.Client.{Client, Moved, Phase, idle, asking, preWriting, finalisingWrite, finalisingRead, down, isFirst, awaits, awaited, counting, sendPreWrites, sendReadFinalises, sendWriteFinalises, endRead, ends, stays, clientStep}
+use Rattle.protocol.specs.Number.{count, nobody, upd}
+use Rattle.protocol.specs.Tags.{sameKey}
+use Rattle.protocol.proofs.Basics.{upd-other, upd-same}
+use Rattle.client.specs.Quorum.{countedIn}
+use Rattle.client.proofs.Onward.{asked-elim, awaits-it, onward, step-elim}
 
 module _ {Element : Type 0} (m : Message Element) where
   first-new : (kind : ℕ) (cs : ℕ → Bool) → isFirst kind cs m ≡ true → cs (m .server) ≡ false
   unfolding isFirst
-  first-new kind cs h = not-so (cs (m .server)) (and-right (eqb (kindNumber (m .kind)) kind) (not (cs (m .server))) h)
+  first-new kind cs h = go (cs (m .server)) (and-right (eqb (kindNumber (m .kind)) kind) (not (cs (m .server))) h)
+    where
+      go : (b : Bool) → not b ≡ true → b ≡ false
+      go true h = cc
+      go false h = refl
 
-  pub first-kind : (kind : ℕ) (cs : ℕ → Bool) → isFirst kind cs m ≡ true → kindNumber (m .kind) ≡ kind
+  first-kind : (kind : ℕ) (cs : ℕ → Bool) → isFirst kind cs m ≡ true → kindNumber (m .kind) ≡ kind
   unfolding isFirst
   first-kind kind cs h =
       eqb-true (kindNumber (m .kind)) kind (and-left (eqb (kindNumber (m .kind)) kind) (not (cs (m .server))) h)
 
   -- neither an answer of another kind is the first, nor one of a server that is counted
-  other-kind : (kind : ℕ) (cs : ℕ → Bool) → (kindNumber (m .kind) ≡ kind → ⊥) → isFirst kind cs m ≡ false
+  other-kind : (kind other : ℕ) (cs : ℕ → Bool) → kindNumber (m .kind) ≡ other → (other ≡ kind → ⊥) → isFirst kind cs m ≡ false
   unfolding isFirst
-  other-kind kind cs h = rw (ne-eqb (kindNumber (m .kind)) kind h)
+  other-kind kind other cs e ne = rw (ne-eqb (kindNumber (m .kind)) kind (λ z. ne (omega arith)))
 
   not-twice : (kind : ℕ) (cs : ℕ → Bool) → isFirst kind (upd cs (m .server) true) m ≡ false
   unfolding isFirst
-  not-twice kind cs = rw (upd-there cs (m .server) true) (and-false (eqb (kindNumber (m .kind)) kind))
+  not-twice kind cs = rw (upd-same cs (m .server) true) (and-false (eqb (kindNumber (m .kind)) kind))
 
 module _ {Value Element : Type 0} (key : Tag → ℕ) (m : Message Element) where
   -- an answer that is awaited is of a server not counted yet
@@ -67,9 +49,9 @@ module _ {Value Element : Type 0} (key : Tag → ℕ) (m : Message Element) wher
   unfolding awaits
   new idle h = refl
   new (asking b t cs) h = first-new m 2 cs h
-  new (preWriting t cs) h = first-new m 4 cs (and-left (isFirst 4 cs m) (same key (m .tag) t) h)
-  new (finalisingWrite t cs) h = first-new m 6 cs (and-left (isFirst 6 cs m) (same key (m .tag) t) h)
-  new (finalisingRead t cs es) h = first-new m 8 cs (and-left (isFirst 8 cs m) (same key (m .tag) t) h)
+  new (preWriting t cs) h = first-new m 4 cs (and-left (isFirst 4 cs m) (sameKey key (m .tag) t) h)
+  new (finalisingWrite t cs) h = first-new m 6 cs (and-left (isFirst 6 cs m) (sameKey key (m .tag) t) h)
+  new (finalisingRead t cs es) h = first-new m 8 cs (and-left (isFirst 8 cs m) (sameKey key (m .tag) t) h)
   new down h = refl
 
   -- counting it adds its server, and no other
@@ -88,17 +70,17 @@ above : (n s : ℕ) (f : ℕ → Bool) (b : Bool) → n < s → count (upd f s b
 unfolding count
 above zero s f b h = refl
 above (suc n) s f b h =
-    ap₂ (λ (k : ℕ) (c : Bool). k + cond c 1 0) (above n s f b (omega arith)) (upd-else f s b (suc n) (λ e. omega arith))
+    ap₂ (λ (k : ℕ) (c : Bool). k + cond c 1 0) (above n s f b (omega arith)) (upd-other f s b (suc n) (λ e. omega arith))
 
-pub one-larger : (n s : ℕ) (f : ℕ → Bool) → f s ≡ false → 1 ≤ s → s ≤ n → count (upd f s true) n ≡ count f n + 1
+one-larger : (n s : ℕ) (f : ℕ → Bool) → f s ≡ false → 1 ≤ s → s ≤ n → count (upd f s true) n ≡ count f n + 1
 unfolding count
 one-larger zero s f h low high = absurd (omega arith)
 one-larger (suc n) s f h low high = elim (ℕ-discrete (suc n) s) as (λ _. count (upd f s true) (suc n) ≡ count f (suc n) + 1) [
   | yes e ↦
-      let in′ : upd f s true (suc n) ≡ true = ap (upd f s true) e ∙ upd-there f s true in
+      let in′ : upd f s true (suc n) ≡ true = ap (upd f s true) e ∙ upd-same f s true in
       let out : f (suc n) ≡ false = ap f e ∙ h in
       rw (in′, out) (omega (arith, above n s f true (omega arith)))
-  | no d ↦ rw (upd-else f s true (suc n) d) (omega (arith, one-larger n s f h low (omega arith)))
+  | no d ↦ rw (upd-other f s true (suc n) d) (omega (arith, one-larger n s f h low (omega arith)))
 ]
 
 -- so a phase that goes on counts one server more
@@ -110,50 +92,39 @@ counts-one key m n p h low high =
 -- ---- the same answer again
 
 module _ {Value Element : Type 0} (key : Tag → ℕ) (encode : Value → ℕ → Element) (decode : List (ℕ × Element) → Value) (cfg : Config) (c : ℕ) (m : Message Element) where
-  abbrev later : ℕ → Phase Value Element → Phase Value Element
-  later o p = settling encode decode cfg c o (counting key p m) .client .phase
+  -- it is not awaited where it is counted
+  counted-not : (p : Phase Value Element) → awaits key (counting key p m) m ≡ false
+  unfolding awaits counting
+  counted-not idle = refl
+  counted-not (asking b t cs) = not-twice m 2 cs
+  counted-not (preWriting t cs) = rw (not-twice m 4 cs)
+  counted-not (finalisingWrite t cs) = rw (not-twice m 6 cs)
+  counted-not (finalisingRead t cs es) = rw (not-twice m 8 cs)
+  counted-not down = refl
 
-  asked-not : (o : ℕ) (b : Option Value) (t : Tag) → kindNumber (m .kind) ≡ 2 → awaits key (asked encode cfg c o b t .client .phase) m ≡ false
-  unfolding awaits asked sendReadFinalises sendPreWrites ends
-  asked-not o none t k = rw (other-kind m 8 nobody (λ e. omega arith))
-  asked-not o (some v) t k = go (ltb (t .number) highestNumber)
-    where
-      go : (b : Bool) → awaits {Value = Value} key (cond b (sendPreWrites encode cfg c o v (nextTag t c)) (ends o spent) .client .phase) m ≡ false
-      go true = rw (other-kind m 4 nobody (λ e. omega arith))
-      go false = refl
+  abbrev NotAwaited : Moved Value Element → Type 0
+  NotAwaited r = awaits key (r .client .phase) m ≡ false
 
-  -- once counted it is not awaited, whether the phase goes on or another begins
-  settled-not : (o : ℕ) (p : Phase Value Element) → awaits key p m ≡ true → awaits key (later o p) m ≡ false
-  unfolding awaits counting settling sendWriteFinalises endRead ends stays
-  settled-not o idle h = cc
-  settled-not o (asking b t cs) h = go (enough cfg (upd cs (m .server) true))
-    where
-      go : (e : Bool) → awaits {Value = Value} key (cond e (asked encode cfg c o b (higher key t (m .tag))) (stays (record { operation = o; phase = asking b (higher key t (m .tag)) (upd cs (m .server) true) })) .client .phase) m ≡ false
-      go true = asked-not o b (higher key t (m .tag)) (first-kind m 2 cs h)
-      go false = not-twice m 2 cs
-  settled-not o (preWriting t cs) h = go (enough cfg (upd cs (m .server) true))
-    where
-      k : kindNumber (m .kind) ≡ 4
-      k = first-kind m 4 cs (and-left (isFirst 4 cs m) (same key (m .tag) t) h)
-
-      go : (e : Bool) → awaits {Value = Value} key (cond e (sendWriteFinalises cfg c o t) (stays (record { operation = o; phase = preWriting t (upd cs (m .server) true) })) .client .phase) m ≡ false
-      go true = rw (other-kind m 6 nobody (λ e. omega (arith, k)))
-      go false = rw (not-twice m 4 cs)
-  settled-not o (finalisingWrite t cs) h = go (enough cfg (upd cs (m .server) true))
-    where
-      go : (e : Bool) → awaits {Value = Value} key (cond e (ends o (written t)) (stays (record { operation = o; phase = finalisingWrite t (upd cs (m .server) true) })) .client .phase) m ≡ false
-      go true = refl
-      go false = rw (not-twice m 6 cs)
-  settled-not o (finalisingRead t cs es) h = go (enoughToRead cfg (upd cs (m .server) true) (upd es (m .server) (m .element)))
-    where
-      go : (e : Bool) → awaits {Value = Value} key (cond e (endRead decode cfg o t (upd es (m .server) (m .element))) (stays (record { operation = o; phase = finalisingRead t (upd cs (m .server) true) (upd es (m .server) (m .element)) })) .client .phase) m ≡ false
-      go true = refl
-      go false = rw (not-twice m 8 cs)
-  settled-not o down h = cc
+  -- nor in the phase after that
+  onward-not : (o : ℕ) (p : Phase Value Element) → awaits key p m ≡ true → NotAwaited (onward encode decode cfg c o (counting key p m))
+  unfolding awaits counting sendReadFinalises sendPreWrites sendWriteFinalises endRead ends stays
+  onward-not o idle h = refl
+  onward-not o (asking b t cs) h =
+      let k = first-kind m 2 cs h in
+      asked-elim encode decode cfg c o NotAwaited b _ (rw (other-kind m 8 2 nobody k (λ e. omega arith))) (λ v. rw (other-kind m 4 2 nobody k (λ e. omega arith))) (λ v i l. refl)
+  onward-not o (preWriting t cs) h =
+      rw (other-kind m 6 4 nobody (first-kind m 4 cs (and-left (isFirst 4 cs m) (sameKey key (m .tag) t) h)) (λ e. omega arith))
+  onward-not o (finalisingWrite t cs) h = refl
+  onward-not o (finalisingRead t cs es) h = refl
+  onward-not o down h = refl
 
   -- an answer that was taken is not awaited any more
   pub again : (x : Client Value Element) → awaited key x m ≡ true → awaited key (clientStep key encode decode cfg c x m .client) m ≡ false
-  unfolding awaited clientStep settle counted
+  unfolding awaited stays
   again x h =
-      let p = settled-not (x .operation) (x .phase) (and-right (eqb (m .operation) (x .operation)) (awaits key (x .phase) m) h) in
-      rw h (and-out (eqb (m .operation) (settle encode decode cfg c (counted key x m) .client .operation)) (awaits key (later (x .operation) (x .phase)) m) p)
+      step-elim key encode decode cfg c m x h (λ (r : Moved Value Element). awaited key (r .client) m ≡ false)
+      (λ e. out (onward encode decode cfg c (x .operation) (counting key (x .phase) m) .client) (onward-not (x .operation) (x .phase) (awaits-it key encode decode cfg c m x h)))
+      (out (record { operation = x .operation; phase = counting key (x .phase) m }) (counted-not (x .phase)))
+    where
+      out : (y : Client Value Element) → awaits key (y .phase) m ≡ false → awaited key y m ≡ false
+      out y e = rw e (and-false (eqb (m .operation) (y .operation)))

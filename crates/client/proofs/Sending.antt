@@ -1,135 +1,162 @@
--- A letter's records, one after the other. Assumes nothing.
+-- A message to each server: its record, the records one after the other, and the message that a phase begins with. Assumes nothing.
 use mathlib.Core.Path.{_≡_, refl, sym, ap, ap₂, _∙_}
-use mathlib.Core.Bool.{Bool, true, false, cond, _&&_}
-use mathlib.Core.Option.{Option, none, some}
+use mathlib.Core.Bool.{Bool, true, false, cond, true≢false}
 use mathlib.Core.List.{List, [], _∷_, _++_, append-nil, append-assoc}
-use Prim.Native.Nat.{ℕ, zero, suc, _+_, _-_, _*_, _≤_, _<_}
+use Prim.Native.Nat.{ℕ, suc, _+_, _-_, _*_, _≤_}
 use native.Mathlib.Omega.{arith}
 use borrow.Author.Tests.{eq-eqb, le-leb}
-use lib.Dec.{eqb, leb}
-use lib.ListN.{length, take, drop, length-append, length-drop, drop-of-length-le}
-use lib.Seq.{length-take-le, take-at, drop-at, drop-drop}
+use lib.ListN.{length, take, drop, length-append, length-drop}
+use Rattle.laws.specs.Parts.{over}
+use Rattle.laws.proofs.Bools.{and-left}
+use Rattle.laws.proofs.Parts.{lent-length, over-lent, over-there}
 use Rattle.config.specs.declared.Config.{Config}
-use Rattle.config.specs.declared.Client.{Client}
 use Rattle.config.specs.declared.Server.{Server}
 use Rattle.config.specs.declared.Verdict.{Verdict}
-use Rattle.config.specs.Config.{questions, Valid}
+use Rattle.config.specs.Config.{boardLength}
 use Rattle.config.specs.Number.{clientNumber, serverNumber}
 use Rattle.config.specs.Questions.{firstNo, within}
 use Rattle.config.proofs.Valid.{valid-asked}
-use Rattle.tag.specs.Tag.{allowed}
+use Rattle.tag.specs.declared.Tag.{Tag}
+use Rattle.tag.specs.Tag.{allowed, start}
 use Rattle.code.specs.Element.{element}
 use Rattle.code.specs.Encode.{EncodePost, encodeQuestions}
 use Rattle.code.proofs.Decoding.{length-element}
 use Rattle.code.proofs.Encodable.{accepted as encode-accepted}
 use Rattle.record.specs.declared.Header.{Header}
-use Rattle.record.specs.Calls.{WritePost, limits, withElement, writeQuestions}
-use Rattle.record.specs.Inner.{isSound}
-use Rattle.record.specs.Message.{Message}
-use Rattle.record.specs.Record.{all, elementAt, highestNumber, kindNumber, ofConfig, ownTag, presence, queryTag, recordOf}
-use Rattle.record.proofs.Answers.{write-last}
+use Rattle.record.specs.declared.Kind.{Kind}
+use Rattle.record.specs.declared.Kind.the-variants.{PreWrite, Query, ReadFinalise, WriteFinalise}
+use Rattle.record.specs.Calls.{WritePost, isSound, limits, withElement}
+use Rattle.record.specs.Record.{all, elementIn, highestNumber, kindNumber, ofConfig, ownTag, presence, queryTag, recordOf}
+use Rattle.record.proofs.Callers.{was-written}
 use Rattle.record.proofs.Written.{header-message}
+use Rattle.protocol.specs.Boards.{BoardMessage}
 use Rattle.protocol.specs.Number.{toEach}
-use Rattle.client.specs.declared.send.Letter.{Letter}
-use Rattle.client.specs.Send.{Filled, Sendable, SendsOne, addressed, front, records}
+use Rattle.client.specs.declared.Phase.{Phase}
+use Rattle.client.specs.declared.Phase.the-variants.{Idle, Asking, PreWriting, FinalisingWrite, FinalisingRead, Down}
+use Rattle.client.specs.declared.State.{State}
+use Rattle.client.specs.declared.send.Broadcast.{Broadcast}
+use Rattle.client.specs.Quorum.{OwnTag}
+use Rattle.client.specs.Send.{recordsOf}
+use Rattle.client.specs.Servers.{withinServers}
+use Rattle.client.specs.State.{phaseWithin, tagWithin}
+use Rattle.client.specs.inner.Send.{AnnouncePre, FillPost, Opens, Sendable, ToEachPre, ToOnePre, addressed, broadcastOf, openingOf}
+use Rattle.client.proofs.Fronts.{over-front}
+use Rattle.client.proofs.Phases.{phase-in, self-in, tag-in}
 
 -- ---- one record
 
--- the header of a letter to a server
-abbrev pub headerTo : Letter → Server → Header
-headerTo l server =
-    record { kind = l .kind; client = l .me; server = server; operation = l .operation; tag = l .tag; present = l .element }
+-- the header of a message to a server
+abbrev pub headerTo : Broadcast → Server → Header
+headerTo b server =
+    record { kind = b .kind; client = b .me; server = server; operation = b .operation; tag = b .tag; present = b .element }
 
-module _ (cfg : Config) (l : Letter) (board : List ℕ) (ok : Sendable cfg l board) (server : Server)
-    (is : within 1 (cfg .n) (serverNumber server) ≡ true) where
-  in-limits : limits cfg (headerTo l server) ≡ true
+module _ (cfg : Config) (b : Broadcast) (ok : Sendable cfg b) (server : Server) (is : within 1 (cfg .n) (serverNumber server) ≡ true) (buffer : List ℕ)
+    (long : length buffer ≡ 80) (o : b .operation ≤ highestNumber) (n : b .tag .number ≤ highestNumber) where
+  in-limits : limits cfg (headerTo b server) ≡ true
   in-limits = rw (ok .me, is, ok .tag)
 
-  is-sound : isSound (headerTo l server) ≡ true
+  goes : ofConfig cfg (withElement cfg (headerTo b server) buffer) ≡ true
   unfolding isSound all
-  is-sound = rw (le-leb 1 (l .operation) (ok .operation), ok .query, ok .own, ok .present)
+  goes =
+      header-message cfg (headerTo b server) buffer long (ok .valid .e-high) in-limits o n
+      ∙ rw (le-leb 1 (b .operation) (ok .operation), ok .query, ok .own, ok .present)
 
-  module _ (buffer : List ℕ) (long : length buffer ≡ 80) (o : l .operation ≤ highestNumber) (n : l .tag .number ≤ highestNumber) where
-    pub goes : ofConfig cfg (withElement cfg (headerTo l server) buffer) ≡ true
-    goes = header-message cfg (headerTo l server) buffer long (ok .valid .e-high) in-limits o n ∙ is-sound
+  -- what writing it leaves
+  pub written : (after : List ℕ) (r : Verdict) → WritePost cfg (headerTo b server) buffer after r
+      → after ≡ recordOf cfg (addressed cfg b (serverNumber server) buffer)
+  unfolding withElement
+  written after r post = was-written cfg (headerTo b server) buffer (ok .valid) long goes after r post .1
 
-    accepted : firstNo (writeQuestions cfg (headerTo l server) buffer) ≡ 0
-    accepted =
-        write-last cfg (headerTo l server) buffer (valid-asked cfg (ok .valid)) long in-limits ∙ ap (λ (b : Bool). cond b 0 12) goes
+-- ---- the element in its record
 
-    -- what writing it leaves
-    pub written : (after : List ℕ) (r : Verdict) → WritePost cfg (headerTo l server) buffer after r
-        → after ≡ recordOf cfg (addressed cfg l (serverNumber server) buffer)
-    unfolding withElement
-    written after r post =
-        post .bytes
-        ∙ ap (λ (b : Bool). cond b (recordOf cfg (withElement cfg (headerTo l server) buffer)) buffer)
-        (eq-eqb (firstNo (writeQuestions cfg (headerTo l server) buffer)) 0 accepted)
+module _ (cfg : Config) (b : Broadcast) (s : ℕ) (board buffer : List ℕ) where
+  pub none-filled : b .element ≡ false → FillPost cfg b s board buffer
+  none-filled h = record { element = rw h }
+
+  -- encoded at 16
+  pub filled : b .element ≡ true → ToOnePre cfg b s board buffer → (part : List ℕ) (r : Verdict)
+      → EncodePost cfg board s (take (16 + cfg .e - 16) (drop 16 buffer)) part r
+      → FillPost cfg b s board (take 16 buffer ++ (part ++ drop (16 + cfg .e - 16) (drop 16 buffer)))
+  filled has ok part r post =
+      let room : 16 + cfg .e ≤ length buffer = omega (arith, ok .room, ok .goes .valid .e-high) in
+      let lent = take (16 + cfg .e - 16) (drop 16 buffer) in
+      let p : part ≡ element cfg board s =
+      post .buffer
+      ∙ ap (λ (c : Bool). cond c (element cfg board s) lent)
+      (eq-eqb (firstNo (encodeQuestions cfg (length board) s (length lent))) 0
+      (sym (encode-accepted cfg (length board) s (length lent) (valid-asked cfg (ok .goes .valid)) (ok .board-length has)
+      (lent-length buffer 16 (cfg .e) room) (ok .low) (ok .high)))) in
+      let there : elementIn cfg (take 16 buffer ++ (part ++ drop (16 + cfg .e - 16) (drop 16 buffer))) ≡ element cfg board s =
+      ap (elementIn cfg) (over-lent 16 (cfg .e) part buffer) ∙ over-there 16 (cfg .e) part buffer (ap length p ∙ length-element cfg board s) room ∙ p in
+      record { element = rw (has, there) }
 
 -- ---- one record more
 
-pub records-more : (cfg : Config) (ms : List (Message (List ℕ))) (m : Message (List ℕ)) → records cfg (ms ++ m ∷ []) ≡ records cfg ms ++ recordOf cfg m
-unfolding records
+records-more : (cfg : Config) (ms : List BoardMessage) (m : BoardMessage) → recordsOf cfg (ms ++ m ∷ []) ≡ recordsOf cfg ms ++ recordOf cfg m
+unfolding recordsOf
 records-more cfg [] m = append-nil (recordOf cfg m)
 records-more cfg (x ∷ ms) m =
-    ap (λ (r : List ℕ). recordOf cfg x ++ r) (records-more cfg ms m) ∙ sym (append-assoc (recordOf cfg x) (records cfg ms) (recordOf cfg m))
+    ap (λ (r : List ℕ). recordOf cfg x ++ r) (records-more cfg ms m) ∙ sym (append-assoc (recordOf cfg x) (recordsOf cfg ms) (recordOf cfg m))
 
-module _ (cfg : Config) (f : ℕ → Message (List ℕ)) (i : ℕ) (sends₀ sends part : List ℕ)
-    (sofar : sends ≡ records cfg (toEach i f) ++ drop (80 * i) sends₀) (same : length sends ≡ length sends₀) (room : 80 * i + 80 ≤ length sends₀)
-    (one : part ≡ recordOf cfg (f (suc i))) where
+module _ (cfg : Config) (f : ℕ → BoardMessage) (i : ℕ) (sends₀ sends part : List ℕ)
+    (sofar : sends ≡ recordsOf cfg (toEach i f) ++ drop (80 * i) sends₀) (same : length sends ≡ length sends₀) (room : 80 * i + 80 ≤ length sends₀)
+    {next : ℕ} (is : next ≡ suc i) (one : part ≡ recordOf cfg (f next)) where
   abbrev sent : List ℕ
-  sent = records cfg (toEach i f)
+  sent = recordsOf cfg (toEach i f)
 
   sent-long : length sent ≡ 80 * i
   sent-long = omega (arith, ap length sofar, length-append sent (drop (80 * i) sends₀), length-drop (80 * i) sends₀)
 
   pub sent-more : take (80 * i) sends ++ (part ++ drop (80 * i + 80 - 80 * i) (drop (80 * i) sends))
-      ≡ records cfg (toEach (suc i) f) ++ drop (80 * suc i) sends₀
+      ≡ recordsOf cfg (toEach (suc i) f) ++ drop (80 * suc i) sends₀
   unfolding toEach
   sent-more =
-      let size : 80 * i + 80 - 80 * i ≡ 80 = omega arith in
-      let next : 80 * i + 80 ≡ 80 * suc i = omega arith in
-      ap₂ (λ (a b : List ℕ). a ++ b) (ap (take (80 * i)) sofar ∙ take-at sent (drop (80 * i) sends₀) (80 * i) sent-long)
-      (ap₂ (λ (a b : List ℕ). a ++ b) one
-      (ap₂ drop size (ap (drop (80 * i)) sofar ∙ drop-at sent (drop (80 * i) sends₀) (80 * i) sent-long)
-      ∙ drop-drop 80 (80 * i) sends₀ ∙ ap (λ (k : ℕ). drop k sends₀) next))
-      ∙ sym (append-assoc sent (recordOf cfg (f (suc i))) (drop (80 * suc i) sends₀))
-      ∙ ap (λ (r : List ℕ). r ++ drop (80 * suc i) sends₀) (sym (records-more cfg (toEach i f) (f (suc i))))
+      let end : 80 * i + 80 ≡ 80 * suc i = omega arith in
+      over-lent (80 * i) 80 part sends
+      ∙ ap₂ (over (80 * i) 80) (one ∙ ap (λ (s : ℕ). recordOf cfg (f s)) is) sofar
+      ∙ over-front sent sends₀ (80 * i) sent-long 80 (recordOf cfg (f (suc i)))
+      ∙ ap₂ (λ (l : List ℕ) (n : ℕ). l ++ drop n sends₀) (sym (records-more cfg (toEach i f) (f (suc i)))) end
 
--- ---- the element in its record
+-- ---- the message of a phase
 
-module _ (cfg : Config) (l : Letter) (s : ℕ) (board : List ℕ) where
-  -- a letter that has none
-  pub none-filled : (buffer : List ℕ) → l .element ≡ false → Filled cfg l s board buffer
-  none-filled buffer h = record { element = rw h }
+module _ (cfg : Config) (x : State) (board sends : List ℕ) (ok : AnnouncePre cfg x board sends) where
+  message : (kind : Kind) (t : Tag) (e : Bool) → allowed (cfg .c) t ≡ true → queryTag (kindNumber kind) t ≡ true
+      → ownTag (kindNumber kind) (clientNumber (x .me)) t ≡ true → presence (kindNumber kind) e ≡ true → Sendable cfg (broadcastOf x kind t e)
+  message kind t e tag query own present =
+      record {
+        valid = ok .valid;
+        me = self-in cfg x (ok .within);
+        operation = ok .operation;
+        tag = tag;
+        query = query;
+        own = own;
+        present = present;
+      }
 
-  -- encoded at 16
-  module _ (buffer part : List ℕ) (has : l .element ≡ true) (ok : SendsOne cfg l s board buffer) where
-    abbrev lent : List ℕ
-    lent = take (16 + cfg .e - 16) (drop 16 buffer)
+  goes-out : (p : Phase) → phaseWithin cfg p ≡ true → OwnTag (x .me) p → Opens cfg p board → Sendable cfg (openingOf x p)
+  unfolding phaseWithin openingOf
+  goes-out Idle w own opens = message Query start false refl refl refl refl
+  goes-out (Asking writes best counted) w own opens = message Query start false refl refl refl refl
+  goes-out (PreWriting tag counted) w own opens = message PreWrite tag true (tag-in cfg tag counted w) refl (eq-eqb (tag .client) (clientNumber (x .me)) own) refl
+  goes-out (FinalisingWrite tag counted) w own opens =
+      message WriteFinalise tag false (tag-in cfg tag counted w) refl (eq-eqb (tag .client) (clientNumber (x .me)) own) refl
+  goes-out (FinalisingRead tag counted sent) w own opens =
+      message ReadFinalise tag false (tag-in cfg tag counted (and-left (tagWithin cfg tag counted) (withinServers (cfg .n) sent) w)) refl refl refl
+  goes-out Down w own opens = message Query start false refl refl refl refl
 
-    lent-long : length lent ≡ cfg .e
-    lent-long =
-        let e : 16 + cfg .e - 16 ≡ cfg .e = omega arith in
-        ap (λ (n : ℕ). length (take n (drop 16 buffer))) e
-        ∙ length-take-le (cfg .e) (drop 16 buffer) (omega (arith, length-drop 16 buffer, ok .room, ok .letter .valid .e-high))
+  needs-board : (p : Phase) → Opens cfg p board → openingOf x p .element ≡ true → length board ≡ boardLength cfg
+  unfolding openingOf
+  needs-board Idle opens e = absurd (true≢false (sym e))
+  needs-board (Asking writes best counted) opens e = absurd (true≢false (sym e))
+  needs-board (PreWriting tag counted) opens e = opens
+  needs-board (FinalisingWrite tag counted) opens e = absurd (true≢false (sym e))
+  needs-board (FinalisingRead tag counted sent) opens e = absurd (true≢false (sym e))
+  needs-board Down opens e = absurd (true≢false (sym e))
 
-    encoded : (r : Verdict) → EncodePost cfg board s lent part r → part ≡ element cfg board s
-    encoded r post =
-        post .buffer
-        ∙ ap (λ (b : Bool). cond b (element cfg board s) lent)
-        (eq-eqb (firstNo (encodeQuestions cfg (length board) s (length lent))) 0
-        (sym (encode-accepted cfg (length board) s (length lent) (valid-asked cfg (ok .letter .valid)) (ok .letter .board-length has) lent-long (ok .low) (ok .high))))
-
-    pub filled : (r : Verdict) → EncodePost cfg board s lent part r → Filled cfg l s board (take 16 buffer ++ (part ++ drop (16 + cfg .e - 16) (drop 16 buffer)))
-    filled r post =
-        let p = encoded r post in
-        let there : elementAt cfg (take 16 buffer ++ (part ++ drop (16 + cfg .e - 16) (drop 16 buffer))) ≡ element cfg board s =
-        ap (take (cfg .e)) (drop-at (take 16 buffer) (part ++ drop (16 + cfg .e - 16) (drop 16 buffer)) 16 (length-take-le 16 buffer (omega (arith, ok .room))))
-        ∙ take-at part (drop (16 + cfg .e - 16) (drop 16 buffer)) (cfg .e) (ap length p ∙ length-element cfg board s) ∙ p in
-        record { element = rw has (ap some there) }
-
--- a result as long as its buffer leaves nothing of it
-pub fills : (xs buffer after : List ℕ) → after ≡ xs → length after ≡ length buffer → after ≡ front xs buffer
-fills xs buffer after e same =
-    e ∙ sym (append-nil xs) ∙ ap (λ (l : List ℕ). xs ++ l) (sym (drop-of-length-le buffer {i = length xs} (omega (arith, ap length e))))
+  pub sends-each : ToEachPre cfg (openingOf x (x .phase)) board sends
+  sends-each =
+      record {
+        goes = goes-out (x .phase) (phase-in cfg x (ok .within)) (ok .own) (ok .opens);
+        board-length = needs-board (x .phase) (ok .opens);
+        room = ok .room;
+      }

@@ -1,19 +1,21 @@
 -- Sets of servers as bits: a server put in or taken out, the bounds of a set, and its size. Assumes nothing.
-use mathlib.Core.Path.{_≡_, refl, sym, ap, ap₂, _∙_, subst, fun-ext}
-use mathlib.Core.Bool.{Bool, true, false, cond, _&&_, true≢false}
-use Prim.Native.Nat.{ℕ, zero, suc, _+_, _-_, _*_, _/_, _%_, _^_, _≤_, _<_}
+use mathlib.Core.Path.{_≡_, refl, sym, ap, ap₂, _∙_, fun-ext}
+use mathlib.Core.Bool.{Bool, true, false, cond}
+use Prim.Native.Nat.{ℕ, zero, suc, _+_, _-_, _/_, _%_, _^_, _≤_, _<_}
 use native.Mathlib.Nat.{mod-lt, mod-eq-of-lt, zero-lt-suc, zero-div, div-one, add-comm, le-div-iff-mul-le}
 use native.Mathlib.Numerals.{add-one, one-add}
 use native.Mathlib.Omega.{arith}
 use native.Mathlib.Decide.{decLt, ℕ-discrete}
-use borrow.Author.Tests.{eqb-true, eqb-false, eq-eqb, ne-eqb, ltb-true, lt-ltb}
+use borrow.Author.Tests.{eqb-true, eqb-false, eq-eqb, ltb-true, lt-ltb}
 use lib.Arith.{bin-ind}
 use lib.Count.{ones, ones-cat}
 use lib.Dec.{eqb, ltb, eqb·suc-suc, eqb·suc-zero, eqb·zero-suc}
 use lib.Pow.{shr-shr, mod-pow-add, pow-mono, pow-pos}
 use Rattle.laws.proofs.Bools.{and-left, and-right}
 use Rattle.protocol.specs.Number.{upd, count, nobody}
+use Rattle.protocol.proofs.Basics.{upd-elim, upd-own}
 use Rattle.client.specs.Servers.{member, withinServers}
+use Rattle.client.specs.inner.Count.{putOf}
 
 two-pos : zero < 2
 two-pos = zero-lt-suc 1
@@ -71,7 +73,7 @@ put-at (suc s) x h (suc t) =
     ∙ put-at s (x / 2) (sym (up x s) ∙ h) t
     ∙ sym (upd-up (member x) (member (x / 2)) s t true (up x t))
 
-pub put-in : (s x : ℕ) → member x s ≡ false → member (x + 2 ^ s) ≡ upd (member x) s true
+put-in : (s x : ℕ) → member x s ≡ false → member (x + 2 ^ s) ≡ upd (member x) s true
 put-in s x h = fun-ext (put-at s x h)
 
 out-at : (s x : ℕ) → member x s ≡ true → (t : ℕ) → member (x - 2 ^ s) t ≡ upd (member x) s false t
@@ -88,19 +90,23 @@ out-at (suc s) x h (suc t) =
     ∙ out-at s (x / 2) (sym (up x s) ∙ h) t
     ∙ sym (upd-up (member x) (member (x / 2)) s t false (up x t))
 
-pub take-out : (s x : ℕ) → member x s ≡ true → member (x - 2 ^ s) ≡ upd (member x) s false
+take-out : (s x : ℕ) → member x s ≡ true → member (x - 2 ^ s) ≡ upd (member x) s false
 take-out s x h = fun-ext (out-at s x h)
 
 -- what is there already, or is not
-same-at : (f : ℕ → Bool) (s : ℕ) (b : Bool) → f s ≡ b → (t : ℕ) → f t ≡ upd f s b t
-unfolding upd
-same-at f s b e t = elim (ℕ-discrete t s) as (λ _. f t ≡ cond (eqb t s) b (f t)) [
-  | yes p ↦ ap f p ∙ e ∙ ap (λ (c : Bool). cond c b (f t)) (sym (eq-eqb t s p))
-  | no n ↦ ap (λ (c : Bool). cond c b (f t)) (sym (ne-eqb t s n))
-]
+same : (f : ℕ → Bool) (s : ℕ) (b : Bool) → f s ≡ b → f ≡ upd f s b
+same f s b e = sym (upd-own f s) ∙ ap (upd f s) e
 
-pub upd-same : (f : ℕ → Bool) (s : ℕ) (b : Bool) → f s ≡ b → f ≡ upd f s b
-upd-same f s b e = fun-ext (same-at f s b e)
+-- the set that the code makes
+pub member-put : (set s : ℕ) (b : Bool) → member (putOf set s b) ≡ upd (member set) s b
+unfolding putOf
+member-put set s b = go (member set s) refl b
+  where
+    go : (a : Bool) → member set s ≡ a → (b : Bool) → member (cond a (cond b set (set - 2 ^ s)) (cond b (set + 2 ^ s) set)) ≡ upd (member set) s b
+    go true h true = same (member set) s true h
+    go true h false = take-out s set h
+    go false h true = put-in s set h
+    go false h false = same (member set) s false h
 
 -- ---- bounds
 
@@ -143,7 +149,7 @@ unfolding member
 far k x s = ap (λ (n : ℕ). eqb (n % 2) 1) (shr-shr x k s)
 
 -- a set with no other members is such a set
-pub members-within : (n x : ℕ) → ((s : ℕ) → member x s ≡ true → (1 ≤ s) × (s ≤ n)) → withinServers n x ≡ true
+members-within : (n x : ℕ) → ((s : ℕ) → member x s ≡ true → (1 ≤ s) × (s ≤ n)) → withinServers n x ≡ true
 members-within n x h = within-true n x even small
   where
     even : x % 2 ≡ 0
@@ -187,13 +193,8 @@ size-ones n x w = count-ones n x (within-even n x w) ∙ ap ones (mod-eq-of-lt (
 
 -- ---- a set changed at one server of 1 to n
 
-put-member : (f : ℕ → Bool) (s : ℕ) (b : Bool) (t : ℕ) → upd f s b t ≡ true → (t ≡ s → ⊥) → f t ≡ true
-unfolding upd
-put-member f s b t h n = rw (ne-eqb t s n) at h
-
-pub put-within : (n x y s : ℕ) (b : Bool) → withinServers n x ≡ true → 1 ≤ s → s ≤ n → member y ≡ upd (member x) s b → withinServers n y ≡ true
-put-within n x y s b w low high e =
-    members-within n y (λ t h. elim (ℕ-discrete t s) as (λ _. (1 ≤ t) × (t ≤ n)) [
-      | yes p ↦ (omega arith, omega arith)
-      | no m ↦ within-members n x t w (put-member (member x) s b t (ap (λ (f : ℕ → Bool). f t) (sym e) ∙ h) m)
-    ])
+pub put-within : (n x s : ℕ) (b : Bool) → withinServers n x ≡ true → 1 ≤ s → s ≤ n → withinServers n (putOf x s b) ≡ true
+put-within n x s b w low high =
+    members-within n (putOf x s b)
+    (λ t h. upd-elim (λ (d : Bool). d ≡ true → (1 ≤ t) × (t ≤ n)) (member x) s b t (λ e i. (omega arith, omega arith))
+    (λ e i. within-members n x t w i) (ap (λ (f : ℕ → Bool). f t) (sym (member-put x s b)) ∙ h))

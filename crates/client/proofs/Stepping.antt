@@ -1,32 +1,23 @@
 -- A step: refused, not awaited, or the protocol's. Assumes nothing.
-use mathlib.Core.Path.{_≡_, refl, sym, ap, ap₂, _∙_, subst}
+use mathlib.Core.Path.{_≡_, refl, sym, ap, _∙_, subst}
 use mathlib.Core.Bool.{Bool, true, false, cond, _&&_}
-use mathlib.Core.List.{List, [], _∷_, _++_, append-assoc}
-use mathlib.Core.Option.{none, some}
-use Prim.Native.Nat.{ℕ, min, _+_, _*_, _≤_}
-use native.Mathlib.Decide.{ℕ-discrete}
+use mathlib.Core.List.{List}
+use Prim.Native.Nat.{ℕ, _<_}
 use native.Mathlib.Omega.{arith}
-use borrow.Author.Tests.{eq-eqb, ne-eqb, eqb-true, leb-true}
-use lib.Dec.{eqb, leb}
+use borrow.Author.Tests.{eq-eqb, ne-eqb}
+use lib.Dec.{eqb}
 use lib.ListN.{length}
-use Rattle.laws.proofs.Bools.{and-left, and-right}
 use Rattle.config.specs.declared.Config.{Config}
 use Rattle.config.specs.Number.{clientNumber, serverNumber}
-use Rattle.config.specs.declared.Refusal.{Refusal}
-use Rattle.config.specs.Config.{boardLength, questions, Valid}
-use Rattle.config.specs.Questions.{Question, ask, firstNo, numbered, within}
-use Rattle.config.proofs.Questions.{firstNo-high, firstNo-pass, firstNo-stop, last-all}
-use Rattle.config.proofs.Valid.{valid-asked}
-use Rattle.tag.specs.declared.Tag.{Tag}
-use Rattle.tag.specs.Tag.{allowed, key}
+use Rattle.config.specs.Questions.{firstNo, numbered, within}
+use Rattle.config.proofs.Questions.{within-high}
+use Rattle.tag.specs.Tag.{allowed}
 use Rattle.record.specs.declared.Header.{Header}
-use Rattle.record.specs.declared.Reading.{Reading}
-use Rattle.record.specs.Calls.{ReadPost, limits, messageRead, readNumber, readQuestions, withElement}
-use Rattle.record.specs.Message.{Message}
-use Rattle.record.specs.Record.{clauses, kindAt, kindNumber, kindOf, messageOf, operationAt, ownTag, wellFormed}
-use Rattle.record.proofs.Answers.{read-last}
-use Rattle.record.proofs.Parties.{number-low}
-use Rattle.record.proofs.Clauses.{clause, its-client, its-kind, its-server, its-tag, kind-number}
+use Rattle.record.specs.Calls.{withElement}
+use Rattle.record.specs.Record.{messageOf}
+use Rattle.record.proofs.Clauses.{its-server, its-tag}
+use Rattle.protocol.specs.Boards as boards
+use Rattle.protocol.specs.Boards.{BoardMessage, BoardPhase}
 use Rattle.protocol.specs.Client as protocol
 use Rattle.client.specs.declared.count.Awaited.{Awaited}
 use Rattle.client.specs.declared.Ended.{Ended}
@@ -34,300 +25,162 @@ use Rattle.client.specs.declared.Moved.{Moved}
 use Rattle.client.specs.declared.Phase.{Phase}
 use Rattle.client.specs.declared.Phase.the-variants.{Idle, Asking, PreWriting, FinalisingWrite, FinalisingRead, Down}
 use Rattle.client.specs.declared.State.{State}
-use Rattle.client.specs.Answer.{Heard, Heeds, Takes}
-use Rattle.client.specs.Calls.{Answered, Held, StepPost, clientStep, unlessNo}
-use Rattle.client.specs.Count.{Countable, Counts, HasTag, StateCounted, placed}
-use Rattle.client.specs.Questions.{answerQuestions, isAnswer, isBoard, isElements, isFor, isSends, shapeQuestions, stepQuestions, stepSized}
-use Rattle.client.specs.Settle.{Own, Settled, Settles, endedOf, settle, shown}
-use Rattle.client.specs.State.{phaseOf, phaseWithin, stateWithin, view}
-use Rattle.client.proofs.Answers.{both-passed, moved, refused}
-use Rattle.client.proofs.Settling.{as-move}
+use Rattle.client.specs.declared.questions.Sizes.{Sizes}
+use Rattle.client.specs.Calls.{StepPost, clientStep, endedOf, inPhase}
+use Rattle.client.specs.Questions.{answerQuestions, stepQuestions}
+use Rattle.client.specs.Quorum.{OwnTag}
+use Rattle.client.specs.State.{Lent, lent, phaseOf, phaseWithin, placed, seen, stateWithin, view}
+use Rattle.client.specs.inner.Count.{awaitsOf, countOf, countingOf}
+use Rattle.client.specs.inner.Outcome.{RefusedPost}
+use Rattle.client.specs.inner.Place.{TakePre}
+use Rattle.client.specs.inner.Questions.{Received}
+use Rattle.client.specs.inner.Settle.{Moves, SettlePost, SettlePre, settleOf}
+use Rattle.client.proofs.Answers.{moved, refused}
+use Rattle.client.proofs.Asked.{call-numbered}
+use Rattle.client.proofs.Counting.{awaits-is, counting-is, counting-within}
+use Rattle.client.proofs.Phases.{phase-in, self-in}
+use Rattle.client.proofs.Receiving.{lengths, message-length, operation-begun, received-number, write-own}
+
+-- the lengths of the buffers lent
+abbrev pub sizesOf : Lent → Sizes
+sizesOf l = record { kept = length (l .kept); elements = length (l .elements); sends = length (l .sends); board = length (l .board) }
 
 -- ---- refused
 
-module _ (cfg : Config) (x : State) (message kept es sends board : List ℕ) where
-  pub step-refused : (refusal : ℕ) (r : Moved) → (refusal ≡ 0 → ⊥) → refusal ≤ 18 → Held x refusal r
-      → StepPost cfg refusal x message kept es es sends sends board board r
-  unfolding protocol.stays
-  step-refused refusal r stop high h =
-      let out : eqb refusal 0 ≡ false = ne-eqb refusal 0 stop in
-      record {
-        answered =
-            refused cfg x (view cfg x kept es) (view cfg (r .state) kept es) (clientStep cfg x message kept es) sends refusal r stop high h
-            (ap (λ (y : State). view cfg y kept es) (h .state));
-        ended = ap (λ (e : Ended). endedOf e board) (h .ended) ∙ rw out;
-        lent = rw out;
-        elements = rw out;
-      }
+pub step-refused : (cfg : Config) (x : State) (message : List ℕ) (l : Lent) {n : ℕ} {r : Moved} → n ≡ firstNo (stepQuestions cfg x message l) → (n ≡ 0 → ⊥)
+    → RefusedPost x n r → StepPost cfg x message l l r
+unfolding protocol.stays numbered
+step-refused cfg x message l {n} {r} e stop h =
+    let number = firstNo (stepQuestions cfg x message l) in
+    let out : eqb number 0 ≡ false = ne-eqb number 0 (λ z. stop (e ∙ z)) in
+    record {
+      answered =
+          refused cfg x (seen cfg x l) _ (clientStep cfg x message l) (l .sends) (stepQuestions cfg x message l) (call-numbered cfg x _ (answerQuestions cfg x message _) refl) e stop h
+          (ap (λ (y : State). seen cfg y l) (h .state));
+      ended = ap (λ (w : Ended). endedOf w (l .board)) (h .ended) ∙ rw out;
+      lent = rw out;
+      elements = rw out;
+    }
 
--- the same by another count of the questions
-pub as-number : {cfg : Config} {n n′ : ℕ} {x : State} {message kept es es′ sends sends′ board board′ : List ℕ} {r : Moved}
-    → n′ ≡ n → StepPost cfg n x message kept es es′ sends sends′ board board′ r → StepPost cfg n′ x message kept es es′ sends sends′ board board′ r
-as-number {cfg} {x = x} {message} {kept} {es} {es′} {sends} {sends′} {board} {board′} {r} e s =
-    subst (λ (k : ℕ). StepPost cfg k x message kept es es′ sends sends′ board board′ r) (sym e) s
+-- ---- an answer for this client
 
--- ---- the header of a well-formed record
+-- what was counted, or not
+counted-as : (b : Bool) (p q : Phase) → cond b (Awaited.Counted p) Awaited.Other ≡ Awaited.Counted q → (b ≡ true) × (p ≡ q)
+counted-as true p q e = (refl, cc)
+counted-as false p q e = let z : _≡_ {A = ℕ} 0 1 = cc in absurd (omega arith)
 
-module _ (cfg : Config) (x : State) (h : Header) (message : List ℕ) (heard : Heard cfg x h message) where
-  abbrev m : Message (List ℕ)
-  m = withElement cfg h message
+other-as : (b : Bool) (p : Phase) → cond b (Awaited.Counted p) Awaited.Other ≡ Awaited.Other → b ≡ false
+other-as true p e = let z : _≡_ {A = ℕ} 0 1 = cc in absurd (omega arith)
+other-as false p e = refl
 
-  its : {A : Type 0} (f : Message (List ℕ) → A) → f m ≡ f (messageOf cfg message)
-  its f = ap f (heard .says)
+-- counting keeps the tag
+own-counted : (cfg : Config) (x : State) (h : Header) (p : Phase) → OwnTag (x .me) p → OwnTag (x .me) (countingOf p h)
+unfolding countingOf
+own-counted cfg x h Idle o = o
+own-counted cfg x h (Asking writes best counted) o = o
+own-counted cfg x h (PreWriting tag counted) o = o
+own-counted cfg x h (FinalisingWrite tag counted) o = o
+own-counted cfg x h (FinalisingRead tag counted sent) o = o
+own-counted cfg x h Down o = o
 
-  pub in-limits : limits cfg h ≡ true
+module _ (cfg : Config) (x : State) (message : List ℕ) (l : Lent) (k : Received cfg x message (sizesOf l)) (h : Header)
+    (says : withElement cfg h message ≡ messageOf cfg message) where
+  abbrev m : BoardMessage
+  m = messageOf cfg message
+
+  abbrev awaited : Bool
+  awaited = boards.awaited cfg (seen cfg x l) m
+
+  server-in : within 1 (cfg .n) (serverNumber (h .server)) ≡ true
   unfolding withElement messageOf
-  in-limits =
-      rw (
-        ap (within 1 (cfg .c)) (its (λ w. w .client)) ∙ its-client cfg message (heard .well-formed),
-        ap (within 1 (cfg .n)) (its (λ w. w .server)) ∙ its-server cfg message (heard .well-formed),
-      )
-      (ap (allowed (cfg .c)) (its (λ w. w .tag)) ∙ its-tag cfg message (heard .well-formed))
+  server-in = ap (λ (w : BoardMessage). within 1 (cfg .n) (w .server)) says ∙ its-server cfg message (k .well-formed)
 
-  pub operation-low : 1 ≤ h .operation
-  unfolding withElement messageOf clauses
-  operation-low = omega (arith, its (λ w. w .operation), leb-true 1 (operationAt message) (clause cfg message 3 (heard .well-formed)))
+  tag-ok : allowed (cfg .c) (h .tag) ≡ true
+  unfolding withElement messageOf
+  tag-ok = ap (λ (w : BoardMessage). allowed (cfg .c) (w .tag)) says ∙ its-tag cfg message (k .well-formed)
 
-  -- the tag of an answer to a pre-write is the client's own
-  pub own-tag : kindNumber (h .kind) ≡ 4 → h .tag .client ≡ clientNumber (h .client)
-  unfolding withElement messageOf clauses
-  own-tag k =
-      let kind : kindAt message ≡ 4 =
-      sym (kind-number (kindAt message) (its-kind cfg message (heard .well-formed))) ∙ sym (its (λ w. kindNumber (w .kind))) ∙ k in
-      let own = clause cfg message 7 (heard .well-formed) in
-      its (λ w. w .tag .client) ∙ eqb-true _ _ (rw kind at own) ∙ sym (its (λ w. w .client))
+  pub server-small : serverNumber (h .server) < 32
+  server-small = omega (arith, within-high 1 (cfg .n) (serverNumber (h .server)) server-in, k .valid .n-high)
 
--- ---- heard
+  -- question 14, as the code asks it
+  awaited-is : awaited ≡ (eqb (h .operation) (x .operation) && awaitsOf (x .phase) h)
+  unfolding protocol.awaited view withElement
+  awaited-is =
+      ap (boards.awaited cfg (seen cfg x l)) (sym says)
+      ∙ ap (λ (b : Bool). eqb (h .operation) (x .operation) && b) (awaits-is cfg (k .valid) h server-in tag-ok (x .phase) (phase-in cfg x (k .within)) (l .kept) (l .elements) message)
 
-module _ (cfg : Config) (x : State) (h : Header) (message kept es sends board : List ℕ) (ok : Heeds cfg x message kept es sends board)
-    (heard : Heard cfg x h message) where
-  abbrev seen : protocol.Client (List ℕ) (List ℕ)
-  seen = view cfg x kept es
+  number : firstNo (stepQuestions cfg x message l) ≡ cond awaited 0 14
+  number = received-number cfg x message (sizesOf l) k awaited
 
-  abbrev awaits : Bool
-  awaits = protocol.awaited key seen (messageOf cfg message)
+  pub not-awaited : {a : Awaited} → a ≡ countOf x h → a ≡ Awaited.Other → {r : Moved} → RefusedPost x 14 r → StepPost cfg x message l l r
+  not-awaited e o post =
+      let out : awaited ≡ false = awaited-is ∙ other-as (eqb (h .operation) (x .operation) && awaitsOf (x .phase) h) (countingOf (x .phase) h) (sym e ∙ o) in
+      step-refused cfg x message l (sym (number ∙ rw out)) (λ z. omega arith) post
 
-  x-phase : phaseWithin cfg (x .phase) ≡ true
-  unfolding stateWithin
-  x-phase = and-right (within 1 (cfg .c) (clientNumber (x .me))) (phaseWithin cfg (x .phase)) (ok .within)
-
-  x-self : within 1 (cfg .c) (clientNumber (x .me)) ≡ true
-  unfolding stateWithin
-  x-self = and-left (within 1 (cfg .c) (clientNumber (x .me))) (phaseWithin cfg (x .phase)) (ok .within)
-
-  pub countable : Countable cfg (x .phase) h
-  countable = record { valid = ok .valid; within = x-phase; header = in-limits cfg x h message heard }
-
-  pub takes : Takes cfg h message es
+  pub takes : TakePre cfg h message (l .elements)
   takes =
       record {
-        valid = ok .valid;
-        header = in-limits cfg x h message heard;
-        message-length = ok .message-length;
-        elements-length = ok .elements-length;
+        valid = k .valid;
+        server = server-in;
+        message-length = message-length cfg x message (sizesOf l) (k .lengths);
+        elements-length = lengths cfg x message (sizesOf l) (k .lengths) .1;
       }
 
-  -- it is not awaited
-  pub not-awaited : (r : Moved) → StateCounted cfg x h Awaited.Other → Held x 14 r
-      → StepPost cfg (cond awaits 0 14) x message kept es es sends sends board board r
-  not-awaited r other k =
-      let out : awaits ≡ false = ap (protocol.awaited key seen) (sym (heard .says)) ∙ other kept es message in
-      rw out (step-refused cfg x message kept es sends board 14 r (λ z. absurd (omega arith)) (omega arith) k)
+  -- ---- it is counted
 
-  -- it is counted
-  module _ (phase : Phase) (got : StateCounted cfg x h (Awaited.Counted phase)) (es′ : List ℕ) (taken : es′ ≡ placed cfg (withElement cfg h message) es)
-      (same : length es′ ≡ length es) where
+  module _ {a : Awaited} (e : a ≡ countOf x h) {p : Phase} (c : a ≡ Awaited.Counted p) (es′ : List ℕ) (taken : es′ ≡ placed cfg (withElement cfg h message) (l .elements))
+      (same : length es′ ≡ length (l .elements)) where
     abbrev later : State
-    later = record { me = x .me; operation = x .operation; phase = phase }
+    later = inPhase x p
 
-    is-awaited : awaits ≡ true
-    unfolding protocol.awaited view withElement
-    is-awaited =
-        ap (protocol.awaited key seen) (sym (heard .says))
-        ∙ rw (eq-eqb (h .operation) (x .operation) (got .0)) (got .1 .is-awaited kept es message)
+    abbrev l₁ : Lent
+    l₁ = lent (l .kept) es′ (l .sends) (l .board)
 
-    own : (p : Phase) → HasTag p h → Own (x .me) p
-    own Idle t = tt
-    own (Asking writes best counted) t = tt
-    own (PreWriting tag counted) t = ap (λ (u : Tag). u .client) (t .0) ∙ own-tag cfg x h message heard (t .1) ∙ heard .for-me
-    own (FinalisingWrite tag counted) t = tt
-    own (FinalisingRead tag counted sent) t = tt
-    own Down t = tt
+    got : ((eqb (h .operation) (x .operation) && awaitsOf (x .phase) h) ≡ true) × (countingOf (x .phase) h ≡ p)
+    got = counted-as (eqb (h .operation) (x .operation) && awaitsOf (x .phase) h) (countingOf (x .phase) h) p (sym e ∙ c)
 
-    pub settles : Settles cfg later kept es′ sends board
+    due : awaited ≡ true
+    due = awaited-is ∙ got .0
+
+    pub settles : SettlePre cfg later l₁
     unfolding stateWithin
     settles =
+        let long = lengths cfg x message (sizesOf l) (k .lengths) in
         record {
-          valid = ok .valid;
-          within = rw (x-self, got .1 .within);
-          operation = omega (arith, operation-low cfg x h message heard, got .0);
-          own = own phase (got .1 .tag);
-          kept-length = ok .kept-length;
-          elements-length = same ∙ ok .elements-length;
-          sends-length = ok .sends-length;
-          board-length = ok .board-length;
+          valid = k .valid;
+          within =
+              rw (self-in cfg x (k .within))
+              (subst (λ (q : Phase). phaseWithin cfg q ≡ true) (got .1) (counting-within cfg (k .valid) h server-in tag-ok (x .phase) (phase-in cfg x (k .within))));
+          operation = operation-begun cfg x message (sizesOf l) k (l .kept) (l .elements) due;
+          own =
+              subst (OwnTag (x .me)) (got .1)
+              (own-counted cfg x h (x .phase) (write-own cfg x message (sizesOf l) k (l .kept) (l .elements) due));
+          kept-length = long .0;
+          elements-length = same ∙ long .1;
+          sends-length = long .2;
+          board-length = long .3;
         }
 
-    -- the protocol's client with the answer counted is the one that the code goes on with
-    counted-is : protocol.counted key seen (messageOf cfg message) ≡ view cfg later kept es′
-    unfolding protocol.counted view
-    counted-is =
-        ap (protocol.counted key seen) (sym (heard .says))
-        ∙ ap (λ (p : protocol.Phase (List ℕ) (List ℕ)). record { operation = x .operation; phase = p })
-        (sym (got .1 .counts kept es message (ok .elements-length) (omega (arith, ok .message-length, ok .valid .e-high))))
-        ∙ ap (λ (l : List ℕ). record { operation = x .operation; phase = phaseOf cfg phase kept l }) (sym taken)
+    -- the protocol's step is what the code goes on with
+    step-is : clientStep cfg x message l ≡ settleOf cfg later l₁
+    unfolding protocol.clientStep protocol.counted view
+    step-is =
+        rw due
+        (ap (λ (q : BoardPhase). protocol.settle (boards.encode cfg) (boards.decode cfg) cfg (clientNumber (x .me)) (record { operation = x .operation; phase = q }))
+        (ap (protocol.counting (boards.order cfg) (phaseOf cfg (x .phase) (l .kept) (l .elements))) (sym says)
+        ∙ counting-is cfg (k .valid) h server-in tag-ok (x .phase) (phase-in cfg x (k .within)) (l .kept) (l .elements) message (lengths cfg x message (sizesOf l) (k .lengths) .1)
+        (omega (arith, message-length cfg x message (sizesOf l) (k .lengths), k .valid .e-high))
+        ∙ rw (got .1, sym taken)))
 
-    step-is : clientStep cfg x message kept es ≡ settle cfg (clientNumber (x .me)) (view cfg later kept es′)
-    unfolding protocol.clientStep
-    step-is = rw is-awaited (ap (settle cfg (clientNumber (x .me))) counted-is)
-
-    pub stepped : (sends′ board′ : List ℕ) (r : Moved)
-        → Settled cfg (x .me) (settle cfg (clientNumber (x .me)) (view cfg later kept es′)) kept es′ sends sends′ board board′ r
-        → StepPost cfg (cond awaits 0 14) x message kept es es′ sends sends′ board board′ r
-    stepped sends′ board′ r s =
-        let s′ : Settled cfg (x .me) (clientStep cfg x message kept es) kept es′ sends sends′ board board′ r = as-move step-is s in
-        rw is-awaited
-        (record {
-          answered = moved cfg x seen (view cfg (r .state) kept es′) (clientStep cfg x message kept es) sends 0 kept es′ sends′ board board′ r refl s′ refl;
-          ended = s′ .ended;
-          lent = s′ .lent;
-          elements = taken ∙ ap (λ (w : Message (List ℕ)). placed cfg w es) (heard .says);
-        })
-
--- ---- read
-
-module _ (cfg : Config) (x : State) (message kept es sends board : List ℕ) (ok : Heeds cfg x message kept es sends board) where
-  abbrev refusal : ℕ
-  refusal = firstNo (answerQuestions cfg x message kept es)
-
-  last-question : firstNo (readQuestions cfg message) ≡ cond (wellFormed cfg message) 0 12
-  last-question = read-last cfg message (valid-asked cfg (ok .valid)) (ok .message-length)
-
-  ill-formed : (r : Reading) (why : Refusal) → r ≡ Reading.No why → ReadPost cfg message r → wellFormed cfg message ≡ false
-  ill-formed r why e post = go (wellFormed cfg message) refl
-    where
-      go : (b : Bool) → wellFormed cfg message ≡ b → b ≡ false
-      go false w = refl
-      go true w =
-          absurd
-          (omega (arith, number-low why, ap readNumber (sym e) ∙ post .number ∙ last-question ∙ ap (λ (b : Bool). cond b 0 12) w))
-
-  -- question 12
-  pub unread : (r : Reading) (why : Refusal) → r ≡ Reading.No why → ReadPost cfg message r → (k : Moved) → Held x 12 k
-      → StepPost cfg refusal x message kept es es sends sends board board k
-  unfolding answerQuestions firstNo
-  unread r why e post k held =
-      rw (ill-formed r why e post)
-      (step-refused cfg x message kept es sends board 12 k (λ z. absurd (omega arith)) (omega arith) held)
-
-  module _ (h : Header) (r : Reading) (e : r ≡ Reading.Message h) (post : ReadPost cfg message r) where
-    none-asked : firstNo (readQuestions cfg message) ≡ 0
-    none-asked = sym (post .number) ∙ ap readNumber e
-
-    formed : wellFormed cfg message ≡ true
-    formed = go (wellFormed cfg message) refl
-      where
-        go : (b : Bool) → wellFormed cfg message ≡ b → b ≡ true
-        go true w = refl
-        go false w = absurd (omega (arith, sym none-asked ∙ last-question ∙ ap (λ (b : Bool). cond b 0 12) w))
-
-    says : withElement cfg h message ≡ messageOf cfg message
-    says =
-        let both : some (withElement cfg h message) ≡ some (messageOf cfg message) =
-        ap (messageRead cfg message) (sym e) ∙ post .message
-        ∙ ap (λ (b : Bool). cond b (some (messageOf cfg message)) none) (eq-eqb (firstNo (readQuestions cfg message)) 0 none-asked) in
-        cc
-
-    for-is : isFor x (messageOf cfg message) ≡ (eqb (clientNumber (h .client)) (clientNumber (x .me)) && isAnswer (h .kind))
-    unfolding withElement
-    for-is = ap (isFor x) (sym says)
-
-    -- question 16
-    pub misdirected : (eqb (clientNumber (h .client)) (clientNumber (x .me)) && isAnswer (h .kind)) ≡ false → (k : Moved) → Held x 16 k
-        → StepPost cfg refusal x message kept es es sends sends board board k
-    unfolding answerQuestions firstNo
-    misdirected out k held =
-        rw (formed, for-is, out)
-        (step-refused cfg x message kept es sends board 16 k (λ z. absurd (omega arith)) (omega arith) held)
-
-    module _ (is : (eqb (clientNumber (h .client)) (clientNumber (x .me)) && isAnswer (h .kind)) ≡ true) where
-      pub heard-is : Heard cfg x h message
-      heard-is =
-          record {
-            well-formed = formed;
-            says = says;
-            for-me =
-                eqb-true (clientNumber (h .client)) (clientNumber (x .me))
-                (and-left (eqb (clientNumber (h .client)) (clientNumber (x .me))) (isAnswer (h .kind)) is);
-          }
-
-      -- what is left is question 14
-      pub question-14 : refusal ≡ cond (protocol.awaited key (view cfg x kept es) (messageOf cfg message)) 0 14
-      unfolding answerQuestions firstNo
-      question-14 = rw (formed, for-is, is)
-
--- ---- asked
-
-module _ (cfg : Config) (x : State) (message kept es sends board : List ℕ) where
-  abbrev sized : Bool
-  sized = stepSized cfg (length message) (length kept) (length es) (length sends) (length board)
-
-  abbrev shape : List Question
-  shape = shapeQuestions cfg sized x
-
-  in-two : stepQuestions cfg x message kept es sends board ≡ shape ++ answerQuestions cfg x message kept es
-  unfolding stepQuestions shapeQuestions
-  in-two = sym (append-assoc (questions cfg) (ask 6 (sized && stateWithin cfg x) ∷ []) (answerQuestions cfg x message kept es))
-
-  shape-numbered : numbered shape ≡ true
-  unfolding shapeQuestions numbered questions
-  shape-numbered = refl
-
-  -- one of questions 1 to 6
-  pub unasked : (no′ : ℕ) → no′ ≡ firstNo shape → (no′ ≡ 0 → ⊥) → (r : Moved) → Held x no′ r
-      → StepPost cfg (firstNo (stepQuestions cfg x message kept es sends board)) x message kept es es sends sends board board r
-  unasked n e stop r h =
-      let same : firstNo (stepQuestions cfg x message kept es sends board) ≡ n =
-      ap firstNo in-two ∙ firstNo-stop shape (answerQuestions cfg x message kept es) (λ z. stop (e ∙ z)) ∙ sym e in
-      as-number same (step-refused cfg x message kept es sends board n r stop (rw e (firstNo-high shape shape-numbered)) h)
-
-  -- where all are answered yes, both parts are
-  pub both-asked : firstNo (stepQuestions cfg x message kept es sends board) ≡ 0
-      → (firstNo shape ≡ 0) × (firstNo (answerQuestions cfg x message kept es) ≡ 0)
-  both-asked h = elim (ℕ-discrete (firstNo shape) 0) as (λ _. (firstNo shape ≡ 0) × (firstNo (answerQuestions cfg x message kept es) ≡ 0)) [
-    | yes z ↦ (z, sym (firstNo-pass shape (answerQuestions cfg x message kept es) shape-numbered z) ∙ sym (ap firstNo in-two) ∙ h)
-    | no s ↦ absurd (s (sym (firstNo-stop shape (answerQuestions cfg x message kept es) s) ∙ sym (ap firstNo in-two) ∙ h))
-  ]
-
-  module _ (pass : firstNo shape ≡ 0) where
-    pub asked-later : firstNo (stepQuestions cfg x message kept es sends board) ≡ firstNo (answerQuestions cfg x message kept es)
-    asked-later = ap firstNo in-two ∙ firstNo-pass shape (answerQuestions cfg x message kept es) shape-numbered pass
-
-    both : Valid cfg × ((sized && stateWithin cfg x) ≡ true)
-    unfolding shapeQuestions numbered
-    both =
-        let p = both-passed cfg (ask 6 (sized && stateWithin cfg x) ∷ []) pass in
-        (p .0, last-all [] 6 (sized && stateWithin cfg x) refl (omega arith) (p .1) .1)
-
-    all-sized : sized ≡ true
-    all-sized = and-left sized (stateWithin cfg x) (both .1)
-
-    pub heeds : Heeds cfg x message kept es sends board
-    heeds =
-        let l = length message in
-        let k = length kept in
-        let e = length es in
-        let s = length sends in
-        let b = length board in
-        let rest = and-right (eqb l 80) (isBoard cfg k && (isElements cfg e && (isSends cfg s && isBoard cfg b))) all-sized in
-        let rest′ = and-right (isBoard cfg k) (isElements cfg e && (isSends cfg s && isBoard cfg b)) rest in
-        let rest″ = and-right (isElements cfg e) (isSends cfg s && isBoard cfg b) rest′ in
+    pub stepped : {sends′ board′ : List ℕ} {r : Moved} → SettlePost cfg later l₁ sends′ board′ r
+        → StepPost cfg x message l (lent (l .kept) es′ sends′ board′) r
+    stepped {sends′} {board′} {r} s =
+        let s′ : Moves cfg (x .me) (clientStep cfg x message l) (l .kept) es′ (l .sends) sends′ (l .board) board′ r = rw step-is s in
+        let none : firstNo (stepQuestions cfg x message l) ≡ 0 = number ∙ rw due in
+        let is : eqb (firstNo (stepQuestions cfg x message l)) 0 ≡ true = eq-eqb (firstNo (stepQuestions cfg x message l)) 0 none in
         record {
-          valid = both .0;
-          within = and-right sized (stateWithin cfg x) (both .1);
-          message-length = eqb-true l 80 (and-left (eqb l 80) (isBoard cfg k && (isElements cfg e && (isSends cfg s && isBoard cfg b))) all-sized);
-          kept-length = eqb-true k (boardLength cfg) (and-left (isBoard cfg k) (isElements cfg e && (isSends cfg s && isBoard cfg b)) rest);
-          elements-length = eqb-true e (cfg .n * cfg .e) (and-left (isElements cfg e) (isSends cfg s && isBoard cfg b) rest′);
-          sends-length = eqb-true s (80 * cfg .n) (and-left (isSends cfg s) (isBoard cfg b) rest″);
-          board-length = eqb-true b (boardLength cfg) (and-right (isSends cfg s) (isBoard cfg b) rest″);
+          answered = moved cfg x (seen cfg x l) _ (clientStep cfg x message l) (l .sends) (stepQuestions cfg x message l) none (l .kept) es′ s′ refl;
+          ended = s′ .ended ∙ rw is;
+          lent = s′ .lent ∙ rw is;
+          elements = taken ∙ rw (is, says);
         }

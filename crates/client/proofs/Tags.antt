@@ -1,10 +1,10 @@
 -- Tags compared by their key, as the protocol does, and by number and client, as the code does. Assumes nothing.
 use mathlib.Core.Path.{_≡_, refl, sym, ap, _∙_}
 use mathlib.Core.Bool.{Bool, true, false, cond, true≢false}
-use Prim.Native.Nat.{ℕ, _≤_, _<_}
+use Prim.Native.Nat.{ℕ}
 use native.Mathlib.Omega.{arith}
 use borrow.Author.Tests.{eq-eqb, ne-eqb, lt-ltb, le-ltb}
-use lib.Dec.{eqb, ltb}
+use lib.Dec.{ltb}
 use Rattle.config.specs.declared.Config.{Config}
 use Rattle.config.specs.Config.{Valid}
 use Rattle.tag.specs.declared.Tag.{Tag}
@@ -17,10 +17,10 @@ pub small : (cfg : Config) → Valid cfg → (t : Tag) → allowed (cfg .c) t �
 small cfg v t h = omega (arith, allowed-client (cfg .c) t h, v .c-high)
 
 module _ (a b : Tag) (sa : Small a) (sb : Small b) where
-  pub same-key : protocol.same key a b ≡ same a b
+  pub same-key : protocol.sameKey key a b ≡ same a b
   same-key = go (same a b) refl
     where
-      go : (t : Bool) → same a b ≡ t → protocol.same key a b ≡ t
+      go : (t : Bool) → same a b ≡ t → protocol.sameKey key a b ≡ t
       go true h = eq-eqb (key a) (key b) (ap key (same-one a b h))
       go false h =
           ne-eqb (key a) (key b)

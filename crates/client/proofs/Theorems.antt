@@ -1,50 +1,50 @@
 -- What a client's calls show besides: a fresh client passes question 6, and every call keeps that; a record handed over again is not
 -- counted again; none is taken in an operation that was not begun; a client that has q answers asks no more; an operation ends only on
--- answers of at least q distinct servers in its last phase; no answer depends on bytes that are not in use. Assumes nothing.
-use mathlib.Core.Path.{_≡_, refl, sym, ap, _∙_, subst}
+-- answers of at least q distinct servers in its last phase, and a read on k elements; no answer depends on bytes that are not in use.
+-- Assumes nothing.
+use mathlib.Core.Path.{_≡_, refl, sym, ap, ap₂, _∙_, subst}
 use mathlib.Core.Bool.{Bool, true, false, cond, _&&_}
-use mathlib.Core.List.{List, [], _∷_, _++_}
+use mathlib.Core.List.{List, [], _∷_}
 use mathlib.Core.Option.{Option, none, some}
 use Prim.Native.Nat.{ℕ, _≤_}
-use native.Mathlib.Decide.{ℕ-discrete}
 use native.Mathlib.Omega.{arith}
-use borrow.Author.Tests.{eq-eqb, ne-eqb}
-use lib.Dec.{eqb}
+use borrow.Author.Tests.{eq-eqb}
+use lib.Dec.{eqb, ltb}
 use lib.ListN.{length}
 use Rattle.config.specs.declared.Client.{Client}
 use Rattle.config.specs.declared.Config.{Config}
 use Rattle.config.specs.Config.{questions, quorumOf}
 use Rattle.config.specs.Number.{clientNumber, clientQuestions}
-use Rattle.config.specs.Questions.{ask, firstNo, numbered, within}
-use Rattle.config.specs.Refusal.{verdictNumber}
-use Rattle.config.proofs.Questions.{last-all, last-yes, questions-numbered}
-use Rattle.config.proofs.Valid.{valid-asked}
+use Rattle.config.specs.Questions.{ask, firstNo, within}
+use Rattle.config.proofs.Questions.{last-all, questions-numbered}
 use Rattle.tag.specs.declared.Tag.{Tag}
-use Rattle.tag.specs.Tag.{key}
-use Rattle.code.specs.Decoded.{decodedPairs}
-use Rattle.code.specs.Element.{element}
-use Rattle.record.specs.Message.{Message}
-use Rattle.record.specs.Record.{highestNumber, messageOf, serverAt, tagAt, wellFormed}
+use Rattle.record.specs.Kinds.{isForClient}
+use Rattle.record.specs.Record.{elementIn, highestNumber, isPresent, messageOf, presentAt, serverAt, tagAt}
+use Rattle.protocol.specs.Boards as boards
+use Rattle.protocol.specs.Boards.{BoardClient, BoardEnded, BoardMessage, BoardMoved, BoardPhase, Element}
 use Rattle.protocol.specs.Client as protocol
-use Rattle.protocol.specs.Number.{count, upd}
+use Rattle.protocol.specs.Number.{count, present, upd}
 use Rattle.protocol.specs.Tags.{higher}
+use Rattle.protocol.proofs.Basics.{cond-elim}
+use Rattle.client.specs.declared.Ended.{Ended}
 use Rattle.client.specs.declared.Ended.the-variants.{Written, Spent, Read}
 use Rattle.client.specs.declared.Moved.{Moved}
-use Rattle.client.specs.declared.NewState.{NewState}
 use Rattle.client.specs.declared.Phase.{Phase}
 use Rattle.client.specs.declared.Phase.the-variants.{Idle, Asking, PreWriting, FinalisingWrite, FinalisingRead, Down}
 use Rattle.client.specs.declared.State.{State}
-use Rattle.client.specs.Answer.{Heeds}
-use Rattle.client.specs.Calls.{BeginPost, FreshPost, StepPost, clientStep, freshState, unlessNo}
-use Rattle.client.specs.Questions.{answerQuestions, isAnswer, isFor, shapeQuestions, stepQuestions, stepSized}
-use Rattle.client.specs.Send.{front, records}
+use Rattle.client.specs.Calls.{BeginPost, CrashPost, StepPost, clientStep, endedOf, freshState, inPhase, shown, stepOf, unlessNo}
+use Rattle.client.specs.Questions.{answerQuestions, callQuestions, crashQuestions, stepQuestions, stepSized}
+use Rattle.client.specs.Quorum.{Alike, Elements, OwnTag, Quorum, phaseNumber}
+use Rattle.client.specs.Send.{front, recordsOf}
 use Rattle.client.specs.Servers.{member}
-use Rattle.client.specs.Settle.{endedOf, shown}
-use Rattle.client.specs.State.{phaseOf, phaseWithin, stateWithin, view}
-use Rattle.client.proofs.Begun.{OwnWrite, operation-begun, write-own}
+use Rattle.client.specs.State.{Lent, bare, phaseOf, phaseWithin, received, seen, stateWithin, view}
+use Rattle.client.specs.inner.Questions.{Received}
+use Rattle.client.proofs.Gathering.{present-count, received-present}
 use Rattle.client.proofs.Once.{again}
-use Rattle.client.proofs.Quorum.{Fits, ReadBy, SpentBy, WrittenBy, isAsking, step-fits, step-on}
-use Rattle.client.proofs.Stepping.{asked-later, both-asked, heeds}
+use Rattle.client.proofs.Phases.{self-in}
+use Rattle.client.proofs.Quorum.{Fits, step-fits, step-on}
+use Rattle.client.proofs.Receiving.{all-yes, operation-begun, received-number, write-own}
+use Rattle.client.proofs.Stepping.{sizesOf}
 
 -- ---- question 6
 
@@ -63,225 +63,220 @@ pub begin-keeps : {cfg : Config} {refusal : ℕ} {x : State} {board : Option (Li
     → BeginPost cfg refusal x board kept kept′ es sends sends′ r → stateWithin cfg x ≡ true → stateWithin cfg (r .state) ≡ true
 begin-keeps post = post .answered .within
 
-pub step-keeps : {cfg : Config} {refusal : ℕ} {x : State} {message kept es es′ sends sends′ board board′ : List ℕ} {r : Moved}
-    → StepPost cfg refusal x message kept es es′ sends sends′ board board′ r → stateWithin cfg x ≡ true → stateWithin cfg (r .state) ≡ true
+pub step-keeps : {cfg : Config} {x : State} {message : List ℕ} {l l′ : Lent} {r : Moved} → StepPost cfg x message l l′ r → stateWithin cfg x ≡ true
+    → stateWithin cfg (r .state) ≡ true
 step-keeps post = post .answered .within
 
--- the servers counted in a phase, with that of a record's answer, are at least q
-abbrev pub Quorum : Config → List ℕ → ℕ → Type 0
-Quorum cfg message counted = quorumOf cfg ≤ count (upd (member counted) (serverAt message) true) (cfg .n)
+pub crash-keeps : {cfg : Config} {x : State} {r : Moved} → CrashPost cfg x r → stateWithin cfg x ≡ true → stateWithin cfg (r .state) ≡ true
+unfolding stateWithin phaseWithin
+crash-keeps {cfg} {x} post w =
+    subst (λ (y : State). stateWithin cfg y ≡ true) (sym (post .state))
+    (cond-elim (λ (y : State). stateWithin cfg y ≡ true) (eqb (firstNo (crashQuestions cfg x)) 0) (inPhase x Down) x (λ e. rw (self-in cfg x w)) (λ e. w))
 
--- ---- a record handed over again
+-- a client that crashed is down, and keeps its operation number
+pub crash-view : (cfg : Config) (x : State) (kept es : List ℕ)
+    → view cfg (inPhase x Down) kept es ≡ record { operation = view cfg x kept es .operation; phase = protocol.down }
+unfolding view phaseOf
+crash-view cfg x kept es = refl
 
-three : (a b c : Bool) → firstNo (ask 12 a ∷ ask 16 b ∷ ask 14 c ∷ []) ≡ 0 → (a ≡ true) × (b ≡ true) × (c ≡ true)
-unfolding firstNo
-three true true true h = (refl, refl, refl)
-three true true false h = absurd (omega arith)
-three true false c h = absurd (omega arith)
-three false b c h = absurd (omega arith)
+-- ---- questions 9, 10 and 11 ask nothing of a client's buffers
 
-module _ (cfg : Config) (x : State) (message kept es es′ sends sends′ board board′ : List ℕ) (r : Moved)
-    (post : StepPost cfg (firstNo (stepQuestions cfg x message kept es sends board)) x message kept es es′ sends sends′ board board′ r)
-    (taken : firstNo (stepQuestions cfg x message kept es sends board) ≡ 0) where
-  abbrev m : Message (List ℕ)
+bare-phase : (cfg : Config) (kept es : List ℕ) (p : Phase) → (protocol.isUp (phaseOf cfg p kept es) ≡ protocol.isUp (phaseOf cfg p [] []))
+    × (protocol.isIdle (phaseOf cfg p kept es) ≡ protocol.isIdle (phaseOf cfg p [] []))
+unfolding protocol.isUp protocol.isIdle phaseOf
+bare-phase cfg kept es Idle = (refl, refl)
+bare-phase cfg kept es (Asking writes best counted) = (refl, refl)
+bare-phase cfg kept es (PreWriting tag counted) = (refl, refl)
+bare-phase cfg kept es (FinalisingWrite tag counted) = (refl, refl)
+bare-phase cfg kept es (FinalisingRead tag counted sent) = (refl, refl)
+bare-phase cfg kept es Down = (refl, refl)
+
+pub bare-up : (cfg : Config) (x : State) (kept es : List ℕ) → protocol.isUp (view cfg x kept es .phase) ≡ protocol.isUp (bare cfg x .phase)
+unfolding view
+bare-up cfg x kept es = bare-phase cfg kept es (x .phase) .0
+
+pub bare-begin : (cfg : Config) (x : State) (kept es : List ℕ) → protocol.beginQuestions (view cfg x kept es) ≡ protocol.beginQuestions (bare cfg x)
+unfolding protocol.beginQuestions view
+bare-begin cfg x kept es =
+    let p = bare-phase cfg kept es (x .phase) in
+    ap₂ (λ (a b : Bool). ask 9 a ∷ ask 10 b ∷ ask 11 (ltb (x .operation) protocol.highestNumber) ∷ []) (p .0) (p .1)
+
+-- ---- a record that was taken
+
+module _ (cfg : Config) (x : State) (message : List ℕ) (l l′ : Lent) (r : Moved) (post : StepPost cfg x message l l′ r)
+    (taken : firstNo (stepQuestions cfg x message l) ≡ 0) where
+  abbrev m : BoardMessage
   m = messageOf cfg message
 
-  heeded : Heeds cfg x message kept es sends board
-  heeded = heeds cfg x message kept es sends board (both-asked cfg x message kept es sends board taken .0)
-
-  answers : (wellFormed cfg message ≡ true) × (isFor x m ≡ true) × (protocol.awaited key (view cfg x kept es) m ≡ true)
-  unfolding answerQuestions
-  answers =
-      three (wellFormed cfg message) (isFor x m) (protocol.awaited key (view cfg x kept es) m)
-      (both-asked cfg x message kept es sends board taken .1)
-
-  abbrev protocol-step : protocol.Client (List ℕ) (List ℕ) → protocol.Client (List ℕ) (List ℕ)
-  protocol-step y = protocol.clientStep key (element cfg) (decodedPairs cfg) cfg (clientNumber (x .me)) y m .client
+  asked : Received cfg x message (sizesOf l) × (boards.awaited cfg (seen cfg x l) m ≡ true)
+  asked = all-yes cfg x message (sizesOf l) (boards.awaited cfg (seen cfg x l) m) taken
 
   -- the client after the step is the protocol's
-  moved : view cfg (r .state) kept es′ ≡ protocol-step (view cfg x kept es)
-  moved =
-      post .answered .client
-      ∙ ap (λ (b : Bool). cond b (clientStep cfg x message kept es) (protocol.stays (view cfg x kept es)) .client)
-      (eq-eqb (firstNo (stepQuestions cfg x message kept es sends board)) 0 taken)
+  moved : seen cfg (r .state) l′ ≡ boards.clientStep cfg (clientNumber (x .me)) (seen cfg x l) m .client
+  moved = post .answered .client ∙ rw (eq-eqb (firstNo (stepQuestions cfg x message l)) 0 taken)
 
   -- which awaits it no more
-  not-again : protocol.awaited key (view cfg (r .state) kept es′) m ≡ false
+  not-again : boards.awaited cfg (seen cfg (r .state) l′) m ≡ false
   not-again =
-      ap (λ (y : protocol.Client (List ℕ) (List ℕ)). protocol.awaited key y m) moved
-      ∙ again key (element cfg) (decodedPairs cfg) cfg (clientNumber (x .me)) m (view cfg x kept es) (answers .2)
+      ap (λ (y : BoardClient). boards.awaited cfg y m) moved
+      ∙ again (boards.order cfg) (boards.encode cfg) (boards.decode cfg) cfg (clientNumber (x .me)) m (seen cfg x l) (asked .1)
 
-  still-for : isFor (r .state) m ≡ true
-  still-for = ap (λ (c : Client). eqb (m .client) (clientNumber c) && isAnswer (m .kind)) (post .answered .self) ∙ answers .1
-
-  -- one that was counted is refused with 14
-  pub doubled : (sends″ board″ : List ℕ) → stepSized cfg (length message) (length kept) (length es′) (length sends″) (length board″) ≡ true
-      → firstNo (stepQuestions cfg (r .state) message kept es′ sends″ board″) ≡ 14
-  unfolding answerQuestions shapeQuestions firstNo
-  doubled sends″ board″ sized =
-      let size = stepSized cfg (length message) (length kept) (length es′) (length sends″) (length board″) in
-      let within′ : stateWithin cfg (r .state) ≡ true = post .answered .within (heeded .within) in
-      let six : (size && stateWithin cfg (r .state)) ≡ true = rw (sized, within′) in
-      asked-later cfg (r .state) message kept es′ sends″ board″
-      (last-yes (questions cfg) 6 (size && stateWithin cfg (r .state)) (questions-numbered cfg) (valid-asked cfg (heeded .valid)) six)
-      ∙ rw (answers .0, still-for, not-again)
-
-  -- ---- an operation that was begun
+  -- handed over again it is refused with 14
+  pub doubled : (l″ : Lent) → l″ .kept ≡ l′ .kept → l″ .elements ≡ l′ .elements
+      → stepSized cfg (length message) (length (l″ .kept)) (length (l″ .elements)) (length (l″ .sends)) (length (l″ .board)) ≡ true
+      → firstNo (stepQuestions cfg (r .state) message l″) ≡ 14
+  doubled l″ k e sized =
+      let out : boards.awaited cfg (seen cfg (r .state) l″) m ≡ false = rw (k, e) not-again in
+      received-number cfg (r .state) message (sizesOf l″)
+      (record {
+        valid = asked .0 .valid;
+        within = post .answered .within (asked .0 .within);
+        lengths = sized;
+        well-formed = asked .0 .well-formed;
+        for-me = ap (λ (c : Client). eqb (m .client) (clientNumber c) && isForClient (m .kind)) (post .answered .self) ∙ asked .0 .for-me;
+      })
+      (boards.awaited cfg (seen cfg (r .state) l″) m)
+      ∙ rw out
 
   -- a record is taken only of a client whose operation number is at least 1 and, of a write's phase, whose tag is its own
-  pub begun : (1 ≤ x .operation) × OwnWrite (x .me) (x .phase)
+  pub begun : (1 ≤ x .operation) × OwnTag (x .me) (x .phase)
   begun = (
-    operation-begun cfg x message kept es (heeded .valid) (heeded .within) (answers .0) (answers .1) (answers .2),
-    write-own cfg x message kept es (heeded .valid) (heeded .within) (answers .0) (answers .1) (answers .2),
+    operation-begun cfg x message (sizesOf l) (asked .0) (l .kept) (l .elements) (asked .1),
+    write-own cfg x message (sizesOf l) (asked .0) (l .kept) (l .elements) (asked .1),
   )
-
-  -- ---- a client that has enough goes on
 
   -- asking, with at least q servers counted: it asks no more
   pub goes-on : (writes : Bool) (best : Tag) (counted : ℕ) → x .phase ≡ Asking writes best counted → Quorum cfg message counted
-      → isAsking (view cfg (r .state) kept es′ .phase) ≡ false
-  unfolding view phaseOf protocol.quorum messageOf
+      → phaseNumber (seen cfg (r .state) l′ .phase) ≡ 1 → ⊥
+  unfolding view phaseOf messageOf
   goes-on writes best counted e q =
-      let b = cond writes (some kept) none in
-      let seen : view cfg x kept es ≡ record { operation = x .operation; phase = protocol.asking b best (member counted) } =
-      ap (λ (p : Phase). record { operation = x .operation; phase = phaseOf cfg p kept es }) e in
-      ap (λ (y : protocol.Client (List ℕ) (List ℕ)). isAsking (y .phase)) (moved ∙ ap protocol-step seen)
-      ∙ step-on key (element cfg) (decodedPairs cfg) cfg (clientNumber (x .me)) m (x .operation) b best (member counted)
-      (subst (λ (y : protocol.Client (List ℕ) (List ℕ)). protocol.awaited key y m ≡ true) seen (answers .2)) q
+      let b = cond writes (some (l .kept)) none in
+      let is : seen cfg x l ≡ record { operation = x .operation; phase = protocol.asking b best (member counted) } =
+      ap (λ (p : Phase). record { operation = x .operation; phase = phaseOf cfg p (l .kept) (l .elements) }) e in
+      subst (λ (y : BoardClient). phaseNumber (y .phase) ≡ 1 → ⊥) (sym (moved ∙ ap (λ (y : BoardClient). boards.clientStep cfg (clientNumber (x .me)) y m .client) is))
+      (step-on (boards.order cfg) (boards.encode cfg) (boards.decode cfg) cfg (clientNumber (x .me)) m (x .operation) b best (member counted)
+      (subst (λ (y : BoardClient). boards.awaited cfg y m ≡ true) is (asked .1)) q)
 
 -- ---- an operation's end
 
--- a phase of the code that the protocol sees as finalising
-module _ (cfg : Config) (kept es : List ℕ) (t : Tag) (cs : ℕ → Bool) where
-  abbrev Writes : Phase → Type 0
-  Writes p = (counted : ℕ) × (p ≡ FinalisingWrite t counted) × (member counted ≡ cs)
+-- the phase of the code that the protocol sees
+module _ (cfg : Config) (kept es : List ℕ) where
+  -- no other phase is seen so
+  other : {p q : BoardPhase} → p ≡ q → (phaseNumber p ≡ phaseNumber q → ⊥) → ⊥
+  other e n = n (ap phaseNumber e)
 
-  writes-is : (p : Phase) → phaseOf cfg p kept es ≡ protocol.finalisingWrite t cs → Writes p
+  writes-is : (p : Phase) (t : Tag) (cs : ℕ → Bool) → phaseOf cfg p kept es ≡ protocol.finalisingWrite t cs
+      → (counted : ℕ) × (p ≡ FinalisingWrite t counted) × (member counted ≡ cs)
   unfolding phaseOf
-  writes-is Idle e = let z : _≡_ {A = ℕ} 0 1 = cc in absurd (omega arith)
-  writes-is (Asking writes best counted) e = let z : _≡_ {A = ℕ} 0 1 = cc in absurd (omega arith)
-  writes-is (PreWriting tag counted) e = let z : _≡_ {A = ℕ} 0 1 = cc in absurd (omega arith)
-  writes-is (FinalisingWrite tag counted) e =
-      let same : tag ≡ t = cc in (counted, ap (λ (u : Tag). FinalisingWrite u counted) same, (cc))
-  writes-is (FinalisingRead tag counted sent) e = let z : _≡_ {A = ℕ} 0 1 = cc in absurd (omega arith)
-  writes-is Down e = let z : _≡_ {A = ℕ} 0 1 = cc in absurd (omega arith)
+  writes-is Idle t cs e = absurd (other e (λ z. omega arith))
+  writes-is (Asking writes best counted) t cs e = absurd (other e (λ z. omega arith))
+  writes-is (PreWriting tag counted) t cs e = absurd (other e (λ z. omega arith))
+  writes-is (FinalisingWrite tag counted) t cs e = let same : tag ≡ t = cc in (counted, ap (λ (u : Tag). FinalisingWrite u counted) same, (cc))
+  writes-is (FinalisingRead tag counted sent) t cs e = absurd (other e (λ z. omega arith))
+  writes-is Down t cs e = absurd (other e (λ z. omega arith))
 
-  module _ (v : List ℕ) where
-    abbrev Asks : Phase → Type 0
-    Asks p = (counted : ℕ) × (p ≡ Asking true t counted) × (member counted ≡ cs)
+  asks-is : (p : Phase) (v : List ℕ) (t : Tag) (cs : ℕ → Bool) → phaseOf cfg p kept es ≡ protocol.asking (some v) t cs
+      → (counted : ℕ) × (p ≡ Asking true t counted) × (member counted ≡ cs)
+  unfolding phaseOf
+  asks-is Idle v t cs e = absurd (other e (λ z. omega arith))
+  asks-is (Asking true best counted) v t cs e = let same : best ≡ t = cc in (counted, ap (λ (u : Tag). Asking true u counted) same, (cc))
+  asks-is (Asking false best counted) v t cs e = let z : _≡_ {A = ℕ} 0 1 = cc in absurd (omega arith)
+  asks-is (PreWriting tag counted) v t cs e = absurd (other e (λ z. omega arith))
+  asks-is (FinalisingWrite tag counted) v t cs e = absurd (other e (λ z. omega arith))
+  asks-is (FinalisingRead tag counted sent) v t cs e = absurd (other e (λ z. omega arith))
+  asks-is Down v t cs e = absurd (other e (λ z. omega arith))
 
-    asks-is : (p : Phase) → phaseOf cfg p kept es ≡ protocol.asking (some v) t cs → Asks p
-    unfolding phaseOf
-    asks-is Idle e = let z : _≡_ {A = ℕ} 0 1 = cc in absurd (omega arith)
-    asks-is (Asking true best counted) e =
-        let same : best ≡ t = cc in (counted, ap (λ (u : Tag). Asking true u counted) same, (cc))
-    asks-is (Asking false best counted) e = let z : _≡_ {A = ℕ} 0 1 = cc in absurd (omega arith)
-    asks-is (PreWriting tag counted) e = let z : _≡_ {A = ℕ} 0 1 = cc in absurd (omega arith)
-    asks-is (FinalisingWrite tag counted) e = let z : _≡_ {A = ℕ} 0 1 = cc in absurd (omega arith)
-    asks-is (FinalisingRead tag counted sent) e = let z : _≡_ {A = ℕ} 0 1 = cc in absurd (omega arith)
-    asks-is Down e = let z : _≡_ {A = ℕ} 0 1 = cc in absurd (omega arith)
+  reads-is : (p : Phase) (t : Tag) (cs : ℕ → Bool) (got : ℕ → Option Element) → phaseOf cfg p kept es ≡ protocol.finalisingRead t cs got
+      → (counted sent : ℕ) × (p ≡ FinalisingRead t counted sent) × (member counted ≡ cs) × (received cfg es sent ≡ got)
+  unfolding phaseOf
+  reads-is Idle t cs got e = absurd (other e (λ z. omega arith))
+  reads-is (Asking writes best counted) t cs got e = absurd (other e (λ z. omega arith))
+  reads-is (PreWriting tag counted) t cs got e = absurd (other e (λ z. omega arith))
+  reads-is (FinalisingWrite tag counted) t cs got e = absurd (other e (λ z. omega arith))
+  reads-is (FinalisingRead tag counted sent) t cs got e =
+      let same : tag ≡ t = cc in (counted, sent, ap (λ (u : Tag). FinalisingRead u counted sent) same, (cc), (cc))
+  reads-is Down t cs got e = absurd (other e (λ z. omega arith))
 
-  module _ (got : ℕ → Option (List ℕ)) where
-    abbrev Reads : Phase → Type 0
-    Reads p = (counted : ℕ) × (sent : ℕ) × (p ≡ FinalisingRead t counted sent) × (member counted ≡ cs)
-
-    reads-is : (p : Phase) → phaseOf cfg p kept es ≡ protocol.finalisingRead t cs got → Reads p
-    unfolding phaseOf
-    reads-is Idle e = let z : _≡_ {A = ℕ} 0 1 = cc in absurd (omega arith)
-    reads-is (Asking writes best counted) e = let z : _≡_ {A = ℕ} 0 1 = cc in absurd (omega arith)
-    reads-is (PreWriting tag counted) e = let z : _≡_ {A = ℕ} 0 1 = cc in absurd (omega arith)
-    reads-is (FinalisingWrite tag counted) e = let z : _≡_ {A = ℕ} 0 1 = cc in absurd (omega arith)
-    reads-is (FinalisingRead tag counted sent) e =
-        let same : tag ≡ t = cc in (counted, sent, ap (λ (u : Tag). FinalisingRead u counted sent) same, (cc))
-    reads-is Down e = let z : _≡_ {A = ℕ} 0 1 = cc in absurd (omega arith)
-
-module _ (cfg : Config) (refusal : ℕ) (x : State) (message kept es es′ sends sends′ board board′ : List ℕ) (r : Moved)
-    (post : StepPost cfg refusal x message kept es es′ sends sends′ board board′ r) where
-  abbrev msg : Message (List ℕ)
+module _ (cfg : Config) (x : State) (message : List ℕ) (l l′ : Lent) (r : Moved) (post : StepPost cfg x message l l′ r) where
+  abbrev msg : BoardMessage
   msg = messageOf cfg message
 
-  abbrev Ends : protocol.Ended (List ℕ) → Type 0
-  Ends = Fits key (element cfg) (decodedPairs cfg) cfg (clientNumber (x .me)) msg (phaseOf cfg (x .phase) kept es)
+  abbrev Ends : BoardEnded → Type 0
+  Ends = Fits (boards.order cfg) (boards.encode cfg) (boards.decode cfg) cfg (clientNumber (x .me)) msg (phaseOf cfg (x .phase) (l .kept) (l .elements))
 
-  fits : Ends (endedOf (r .ended) board′)
+  fits : (how : Ended) → r .ended ≡ how → Ends (endedOf how (l′ .board))
   unfolding protocol.stays view
-  fits = subst Ends (sym (post .ended)) (go (eqb refusal 0))
-    where
-      go : (b : Bool) → Ends (cond b (clientStep cfg x message kept es) (protocol.stays (view cfg x kept es)) .ended)
-      go true = step-fits key (element cfg) (decodedPairs cfg) cfg (clientNumber (x .me)) msg (view cfg x kept es)
-      go false = tt
+  fits how e =
+      subst Ends (sym (post .ended) ∙ ap (λ (h : Ended). endedOf h (l′ .board)) e)
+      (cond-elim (λ (y : BoardMoved). Ends (y .ended)) (eqb (firstNo (stepQuestions cfg x message l)) 0) (clientStep cfg x message l) (protocol.stays (seen cfg x l))
+      (λ h. step-fits (boards.order cfg) (boards.encode cfg) (boards.decode cfg) cfg (clientNumber (x .me)) msg (seen cfg x l)) (λ h. tt))
 
-  quorum-is : (counted : ℕ) (cs : ℕ → Bool) → member counted ≡ cs → protocol.quorum cfg ≤ count (upd cs (msg .server) true) (cfg .n) → Quorum cfg message counted
-  unfolding protocol.quorum messageOf
+  quorum-is : (counted : ℕ) (cs : ℕ → Bool) → member counted ≡ cs → quorumOf cfg ≤ count (upd cs (msg .server) true) (cfg .n) → Quorum cfg message counted
+  unfolding messageOf
   quorum-is counted cs e q = subst (λ (f : ℕ → Bool). quorumOf cfg ≤ count (upd f (serverAt message) true) (cfg .n)) (sym e) q
+
+  elements-are : (sent : ℕ) (got : ℕ → Option Element) → received cfg (l .elements) sent ≡ got
+      → cfg .k ≤ length (present (cfg .n) (upd got (msg .server) (msg .element))) → Elements cfg message sent
+  unfolding upd messageOf
+  elements-are sent got i many = omega (arith, present-count (upd got (serverAt message) (msg .element)) (upd (member sent) (serverAt message) (presentAt message)) here (cfg .n))
+    where
+      its : (b : Bool) → isPresent (cond b (some (elementIn cfg message)) none) ≡ b
+      its true = refl
+      its false = refl
+
+      here : (t : ℕ) → isPresent (upd got (serverAt message) (msg .element) t) ≡ upd (member sent) (serverAt message) (presentAt message) t
+      here t = go (eqb t (serverAt message))
+        where
+          go : (b : Bool) → isPresent (cond b (msg .element) (got t)) ≡ cond b (presentAt message) (member sent t)
+          go true = its (presentAt message)
+          go false = rw (sym i) (received-present cfg (l .elements) sent t)
 
   -- a write ends only so
   pub written-on-quorum : (t : Tag) → r .ended ≡ Written t → (counted : ℕ) × (x .phase ≡ FinalisingWrite t counted) × Quorum cfg message counted
   written-on-quorum t e =
-      let w : WrittenBy key (element cfg) (decodedPairs cfg) cfg (clientNumber (x .me)) msg t (phaseOf cfg (x .phase) kept es) =
-      subst Ends (ap (λ h. endedOf h board′) e) fits in
-      let p = writes-is cfg kept es t (w .0) (x .phase) (w .1) in
+      let w = fits (Written t) e in
+      let p = writes-is cfg (l .kept) (l .elements) (x .phase) t (w .0) (w .1) in
       (p .0, p .1, quorum-is (p .0) (w .0) (p .2) (w .2))
 
   -- it ends spent only so while asking, with the highest tag's number the last
   pub spent-on-quorum : r .ended ≡ Spent
-      → (best : Tag) × (counted : ℕ) × (x .phase ≡ Asking true best counted) × Quorum cfg message counted × (highestNumber ≤ higher key best (tagAt message) .number)
+      → (best : Tag) × (counted : ℕ) × (x .phase ≡ Asking true best counted) × Quorum cfg message counted
+      × (highestNumber ≤ higher (boards.order cfg) best (tagAt message) .number)
   unfolding messageOf
   spent-on-quorum e =
-      let w : SpentBy key (element cfg) (decodedPairs cfg) cfg (clientNumber (x .me)) msg (phaseOf cfg (x .phase) kept es) =
-      subst Ends (ap (λ h. endedOf h board′) e) fits in
-      let p = asks-is cfg kept es (w .1) (w .2) (w .0) (x .phase) (w .3) in
+      let w = fits Spent e in
+      let p = asks-is cfg (l .kept) (l .elements) (x .phase) (w .0) (w .1) (w .2) (w .3) in
       (w .1, p .0, p .1, quorum-is (p .0) (w .2) (p .2) (w .4), w .5)
 
-  -- and a read as a write
-  pub read-on-quorum : (t : Tag) → r .ended ≡ Read t → (counted : ℕ) × (sent : ℕ) × (x .phase ≡ FinalisingRead t counted sent) × Quorum cfg message counted
+  -- and a read as a write, with at least k elements
+  pub read-on-quorum : (t : Tag) → r .ended ≡ Read t
+      → (counted sent : ℕ) × (x .phase ≡ FinalisingRead t counted sent) × Quorum cfg message counted × Elements cfg message sent
   read-on-quorum t e =
-      let w : ReadBy key (element cfg) (decodedPairs cfg) cfg (clientNumber (x .me)) msg t (phaseOf cfg (x .phase) kept es) =
-      subst Ends (ap (λ h. endedOf h board′) e) fits in
-      let p = reads-is cfg kept es t (w .0) (w .1) (x .phase) (w .2) in
-      (p .0, p .1, p .2, quorum-is (p .0) (w .0) (p .3) (w .3))
+      let w = fits (Read t) e in
+      let p = reads-is cfg (l .kept) (l .elements) (x .phase) t (w .0) (w .1) (w .2) in
+      (p .0, p .1, p .2, quorum-is (p .0) (w .0) (p .3) (w .3), elements-are (p .1) (w .1) (p .4) (w .4))
 
 -- ---- bytes that are not in use
 
--- two steps that answer alike: the number, what is sent, how the operation ended with the lent board, and the client
-pub record Alike (cfg : Config) (a b : Moved) (keptA keptB esA esB sendsA sendsB boardA boardB : List ℕ) : Type 0 where
-  pub number : verdictNumber (a .verdict) ≡ verdictNumber (b .verdict)
-  pub sent : a .sent ≡ b .sent
-  pub out : sendsA ≡ sendsB
-  pub ended : endedOf (a .ended) boardA ≡ endedOf (b .ended) boardB
-  pub lent : boardA ≡ boardB
-  pub client : view cfg (a .state) keptA esA ≡ view cfg (b .state) keptB esB
-
 -- "no answer's bytes depend on" places not in use: of one state, with boards kept and elements received that differ only there
-module _ (cfg : Config) (x : State) (message sends board keptA esA esA′ sendsA boardA keptB esB esB′ sendsB boardB : List ℕ) (a b : Moved)
-    (seen : view cfg x keptA esA ≡ view cfg x keptB esB) (kept-long : length keptA ≡ length keptB) (es-long : length esA ≡ length esB)
-    (postA : StepPost cfg (firstNo (stepQuestions cfg x message keptA esA sends board)) x message keptA esA esA′ sends sendsA board boardA a)
-    (postB : StepPost cfg (firstNo (stepQuestions cfg x message keptB esB sends board)) x message keptB esB esB′ sends sendsB board boardB b) where
-  first-one : firstNo (stepQuestions cfg x message keptA esA sends board) ≡ firstNo (stepQuestions cfg x message keptB esB sends board)
-  unfolding stepQuestions answerQuestions
-  first-one = λ i. firstNo
-      (questions cfg
-      ++ ask 6 (stepSized cfg (length message) (kept-long i) (es-long i) (length sends) (length board) && stateWithin cfg x)
-      ∷ ask 12 (wellFormed cfg message)
-      ∷ ask 16 (isFor x (messageOf cfg message))
-      ∷ ask 14 (protocol.awaited key (seen i) (messageOf cfg message))
-      ∷ [])
+module _ (cfg : Config) (x : State) (message : List ℕ) (la la′ lb lb′ : Lent) (a b : Moved) (same : seen cfg x la ≡ seen cfg x lb)
+    (kept-long : length (la .kept) ≡ length (lb .kept)) (es-long : length (la .elements) ≡ length (lb .elements)) (sends-one : la .sends ≡ lb .sends)
+    (board-one : la .board ≡ lb .board) (post-a : StepPost cfg x message la la′ a) (post-b : StepPost cfg x message lb lb′ b) where
+  first-one : firstNo (stepQuestions cfg x message la) ≡ firstNo (stepQuestions cfg x message lb)
+  first-one = λ i. firstNo (callQuestions cfg (stepSized cfg (length message) (kept-long i) (es-long i) (length (sends-one i)) (length (board-one i))) x
+      (answerQuestions cfg x message (boards.awaited cfg (same i) (messageOf cfg message))))
 
-  abbrev moveOf : ℕ → protocol.Client (List ℕ) (List ℕ) → protocol.Moved (List ℕ) (List ℕ)
-  moveOf refusal y =
-      unlessNo refusal y (protocol.clientStep key (element cfg) (decodedPairs cfg) cfg (clientNumber (x .me)) y (messageOf cfg message))
+  move-one : stepOf cfg x message la ≡ stepOf cfg x message lb
+  move-one = λ i. unlessNo (first-one i) (same i) (boards.clientStep cfg (clientNumber (x .me)) (same i) (messageOf cfg message))
 
-  move-one : moveOf (firstNo (stepQuestions cfg x message keptA esA sends board)) (view cfg x keptA esA)
-      ≡ moveOf (firstNo (stepQuestions cfg x message keptB esB sends board)) (view cfg x keptB esB)
-  move-one = λ i. moveOf (first-one i) (seen i)
-
-  pub step-alike : Alike cfg a b keptA keptB esA′ esB′ sendsA sendsB boardA boardB
+  pub step-alike : Alike cfg a b la′ lb′
   step-alike =
       record {
-        number = postA .answered .number ∙ first-one ∙ sym (postB .answered .number);
-        sent = postA .answered .count ∙ ap (λ y. length (y .sends)) move-one ∙ sym (postB .answered .count);
-        out = postA .answered .out ∙ ap (λ y. front (records cfg (y .sends)) sends) move-one ∙ sym (postB .answered .out);
-        ended = postA .ended ∙ ap (λ y. y .ended) move-one ∙ sym (postB .ended);
-        lent = postA .lent ∙ ap (λ y. shown (y .ended) board) move-one ∙ sym (postB .lent);
-        client = postA .answered .client ∙ ap (λ y. y .client) move-one ∙ sym (postB .answered .client);
+        number = post-a .answered .number ∙ first-one ∙ sym (post-b .answered .number);
+        sent = post-a .answered .count ∙ ap (λ (y : BoardMoved). length (y .sends)) move-one ∙ sym (post-b .answered .count);
+        out =
+            post-a .answered .out ∙ ap₂ (λ (y : BoardMoved) (s : List ℕ). front (recordsOf cfg (y .sends)) s) move-one sends-one ∙ sym (post-b .answered .out);
+        ended = post-a .ended ∙ ap (λ (y : BoardMoved). y .ended) move-one ∙ sym (post-b .ended);
+        lent = post-a .lent ∙ ap₂ (λ (y : BoardMoved) (l : List ℕ). shown (y .ended) l) move-one board-one ∙ sym (post-b .lent);
+        client = post-a .answered .client ∙ ap (λ (y : BoardMoved). y .client) move-one ∙ sym (post-b .answered .client);
       }

@@ -1,10 +1,7 @@
-pub mod Answer
 pub mod Calls
-pub mod Count
-pub mod Gather
-pub mod Place
 pub mod Questions
+pub mod Quorum
 pub mod Send
 pub mod Servers
-pub mod Settle
 pub mod State
+pub mod inner

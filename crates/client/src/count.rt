@@ -2,18 +2,15 @@
 use super::Phase;
 use super::State;
 use super::servers;
-use config::Config;
 use record::Header;
 use tag::Tag;
 ghost use mathlib.Core.Path.{_≡_};
-ghost use mathlib.Core.Bool.{true, _&&_};
+ghost use mathlib.Core.Bool.{_&&_};
 ghost use Prim.Native.Nat.{_<_};
 ghost use Rattle.config.specs.Number.{serverNumber};
-ghost use Rattle.protocol.specs.Number.{upd};
 ghost use Rattle.protocol.specs.Tags.{higher as higherOf};
 ghost use Rattle.tag.specs.Tag.{key, same};
-ghost use Rattle.client.specs.Servers.{member};
-ghost use Rattle.client.specs.Count.{Countable, PhaseCounted, StateCounted, firstOf};
+ghost use Rattle.client.specs.inner.Count.{awaitsOf, countOf, countingOf, firstOf};
 
 // What an answer is to a client.
 pub(crate) enum Awaited {
@@ -24,99 +21,40 @@ pub(crate) enum Awaited {
 }
 
 // The phase with an answer counted, if the client awaits it.
-pub(crate) fn count(cfg: Config, x: State, h: Header) -> Awaited
-    requires { ⌜ Countable cfg (x .phase) h ⌝ }
-    ensures { λ r. ⌜ StateCounted cfg x h r ⌝ }
+pub(crate) fn count(x: State, h: Header) -> Awaited
+    requires { ⌜ serverNumber (h .server) < 32 ⌝ }
+    ensures { λ r. ⌜ r ≡ countOf x h ⌝ }
 {
     if h.operation != x.operation {
         return Awaited::Other;
     }
     let phase = x.phase;
-    in_phase(cfg, phase, h)
+    if !awaits(phase, h) {
+        return Awaited::Other;
+    }
+    Awaited::Counted(counting(phase, h))
 }
 
-// The same of an answer of the client's operation.
-fn in_phase(cfg: Config, phase: Phase, h: Header) -> Awaited
-    requires { ⌜ Countable cfg phase h ⌝ }
-    ensures { λ r. ⌜ PhaseCounted cfg phase h r ⌝ }
+// Whether a phase awaits an answer: of its kind, of a server not counted yet and, for kinds 4, 6 and 8, of its tag.
+fn awaits(phase: Phase, h: Header) -> bool
+    requires { ⌜ serverNumber (h .server) < 32 ⌝ }
+    ensures { λ r. ⌜ r ≡ awaitsOf phase h ⌝ }
 {
     match phase {
-        Phase::Idle => Awaited::Other,
         Phase::Asking {
-            writes,
-            best,
+            writes: _,
+            best: _,
             counted,
-        } => asking(cfg, writes, best, counted, h),
-        Phase::PreWriting { tag, counted } => pre_writing(cfg, tag, counted, h),
-        Phase::FinalisingWrite { tag, counted } => finalising_write(cfg, tag, counted, h),
-        Phase::FinalisingRead { tag, counted, sent } => {
-            finalising_read(cfg, tag, counted, sent, h)
-        }
-        Phase::Down => Awaited::Other,
+        } => first(2, counted, h),
+        Phase::PreWriting { tag, counted } => first_of_tag(4, counted, tag, h),
+        Phase::FinalisingWrite { tag, counted } => first_of_tag(6, counted, tag, h),
+        Phase::FinalisingRead {
+            tag,
+            counted,
+            sent: _,
+        } => first_of_tag(8, counted, tag, h),
+        _ => false,
     }
-}
-
-// Asking: the highest tag is kept.
-fn asking(cfg: Config, writes: bool, best: Tag, counted: u32, h: Header) -> Awaited
-    requires { ⌜ Countable cfg (Phase.Asking writes best counted) h ⌝ }
-    ensures { λ r. ⌜ PhaseCounted cfg (Phase.Asking writes best counted) h r ⌝ }
-{
-    if !first(2, counted, h) {
-        return Awaited::Other;
-    }
-    let counted = with(counted, h);
-    let tag = h.tag;
-    Awaited::Counted(Phase::Asking {
-        writes,
-        best: higher(best, tag),
-        counted,
-    })
-}
-
-// The higher of two tags.
-fn higher(best: Tag, t: Tag) -> Tag
-    ensures { λ r. ⌜ r ≡ higherOf key best t ⌝ }
-{
-    if t.above(best) {
-        return t;
-    }
-    best
-}
-
-fn pre_writing(cfg: Config, tag: Tag, counted: u32, h: Header) -> Awaited
-    requires { ⌜ Countable cfg (Phase.PreWriting tag counted) h ⌝ }
-    ensures { λ r. ⌜ PhaseCounted cfg (Phase.PreWriting tag counted) h r ⌝ }
-{
-    if !first_of_tag(4, counted, tag, h) {
-        return Awaited::Other;
-    }
-    let counted = with(counted, h);
-    Awaited::Counted(Phase::PreWriting { tag, counted })
-}
-
-fn finalising_write(cfg: Config, tag: Tag, counted: u32, h: Header) -> Awaited
-    requires { ⌜ Countable cfg (Phase.FinalisingWrite tag counted) h ⌝ }
-    ensures { λ r. ⌜ PhaseCounted cfg (Phase.FinalisingWrite tag counted) h r ⌝ }
-{
-    if !first_of_tag(6, counted, tag, h) {
-        return Awaited::Other;
-    }
-    let counted = with(counted, h);
-    Awaited::Counted(Phase::FinalisingWrite { tag, counted })
-}
-
-// Finalising a read: whether the server sent an element is kept.
-fn finalising_read(cfg: Config, tag: Tag, counted: u32, sent: u32, h: Header) -> Awaited
-    requires { ⌜ Countable cfg (Phase.FinalisingRead tag counted sent) h ⌝ }
-    ensures { λ r. ⌜ PhaseCounted cfg (Phase.FinalisingRead tag counted sent) h r ⌝ }
-{
-    if !first_of_tag(8, counted, tag, h) {
-        return Awaited::Other;
-    }
-    let server = h.server;
-    let counted = with(counted, h);
-    let sent = servers::put(sent, server.number(), h.present);
-    Awaited::Counted(Phase::FinalisingRead { tag, counted, sent })
 }
 
 // Whether the answer is of a kind, and the first of its server.
@@ -144,11 +82,49 @@ fn first_of_tag(kind: u8, counted: u32, tag: Tag, h: Header) -> bool
     t.same(tag)
 }
 
-// The servers counted with that of the answer.
-fn with(counted: u32, h: Header) -> u32
+// The phase with the answer counted: the highest tag is kept while asking, whether the server sent an element while finalising a read.
+fn counting(phase: Phase, h: Header) -> Phase
     requires { ⌜ serverNumber (h .server) < 32 ⌝ }
-    ensures { λ r. ⌜ member r ≡ upd (member counted) (serverNumber (h .server)) true ⌝ }
+    ensures { λ r. ⌜ r ≡ countingOf phase h ⌝ }
 {
     let server = h.server;
-    servers::put(counted, server.number(), true)
+    let s = server.number();
+    match phase {
+        Phase::Asking {
+            writes,
+            best,
+            counted,
+        } => {
+            let tag = h.tag;
+            Phase::Asking {
+                writes,
+                best: higher(best, tag),
+                counted: servers::put(counted, s, true),
+            }
+        }
+        Phase::PreWriting { tag, counted } => Phase::PreWriting {
+            tag,
+            counted: servers::put(counted, s, true),
+        },
+        Phase::FinalisingWrite { tag, counted } => Phase::FinalisingWrite {
+            tag,
+            counted: servers::put(counted, s, true),
+        },
+        Phase::FinalisingRead { tag, counted, sent } => Phase::FinalisingRead {
+            tag,
+            counted: servers::put(counted, s, true),
+            sent: servers::put(sent, s, h.present),
+        },
+        _ => phase,
+    }
+}
+
+// The higher of two tags.
+fn higher(best: Tag, t: Tag) -> Tag
+    ensures { λ r. ⌜ r ≡ higherOf key best t ⌝ }
+{
+    if t.above(best) {
+        return t;
+    }
+    best
 }

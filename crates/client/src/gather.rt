@@ -2,18 +2,12 @@
 use super::place::place;
 use super::servers;
 use config::Config;
-ghost use Rattle.client.specs.Gather.{Gathered, Gathers, PickPost, Picks, lowest};
+ghost use Rattle.client.specs.inner.Gather.{GatherPost, GatherPre, PickPost, PickPre, lowest};
 
-// Gathers the numbers and the elements of the k lowest servers that sent one, and returns how many there are.
-pub(crate) fn gather(
-    cfg: Config,
-    sent: u32,
-    elements: &[u8],
-    numbers: &mut [u8],
-    packed: &mut [u8],
-) -> usize
-    requires { ⌜ Gathers cfg sent (now elements) (now numbers) (now packed) ⌝ }
-    ensures { λ r. ⌜ Gathered cfg (lowest cfg (now (elements .entry)) sent (cfg .n)) (now (numbers .entry)) (now (numbers .exit)) (now (packed .entry)) (now (packed .exit)) r ⌝ }
+// Gathers the numbers and the elements of the k lowest servers that sent one.
+pub(crate) fn gather(cfg: Config, sent: u32, elements: &[u8], numbers: &mut [u8], packed: &mut [u8])
+    requires { ⌜ GatherPre cfg sent (now elements) (now numbers) (now packed) ⌝ }
+    ensures { λ _. ⌜ GatherPost cfg (lowest cfg (now (elements .entry)) sent (cfg .n)) (now (numbers .entry)) (now (numbers .exit)) (now (packed .entry)) (now (packed .exit)) (cfg .k) ⌝ }
 {
     let mut found = 0;
     let mut s = 0;
@@ -21,7 +15,6 @@ pub(crate) fn gather(
         s += 1;
         found = pick(cfg, sent, s, found, elements, numbers, packed);
     }
-    found
 }
 
 // Puts the element of server s at a place, if it sent one and fewer than k are found.
@@ -34,7 +27,7 @@ fn pick(
     numbers: &mut [u8],
     packed: &mut [u8],
 ) -> usize
-    requires { ⌜ Picks cfg sent s found (now elements) (now numbers) (now packed) ⌝ }
+    requires { ⌜ PickPre cfg sent s found (now elements) (now numbers) (now packed) ⌝ }
     ensures { λ r. ⌜ PickPost cfg sent s found (now (elements .entry)) (now (numbers .entry)) (now (numbers .exit)) (now (packed .entry)) (now (packed .exit)) r ⌝ }
 {
     if cfg.k <= found {

@@ -2,21 +2,30 @@
 // host. Every function is proved, nothing is assumed, and no public function has a `requires`.
 use config::Client;
 use config::Config;
+use config::NewClient;
 use config::Refusal;
 use config::Verdict;
+use count::Awaited;
+use outcome::accepted;
+use outcome::begun;
+use outcome::in_phase;
+use outcome::refused;
+use questions::Asked;
+use questions::Sizes;
 use tag::Tag;
 ghost use mathlib.Core.List.{List};
 ghost use mathlib.Core.Path.{_≡_};
 ghost use mathlib.Core.Option.{none, some};
 ghost use Prim.Native.Nat.{ℕ};
 ghost use Rattle.config.specs.Questions.{firstNo};
-ghost use Rattle.client.specs.Calls.{BeginPost, FreshPost, Held, StepPost};
-ghost use Rattle.client.specs.Questions.{beginReadQuestions, beginWriteQuestions, stepQuestions, stateQuestions};
+ghost use Rattle.client.specs.Calls.{BeginPost, CrashPost, FreshPost, StepPost};
+ghost use Rattle.client.specs.State.{lent};
+ghost use Rattle.client.specs.Questions.{askBeginQuestions, beginReadQuestions, beginWriteQuestions, stateQuestions};
 
-mod answer;
-mod begin;
 mod count;
 mod gather;
+mod next;
+mod outcome;
 mod place;
 mod questions;
 mod send;
@@ -93,23 +102,32 @@ pub fn ask(cfg: Config, state: State) -> u8
     0
 }
 
+// The same and, of a client that is to begin, 9, 10 and 11.
+pub fn ask_begin(cfg: Config, state: State) -> u8
+    ensures { λ r. ⌜ r ≡ firstNo (askBeginQuestions cfg state) ⌝ }
+{
+    let no = ask(cfg, state);
+    if no != 0 {
+        return no;
+    }
+    questions::idle(state)
+}
+
 // A fresh client is idle, its operation number 0: questions 1 to 5, and 8, whether the client exists.
 pub fn fresh(cfg: Config, me: Client) -> NewState
     ensures { λ r. ⌜ FreshPost cfg me r ⌝ }
 {
-    let no = cfg.ask();
-    if no != 0 {
-        return NewState::No(Refusal::of(no));
+    match Client::new(cfg, me.number()) {
+        NewClient::No(why) => NewState::No(why),
+        NewClient::Made(_me) => {
+            let state = State {
+                me,
+                operation: 0,
+                phase: Phase::Idle,
+            };
+            NewState::Made(state)
+        }
     }
-    if !questions::own(cfg, me) {
-        return NewState::No(Refusal::Missing);
-    }
-    let state = State {
-        me,
-        operation: 0,
-        phase: Phase::Idle,
-    };
-    NewState::Made(state)
 }
 
 // Begins to write a board, which the client keeps: questions 1 to 6, 9, 10 and 11.
@@ -124,10 +142,10 @@ pub fn begin_write(
 {
     let no = questions::begin_write(cfg, state, board.len(), kept.len(), sends.len());
     if no != 0 {
-        return held(state, no);
+        return refused(state, no);
     }
     bytes::copy(board, kept);
-    begin::begin(cfg, state, true, board, sends)
+    send::announce(cfg, begun(state, true), board, sends)
 }
 
 // Begins to read: questions 1 to 6, 9, 10 and 11.
@@ -136,10 +154,10 @@ pub fn begin_read(cfg: Config, state: State, sends: &mut [u8]) -> Moved
 {
     let no = questions::begin_read(cfg, state, sends.len());
     if no != 0 {
-        return held(state, no);
+        return refused(state, no);
     }
     let nothing = [0u8; 1];
-    begin::begin(cfg, state, false, &nothing, sends)
+    send::announce(cfg, begun(state, false), &nothing, sends)
 }
 
 // The step on a record: questions 1 to 6, 12, 16 and 14. The answer is counted, and the client goes on if it has enough.
@@ -152,31 +170,38 @@ pub fn step(
     sends: &mut [u8],
     board: &mut [u8],
 ) -> Moved
-    ensures { λ r. ⌜ StepPost cfg (firstNo (stepQuestions cfg state (now (message .entry)) (now (kept .entry)) (now (elements .entry)) (now (sends .entry)) (now (board .entry)))) state (now (message .entry)) (now (kept .entry)) (now (elements .entry)) (now (elements .exit)) (now (sends .entry)) (now (sends .exit)) (now (board .entry)) (now (board .exit)) r ⌝ }
+    ensures { λ r. ⌜ StepPost cfg state (now (message .entry)) (lent (now (kept .entry)) (now (elements .entry)) (now (sends .entry)) (now (board .entry))) (lent (now (kept .entry)) (now (elements .exit)) (now (sends .exit)) (now (board .exit))) r ⌝ }
 {
-    let no = questions::step(
-        cfg,
-        state,
-        message.len(),
-        kept.len(),
-        elements.len(),
-        sends.len(),
-        board.len(),
-    );
-    if no != 0 {
-        return held(state, no);
+    let sizes = Sizes {
+        kept: kept.len(),
+        elements: elements.len(),
+        sends: sends.len(),
+        board: board.len(),
+    };
+    let asked = questions::receive(cfg, state, message, sizes);
+    match asked {
+        Asked::No(no) => refused(state, no),
+        Asked::Answer(h) => {
+            let Awaited::Counted(phase) = count::count(state, h) else {
+                return refused(state, 14);
+            };
+            place::take(cfg, h, message, elements);
+            settle::settle(cfg, in_phase(state, phase), kept, elements, sends, board)
+        }
     }
-    answer::hear(cfg, state, message, kept, elements, sends, board)
 }
 
-// A client that is as it was, with the refusal of a number: nothing is sent and nothing ends.
-pub(crate) fn held(x: State, no: u8) -> Moved
-    ensures { λ r. ⌜ Held x no r ⌝ }
+// Crashes a client: questions 1 to 6, and 9.
+pub fn crash(cfg: Config, state: State) -> Moved
+    ensures { λ r. ⌜ CrashPost cfg state r ⌝ }
 {
-    Moved {
-        verdict: Verdict::of(no),
-        state: x,
-        sent: 0,
-        ended: Ended::Nothing,
+    let no = ask(cfg, state);
+    if no != 0 {
+        return refused(state, no);
     }
+    let phase = state.phase;
+    let Phase::Down = phase else {
+        return accepted(in_phase(state, Phase::Down), 0, Ended::Nothing);
+    };
+    refused(state, 9)
 }

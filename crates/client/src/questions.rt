@@ -1,114 +1,113 @@
 // The questions of a client's calls.
 use super::Phase;
 use super::State;
+use super::ask;
 use super::servers;
-use config::Client;
 use config::Config;
+use config::RECORD;
 use record::Header;
+use record::Reading;
 use tag::Tag;
 ghost use mathlib.Core.Path.{_≡_};
 ghost use mathlib.Core.Bool.{_&&_};
-ghost use mathlib.Core.List.{_∷_};
 ghost use lib.Dec.{eqb};
+ghost use Rattle.config.specs.declared.Config.{Config};
 ghost use Rattle.config.specs.Config.{Valid};
 ghost use Rattle.config.specs.Number.{clientNumber};
-ghost use Rattle.config.specs.Questions.{ask, firstNo, within as inside};
-ghost use Rattle.client.specs.State.{phaseWithin, stateWithin, tagWithin};
-ghost use Rattle.client.specs.Questions.{beginQuestions, idleQuestions, isAnswer, isSends, shapeQuestions, stepSized, writeSized};
+ghost use Rattle.config.specs.Questions.{firstNo};
+ghost use Rattle.record.specs.Kinds.{isForClient};
+ghost use Rattle.protocol.specs.Client.{beginQuestions};
+ghost use Rattle.client.specs.State.{bare, phaseWithin, stateWithin, tagWithin};
+ghost use Rattle.client.specs.Questions.{callQuestions, isSends, writeSized};
+ghost use Rattle.client.specs.inner.Questions.{ReceivePost, sized};
+
+// The lengths of the buffers that a step is lent.
+pub(crate) struct Sizes {
+    pub kept: usize,
+    pub elements: usize,
+    pub sends: usize,
+    pub board: usize,
+}
+
+// What the first questions of a step tell.
+pub(crate) enum Asked {
+    // The number of the first that is answered no.
+    No(u8),
+    // The header of an answer for this client.
+    Answer(Header),
+}
 
 // Questions 1 to 6, 9, 10 and 11 of begin write: the number of the first that is answered no, or 0.
 pub(crate) fn begin_write(cfg: Config, x: State, board: usize, kept: usize, sends: usize) -> u8
-    ensures { λ r. ⌜ r ≡ firstNo (beginQuestions cfg (writeSized cfg board kept sends) x) ⌝ }
+    ensures { λ r. ⌜ r ≡ firstNo (callQuestions cfg (writeSized cfg board kept sends) x (beginQuestions (bare cfg x))) ⌝ }
 {
-    let no = cfg.ask();
+    let no = ask(cfg, x);
     if no != 0 {
         return no;
     }
-    let sized = write_sized(cfg, board, kept, sends);
-    begin(cfg, x, sized)
-}
-
-// The same of begin read.
-pub(crate) fn begin_read(cfg: Config, x: State, sends: usize) -> u8
-    ensures { λ r. ⌜ r ≡ firstNo (beginQuestions cfg (isSends cfg sends) x) ⌝ }
-{
-    let no = cfg.ask();
-    if no != 0 {
-        return no;
-    }
-    let sized = sends == 80 * cfg.n;
-    begin(cfg, x, sized)
-}
-
-// Questions 6, 9, 10 and 11.
-fn begin(cfg: Config, x: State, sized: bool) -> u8
-    requires { ⌜ Valid cfg ⌝ }
-    ensures { λ r. ⌜ r ≡ firstNo (ask 6 (sized && stateWithin cfg x) ∷ idleQuestions x) ⌝ }
-{
-    if !sized {
-        return 6;
-    }
-    if !within(cfg, x) {
+    if !write_sized(cfg, board, kept, sends) {
         return 6;
     }
     idle(x)
 }
 
-// Questions 1 to 6 of a step.
-pub(crate) fn step(
-    cfg: Config,
-    x: State,
-    message: usize,
-    kept: usize,
-    elements: usize,
-    sends: usize,
-    board: usize,
-) -> u8
-    ensures { λ r. ⌜ r ≡ firstNo (shapeQuestions cfg (stepSized cfg message kept elements sends board) x) ⌝ }
+// The same of begin read.
+pub(crate) fn begin_read(cfg: Config, x: State, sends: usize) -> u8
+    ensures { λ r. ⌜ r ≡ firstNo (callQuestions cfg (isSends cfg sends) x (beginQuestions (bare cfg x))) ⌝ }
 {
-    let no = cfg.ask();
+    let no = ask(cfg, x);
     if no != 0 {
         return no;
     }
-    if !step_sized(cfg, message, kept, elements, sends, board) {
+    if sends != RECORD * cfg.n {
         return 6;
     }
-    if !within(cfg, x) {
-        return 6;
-    }
-    0
+    idle(x)
 }
 
-fn step_sized(
-    cfg: Config,
-    message: usize,
-    kept: usize,
-    elements: usize,
-    sends: usize,
-    board: usize,
-) -> bool
+// Questions 1 to 6, 12 and 16 of a step.
+pub(crate) fn receive(cfg: Config, x: State, message: &[u8], sizes: Sizes) -> Asked
+    ensures { λ r. ⌜ ReceivePost cfg x (now (message .entry)) sizes r ⌝ }
+{
+    let no = ask(cfg, x);
+    if no != 0 {
+        return Asked::No(no);
+    }
+    if !step_sized(cfg, message.len(), sizes) {
+        return Asked::No(6);
+    }
+    let Reading::Message(h) = record::read(cfg, message) else {
+        return Asked::No(12);
+    };
+    if !is_for(x, h) {
+        return Asked::No(16);
+    }
+    Asked::Answer(h)
+}
+
+fn step_sized(cfg: Config, message: usize, sizes: Sizes) -> bool
     requires { ⌜ Valid cfg ⌝ }
-    ensures { λ r. ⌜ r ≡ stepSized cfg message kept elements sends board ⌝ }
+    ensures { λ r. ⌜ r ≡ sized cfg message sizes ⌝ }
 {
     let v = cfg.k * cfg.e;
-    if message != 80 {
+    if message != RECORD {
         return false;
     }
-    if kept != v {
+    if sizes.kept != v {
         return false;
     }
-    if elements != cfg.n * cfg.e {
+    if sizes.elements != cfg.n * cfg.e {
         return false;
     }
-    if sends != 80 * cfg.n {
+    if sizes.sends != RECORD * cfg.n {
         return false;
     }
-    board == v
+    sizes.board == v
 }
 
 // Question 16: whether a record is for this client, in a kind that it receives.
-pub(crate) fn is_for(x: State, h: Header) -> bool
-    ensures { λ r. ⌜ r ≡ (eqb (clientNumber (h .client)) (clientNumber (x .me)) && isAnswer (h .kind)) ⌝ }
+fn is_for(x: State, h: Header) -> bool
+    ensures { λ r. ⌜ r ≡ (eqb (clientNumber (h .client)) (clientNumber (x .me)) && isForClient (h .kind)) ⌝ }
 {
     let me = x.me;
     let client = h.client;
@@ -130,7 +129,7 @@ fn write_sized(cfg: Config, board: usize, kept: usize, sends: usize) -> bool
     if kept != v {
         return false;
     }
-    sends == 80 * cfg.n
+    sends == RECORD * cfg.n
 }
 
 // Whether the numbers of a state are within their limits: part of question 6.
@@ -139,22 +138,11 @@ pub(crate) fn within(cfg: Config, x: State) -> bool
     ensures { λ r. ⌜ r ≡ stateWithin cfg x ⌝ }
 {
     let me = x.me;
-    if !own(cfg, me) {
+    if !cfg.client_exists(me.number() as usize) {
         return false;
     }
     let phase = x.phase;
     phase_within(cfg, phase)
-}
-
-// Whether a client's number is 1 to C.
-pub(crate) fn own(cfg: Config, me: Client) -> bool
-    ensures { λ r. ⌜ r ≡ inside 1 (cfg .c) (clientNumber me) ⌝ }
-{
-    let c = me.number() as usize;
-    if c < 1 {
-        return false;
-    }
-    c <= cfg.c
 }
 
 fn phase_within(cfg: Config, phase: Phase) -> bool
@@ -162,7 +150,6 @@ fn phase_within(cfg: Config, phase: Phase) -> bool
     ensures { λ r. ⌜ r ≡ phaseWithin cfg phase ⌝ }
 {
     match phase {
-        Phase::Idle => true,
         Phase::Asking {
             writes: _,
             best,
@@ -176,7 +163,7 @@ fn phase_within(cfg: Config, phase: Phase) -> bool
             }
             servers::within(cfg.n, sent)
         }
-        Phase::Down => true,
+        _ => true,
     }
 }
 
@@ -192,7 +179,7 @@ fn tag_within(cfg: Config, tag: Tag, counted: u32) -> bool
 
 // Questions 9, 10 and 11: the number of the first that is answered no, or 0.
 pub(crate) fn idle(x: State) -> u8
-    ensures { λ r. ⌜ r ≡ firstNo (idleQuestions x) ⌝ }
+    ensures { λ r. ⌜ ((cfg : Config) → r ≡ firstNo (beginQuestions (bare cfg x))) ⌝ }
 {
     let phase = x.phase;
     match phase {
@@ -203,17 +190,6 @@ pub(crate) fn idle(x: State) -> u8
             11
         }
         Phase::Down => 9,
-        Phase::Asking {
-            writes: _,
-            best: _,
-            counted: _,
-        } => 10,
-        Phase::PreWriting { tag: _, counted: _ } => 10,
-        Phase::FinalisingWrite { tag: _, counted: _ } => 10,
-        Phase::FinalisingRead {
-            tag: _,
-            counted: _,
-            sent: _,
-        } => 10,
+        _ => 10,
     }
 }

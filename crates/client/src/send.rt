@@ -1,17 +1,24 @@
-// What a client sends: a letter to each server, as a record.
+// What a client sends: a message to each server, as a record.
+use super::Ended;
+use super::Moved;
+use super::Phase;
+use super::State;
+use super::outcome::accepted;
 use config::Client;
 use config::Config;
 use config::NewServer;
+use config::RECORD;
 use config::Server;
 use record::Header;
 use record::Kind;
 use tag::Tag;
 ghost use mathlib.Core.Path.{_≡_};
 ghost use Rattle.record.specs.Record.{recordOf};
-ghost use Rattle.client.specs.Send.{Filled, Sends, SendsOne, addressed, letters, messageTo, records};
+ghost use Rattle.client.specs.Send.{recordsOf};
+ghost use Rattle.client.specs.inner.Send.{AddressPre, AnnouncePost, AnnouncePre, FillPost, ToEachPre, ToOnePre, addressed, broadcast, broadcastOf, messageTo, openingOf};
 
 // What goes to each server alike, and whether each gets its element of a board.
-pub(crate) struct Letter {
+pub(crate) struct Broadcast {
     pub kind: Kind,
     pub me: Client,
     pub operation: u32,
@@ -19,59 +26,102 @@ pub(crate) struct Letter {
     pub element: bool,
 }
 
-// Sends a letter to each server, 1 to N, in that order.
-pub(crate) fn to_each(cfg: Config, letter: Letter, board: &[u8], sends: &mut [u8])
-    requires { ⌜ Sends cfg letter (now board) (now sends) ⌝ }
-    ensures { λ _. ⌜ now (sends .exit) ≡ records cfg (letters cfg letter (now (board .entry))) ⌝ }
+// A phase begins: its messages go to the servers.
+pub(crate) fn announce(cfg: Config, x: State, board: &[u8], sends: &mut [u8]) -> Moved
+    requires { ⌜ AnnouncePre cfg x (now board) (now sends) ⌝ }
+    ensures { λ r. ⌜ AnnouncePost cfg x (now (board .entry)) (now (sends .entry)) (now (sends .exit)) r ⌝ }
 {
-    let mut s = 0;
-    while s < cfg.n {
-        let at = 80 * s;
-        let end = at + 80;
-        s += 1;
-        to_one(cfg, letter, s as u8, board, &mut sends[at..end]);
+    to_each(cfg, opening(x), board, sends);
+    accepted(x, cfg.n, Ended::Nothing)
+}
+
+// The message that a phase begins with; asking begins with a query. Idle and down begin with none: what is given for them is not sent.
+fn opening(x: State) -> Broadcast
+    ensures { λ r. ⌜ r ≡ openingOf x (x .phase) ⌝ }
+{
+    let start = Tag {
+        number: 0,
+        client: 0,
+    };
+    let phase = x.phase;
+    match phase {
+        Phase::PreWriting { tag, counted: _ } => message(x, Kind::PreWrite, tag, true),
+        Phase::FinalisingWrite { tag, counted: _ } => message(x, Kind::WriteFinalise, tag, false),
+        Phase::FinalisingRead {
+            tag,
+            counted: _,
+            sent: _,
+        } => message(x, Kind::ReadFinalise, tag, false),
+        _ => message(x, Kind::Query, start, false),
     }
 }
 
-// Writes the record of a letter to server s.
-fn to_one(cfg: Config, letter: Letter, s: u8, board: &[u8], buffer: &mut [u8])
-    requires { ⌜ SendsOne cfg letter s (now board) (now buffer) ⌝ }
-    ensures { λ _. ⌜ now (buffer .exit) ≡ recordOf cfg (messageTo cfg letter (now (board .entry)) s) ⌝ }
+fn message(x: State, kind: Kind, tag: Tag, element: bool) -> Broadcast
+    ensures { λ r. ⌜ r ≡ broadcastOf x kind tag element ⌝ }
 {
-    fill(cfg, letter, s, board, buffer);
-    address(cfg, letter, s, board, buffer);
+    let me = x.me;
+    Broadcast {
+        kind,
+        me,
+        operation: x.operation,
+        tag,
+        element,
+    }
 }
 
-// Puts the element of server s, if the letter has one, into its record.
-fn fill(cfg: Config, letter: Letter, s: u8, board: &[u8], buffer: &mut [u8])
-    requires { ⌜ SendsOne cfg letter s (now board) (now buffer) ⌝ }
-    ensures { λ _. ⌜ Filled cfg letter s (now (board .entry)) (now (buffer .exit)) ⌝ }
+// Sends a message to each server, 1 to N, in that order.
+fn to_each(cfg: Config, b: Broadcast, board: &[u8], sends: &mut [u8])
+    requires { ⌜ ToEachPre cfg b (now board) (now sends) ⌝ }
+    ensures { λ _. ⌜ now (sends .exit) ≡ recordsOf cfg (broadcast cfg b (now (board .entry))) ⌝ }
 {
-    if !letter.element {
+    let mut s = 0;
+    while s < cfg.n {
+        let at = RECORD * s;
+        let end = at + RECORD;
+        s += 1;
+        to_one(cfg, b, s as u8, board, &mut sends[at..end]);
+    }
+}
+
+// Writes the record of a message to server s.
+fn to_one(cfg: Config, b: Broadcast, s: u8, board: &[u8], buffer: &mut [u8])
+    requires { ⌜ ToOnePre cfg b s (now board) (now buffer) ⌝ }
+    ensures { λ _. ⌜ now (buffer .exit) ≡ recordOf cfg (messageTo cfg b (now (board .entry)) s) ⌝ }
+{
+    fill(cfg, b, s, board, buffer);
+    address(cfg, b, s, buffer);
+}
+
+// Puts the element of server s, if the message has one, into its record.
+fn fill(cfg: Config, b: Broadcast, s: u8, board: &[u8], buffer: &mut [u8])
+    requires { ⌜ ToOnePre cfg b s (now board) (now buffer) ⌝ }
+    ensures { λ _. ⌜ FillPost cfg b s (now (board .entry)) (now (buffer .exit)) ⌝ }
+{
+    if !b.element {
         return;
     }
     let end = 16 + cfg.e;
     code::encode(cfg, board, s, &mut buffer[16..end]);
 }
 
-// Writes the record of a letter to server s, all but the element.
-fn address(cfg: Config, letter: Letter, s: u8, board: &[u8], buffer: &mut [u8])
-    requires { ⌜ SendsOne cfg letter s (now board) (now buffer) ⌝ }
-    ensures { λ _. ⌜ now (buffer .exit) ≡ recordOf cfg (addressed cfg letter s (now (buffer .entry))) ⌝ }
+// Writes the record of a message to server s, all but the element.
+fn address(cfg: Config, b: Broadcast, s: u8, buffer: &mut [u8])
+    requires { ⌜ AddressPre cfg b s (now buffer) ⌝ }
+    ensures { λ _. ⌜ now (buffer .exit) ≡ recordOf cfg (addressed cfg b s (now (buffer .entry))) ⌝ }
 {
     let NewServer::Made(server) = Server::new(cfg, s) else {
         return;
     };
-    let kind = letter.kind;
-    let client = letter.me;
-    let tag = letter.tag;
+    let kind = b.kind;
+    let client = b.me;
+    let tag = b.tag;
     let h = Header {
         kind,
         client,
         server,
-        operation: letter.operation,
+        operation: b.operation,
         tag,
-        present: letter.element,
+        present: b.element,
     };
     record::write(cfg, h, buffer);
 }

@@ -1,8 +1,8 @@
 // A set of servers as the bits of a number: bit s is server s.
 ghost use mathlib.Core.Path.{_≡_};
 ghost use Prim.Native.Nat.{_<_};
-ghost use Rattle.protocol.specs.Number.{upd};
 ghost use Rattle.client.specs.Servers.{member, withinServers};
+ghost use Rattle.client.specs.inner.Count.{putOf};
 ghost use lib.Count.{ones};
 
 // Whether server s is in the set.
@@ -16,7 +16,7 @@ pub(crate) fn has(set: u32, s: u8) -> bool
 // The set with server s in it or out of it, as told.
 pub(crate) fn put(set: u32, s: u8, there: bool) -> u32
     requires { ⌜ s < 32 ⌝ }
-    ensures { λ r. ⌜ member r ≡ upd (member set) s there ⌝ }
+    ensures { λ r. ⌜ r ≡ putOf set s there ⌝ }
 {
     let bit: u32 = 1 << s;
     if has(set, s) {

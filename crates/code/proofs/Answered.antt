@@ -7,6 +7,7 @@ use native.Mathlib.Omega.{arith}
 use borrow.Author.Tests.{eq-eqb, ne-eqb}
 use lib.Dec.{eqb}
 use Rattle.config.specs.declared.Verdict.{Verdict}
+use Rattle.config.specs.Questions.{lastQuestion}
 use Rattle.config.specs.Refusal.{verdictNumber}
 
 -- r is the answer, and the buffer holds `result` where it is 0 and what it held elsewhere
@@ -14,7 +15,7 @@ abbrev pub Answered : ℕ → List ℕ → List ℕ → List ℕ → Verdict →
 Answered answer result before after r = (verdictNumber r ≡ answer) × (after ≡ cond (eqb answer 0) result before)
 
 module _ (answer : ℕ) (result before : List ℕ) where
-  pub refused : answer ≤ 18 → (got : ℕ) (r : Verdict) → got ≡ answer → (got ≡ 0 → ⊥) → verdictNumber r ≡ min got 18
+  pub refused : answer ≤ lastQuestion → (got : ℕ) (r : Verdict) → got ≡ answer → (got ≡ 0 → ⊥) → verdictNumber r ≡ min got lastQuestion
       → Answered answer result before before r
   refused high got r e some n =
       (omega arith, sym (ap (λ b. cond b result before) (ne-eqb answer 0 (λ z. some (e ∙ z)))))

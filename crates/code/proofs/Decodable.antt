@@ -1,21 +1,22 @@
 -- The questions of `decode`: which is the first no, and what is known where there is none.
 use Prim.Native.Nat.{ℕ, _*_, _<_, _≤_}
-use mathlib.Core.Path.{_≡_, refl, sym, ap, _∙_}
+use mathlib.Core.Path.{_≡_, refl, sym, _∙_}
 use mathlib.Core.Bool.{Bool, true, false, _&&_}
-use mathlib.Core.List.{List, [], _∷_, _++_}
+use mathlib.Core.List.{_++_, List, [], _∷_}
 use native.Mathlib.Omega.{arith}
 use borrow.Author.Tests.{eq-eqb, ne-eqb, eqb-true, le-leb, lt-leb, leb-true}
 use lib.Dec.{eqb, leb}
 use lib.ListN.{length}
 use Rattle.laws.proofs.Bools.{and-left, and-right}
 use Rattle.config.specs.declared.Config.{Config}
-use Rattle.config.specs.Config.{questions, boardLength, Valid}
-use Rattle.config.specs.Questions.{Question, ask, firstNo, numbered}
-use Rattle.config.proofs.Questions.{firstNo-yes, firstNo-no, within-low, within-high, within-true}
+use Rattle.config.specs.Config.{questions, boardLength}
+use Rattle.config.specs.Questions.{ask, firstNo, lastQuestion, numbered}
+use Rattle.config.proofs.Questions.{early, firstNo-high, firstNo-pass, none-first, numbered-both, questions-numbered, firstNo-yes, firstNo-no}
 use Rattle.config.proofs.Valid.{valid}
-use Rattle.code.specs.Decode.{decodeQuestions, Decodable}
+use Rattle.code.specs.Decode.{decodeQuestions}
+use Rattle.code.specs.inner.Calls.{DecodePre}
 use Rattle.code.specs.Decoded.{rising}
-use Rattle.code.proofs.Asked.{left-no, right-no, both-yes, passed, stopped, none-of, all-high}
+use Rattle.code.proofs.Asked.{left-no, right-no, both-yes}
 
 all-yes : (a b c : Bool) → firstNo (ask 6 a ∷ ask 17 b ∷ ask 18 c ∷ []) ≡ 0 → (a ≡ true) × (b ≡ true) × (c ≡ true)
 unfolding firstNo
@@ -42,16 +43,16 @@ module _ (cfg : Config) (servers : List ℕ) (elements buffer : ℕ) where
 
   pub refused : (got : ℕ) → got ≡ firstNo (questions cfg) → (got ≡ 0 → ⊥) → got ≡ answer
   unfolding decodeQuestions
-  refused = stopped cfg (ask 6 shape ∷ ask 17 up ∷ ask 18 many ∷ [])
+  refused got e some = early cfg e some (ask 6 shape ∷ ask 17 up ∷ ask 18 many ∷ [])
 
   passes : firstNo (questions cfg) ≡ 0 → answer ≡ firstNo (ask 6 shape ∷ ask 17 up ∷ ask 18 many ∷ [])
   unfolding decodeQuestions
-  passes = passed cfg (ask 6 shape ∷ ask 17 up ∷ ask 18 many ∷ [])
+  passes = firstNo-pass (questions cfg) (ask 6 shape ∷ ask 17 up ∷ ask 18 many ∷ []) (questions-numbered cfg)
 
-  pub decodable : answer ≡ 0 → Decodable cfg servers elements buffer
+  pub decodable : answer ≡ 0 → DecodePre cfg servers elements buffer
   unfolding decodeQuestions
   decodable h =
-      let none : firstNo (questions cfg) ≡ 0 = none-of cfg (ask 6 shape ∷ ask 17 up ∷ ask 18 many ∷ []) h in
+      let none : firstNo (questions cfg) ≡ 0 = none-first (questions cfg) (ask 6 shape ∷ ask 17 up ∷ ask 18 many ∷ []) h in
       let y = all-yes shape up many (sym (passes none) ∙ h) in
       record {
         valid = valid cfg none;
@@ -61,9 +62,10 @@ module _ (cfg : Config) (servers : List ℕ) (elements buffer : ℕ) where
         enough = leb-true (cfg .k) (length servers) (y .2);
       }
 
-  pub answer-high : answer ≤ 18
+  pub answer-high : answer ≤ lastQuestion
   unfolding decodeQuestions numbered
-  answer-high = all-high cfg (ask 6 shape ∷ ask 17 up ∷ ask 18 many ∷ []) refl
+  answer-high = firstNo-high (questions cfg ++ ask 6 shape ∷ ask 17 up ∷ ask 18 many ∷ [])
+      (numbered-both (questions cfg) (ask 6 shape ∷ ask 17 up ∷ ask 18 many ∷ []) (questions-numbered cfg) refl)
 
   module _ (none : firstNo (questions cfg) ≡ 0) where
     misshaped : shape ≡ false → 6 ≡ answer

@@ -6,58 +6,57 @@ use mathlib.Core.List.{List, [], _∷_, map}
 use native.Mathlib.Omega.{arith}
 use native.Mathlib.Nat.{div-lt-iff-lt-mul, div-add-mod', mod-lt, mul-le-mul-right}
 use lib.Arith.{digits-lt, digits-div, digits-mod}
-use lib.ListN.{length, getD, take, drop, length-map, length-take, length-drop, List·getD-map}
+use lib.ListN.{length, getD, take, drop, length-map, length-drop}
 use lib.Seq.{ext-getD, getD-take, getD-drop, length-take-le}
 use Rattle.config.specs.declared.Config.{Config}
 use Rattle.config.specs.Config.{boardLength, Valid}
-use Rattle.field.specs.Field.{times, power as powerOf}
-use Rattle.code.specs.Lists.{listOf, joined, Bytes}
-use Rattle.code.specs.Polynomial.{sum, value, interpolated}
-use Rattle.code.specs.Element.{bytes, element, elementByte}
+use Rattle.laws.specs.Bytes.{Bytes, joined, tabulate}
+use Rattle.laws.specs.Parts.{part}
+use Rattle.code.specs.Polynomial.{value, interpolated}
+use Rattle.code.specs.Element.{byteField, element, elementByte}
 use Rattle.code.specs.Decoded.{decoded, decodedByte, decodedPairs, rising}
-use Rattle.code.proofs.Joined.{Each, length-joined, joined-at}
-use Rattle.code.proofs.Listed.{length-listOf, getD-listOf, listOf-cong}
+use Rattle.laws.proofs.Bytes.{Each, bytes-tabulate, getD-tabulate, joined-at, length-joined, length-tabulate, tabulate-cong}
 use Rattle.code.proofs.Lagrange.{interpolated-cong}
-use Rattle.code.proofs.Numbers.{value-lt, horner, interpolated-lt, at-points, from-values, bytes-listOf}
+use Rattle.code.proofs.Numbers.{value-lt, horner, interpolated-lt, at-points, from-values}
 use Rattle.code.proofs.Rising as rise
 
 -- the coefficients of byte j: a board's bytes E apart
 abbrev pub column : ℕ → ℕ → List ℕ → ℕ → List ℕ
-column k e board j = listOf k (λ i. getD board (i * e + j) 0)
+column k e board j = tabulate k (λ i. getD board (i * e + j) 0)
 
 module _ (cfg : Config) (board : List ℕ) (b : Bytes board) where
   -- byte j of an element is the value of column j at the server
-  pub element-value : (s j : ℕ) → s < 256 → elementByte cfg board s j ≡ value bytes (column (cfg .k) (cfg .e) board j) s
+  pub element-value : (s j : ℕ) → s < 256 → elementByte cfg board s j ≡ value byteField (column (cfg .k) (cfg .e) board j) s
   unfolding elementByte
   element-value s j h = horner (cfg .k) (λ i. getD board (i * cfg .e + j) 0) s (λ i. b (i * cfg .e + j)) h
 
   pub element-byte-lt : (s j : ℕ) → s < 256 → elementByte cfg board s j < 256
   element-byte-lt s j h =
       subst (λ n. n < 256) (sym (element-value s j h))
-      (value-lt (column (cfg .k) (cfg .e) board j) s (bytes-listOf (cfg .k) (λ i. getD board (i * cfg .e + j) 0) (λ i. b (i * cfg .e + j))) h)
+      (value-lt (column (cfg .k) (cfg .e) board j) s (bytes-tabulate (cfg .k) (λ i. getD board (i * cfg .e + j) 0) (λ i. b (i * cfg .e + j))) h)
 
   pub bytes-element : (s : ℕ) → s < 256 → Bytes (element cfg board s)
   unfolding element
-  bytes-element s h = bytes-listOf (cfg .e) (elementByte cfg board s) (λ j. element-byte-lt s j h)
+  bytes-element s h = bytes-tabulate (cfg .e) (elementByte cfg board s) (λ j. element-byte-lt s j h)
 
 pub length-element : (cfg : Config) (board : List ℕ) (s : ℕ) → length (element cfg board s) ≡ cfg .e
 unfolding element
-length-element cfg board s = length-listOf (cfg .e) (elementByte cfg board s)
+length-element cfg board s = length-tabulate (cfg .e) (elementByte cfg board s)
 
 pub element-at : (cfg : Config) (board : List ℕ) (s j : ℕ) → j < cfg .e → getD (element cfg board s) j 0 ≡ elementByte cfg board s j
 unfolding element
-element-at cfg board s j h = getD-listOf (cfg .e) (elementByte cfg board s) j 0 h
+element-at cfg board s j h = getD-tabulate (cfg .e) (elementByte cfg board s) j 0 h
 
 module _ (cfg : Config) (servers elements : List ℕ) where
   pub length-decoded : length (decoded cfg servers elements) ≡ boardLength cfg
   unfolding decoded
-  length-decoded = length-listOf (boardLength cfg) (λ m. decodedByte (cfg .k) (cfg .e) servers elements (m / cfg .e) (m % cfg .e))
+  length-decoded = length-tabulate (boardLength cfg) (λ m. decodedByte (cfg .k) (cfg .e) servers elements (m / cfg .e) (m % cfg .e))
 
   pub decoded-at : (i j : ℕ) → i < cfg .k → j < cfg .e
       → getD (decoded cfg servers elements) (i * cfg .e + j) 0 ≡ decodedByte (cfg .k) (cfg .e) servers elements i j
   unfolding decoded
   decoded-at i j l m =
-      getD-listOf (boardLength cfg) (λ n. decodedByte (cfg .k) (cfg .e) servers elements (n / cfg .e) (n % cfg .e)) (i * cfg .e + j) 0 (digits-lt l m)
+      getD-tabulate (boardLength cfg) (λ n. decodedByte (cfg .k) (cfg .e) servers elements (n / cfg .e) (n % cfg .e)) (i * cfg .e + j) 0 (digits-lt l m)
       ∙ ap₂ (decodedByte (cfg .k) (cfg .e) servers elements) (digits-div i m) (digits-mod i m)
 
 mapped : (f : ℕ → List ℕ) (ss : List ℕ) (r : ℕ) → r < length ss → getD (map f ss) r [] ≡ f (getD ss r 0)
@@ -86,7 +85,7 @@ module _ (cfg : Config) (v : Valid cfg) (servers : List ℕ) (up : rising (cfg .
   pub bytes-decoded : (elements : List ℕ) → Bytes elements → Bytes (decoded cfg servers elements)
   unfolding decoded decodedByte
   bytes-decoded elements h =
-      bytes-listOf (boardLength cfg) (λ m. decodedByte (cfg .k) (cfg .e) servers elements (m / cfg .e) (m % cfg .e))
+      bytes-tabulate (boardLength cfg) (λ m. decodedByte (cfg .k) (cfg .e) servers elements (m / cfg .e) (m % cfg .e))
       (λ m. interpolated-lt used (λ r. getD elements (r * cfg .e + m % cfg .e) 0) (m / cfg .e)
       (rise.bytes-take (cfg .n) servers up (omega arith) (cfg .k) enough) (λ r. h (r * cfg .e + m % cfg .e)))
 
@@ -102,24 +101,24 @@ module _ (cfg : Config) (v : Valid cfg) (servers : List ℕ) (up : rising (cfg .
       → decodedByte (cfg .k) (cfg .e) servers elements i j ≡ getD board (i * cfg .e + j) 0
   unfolding decodedByte
   decoded-byte board elements b h i j l m =
-      interpolated-cong bytes used
+      interpolated-cong byteField used
       (λ r. getD elements (r * cfg .e + j) 0)
-      (λ r. value bytes (column (cfg .k) (cfg .e) board j) (getD used r 0))
+      (λ r. value byteField (column (cfg .k) (cfg .e) board j) (getD used r 0))
       (λ r o. let f : r < cfg .k = subst (λ n. r < n) size o in
       h r j f m ∙ element-value cfg board b (getD servers r 0) j (server-lt r)
-      ∙ ap (value bytes (column (cfg .k) (cfg .e) board j)) (sym (used-at r f)))
+      ∙ ap (value byteField (column (cfg .k) (cfg .e) board j)) (sym (used-at r f)))
       i
-      ∙ sym (getD-listOf (length used) (interpolated bytes used w) i 0 (rw size l))
+      ∙ sym (getD-tabulate (length used) (interpolated byteField used w) i 0 (rw size l))
       ∙ ap (λ p. getD p i 0)
       (from-values used (column (cfg .k) (cfg .e) board j)
       (rise.bytes-take (cfg .n) servers up (omega arith) (cfg .k) enough)
-      (bytes-listOf (cfg .k) (λ a. getD board (a * cfg .e + j) 0) (λ a. b (a * cfg .e + j)))
+      (bytes-tabulate (cfg .k) (λ a. getD board (a * cfg .e + j) 0) (λ a. b (a * cfg .e + j)))
       (rise.distinct-take (cfg .n) servers up (cfg .k) enough)
-      (length-listOf (cfg .k) (λ a. getD board (a * cfg .e + j) 0) ∙ sym size))
-      ∙ getD-listOf (cfg .k) (λ a. getD board (a * cfg .e + j) 0) i 0 l
+      (length-tabulate (cfg .k) (λ a. getD board (a * cfg .e + j) 0) ∙ sym size))
+      ∙ getD-tabulate (cfg .k) (λ a. getD board (a * cfg .e + j) 0) i 0 l
     where
       w : ℕ → ℕ
-      w r = value bytes (column (cfg .k) (cfg .e) board j) (getD used r 0)
+      w r = value byteField (column (cfg .k) (cfg .e) board j) (getD used r 0)
 
   -- any k elements of a board decode to that board
   pub decode-elements : (board elements : List ℕ) → length board ≡ boardLength cfg → Bytes board → Elements board elements
@@ -185,30 +184,30 @@ module _ (cfg : Config) (v : Valid cfg) (servers : List ℕ) (up : rising (cfg .
       ∙ element-at cfg other (getD servers r 0) j m)
 
   column-decoded : (elements : List ℕ) (j : ℕ) → j < cfg .e
-      → column (cfg .k) (cfg .e) (decoded cfg servers elements) j ≡ listOf (length used) (interpolated bytes used (λ r. getD elements (r * cfg .e + j) 0))
+      → column (cfg .k) (cfg .e) (decoded cfg servers elements) j ≡ tabulate (length used) (interpolated byteField used (λ r. getD elements (r * cfg .e + j) 0))
   unfolding decodedByte
   column-decoded elements j h =
-      listOf-cong (cfg .k)
+      tabulate-cong (cfg .k)
       (λ i. getD (decoded cfg servers elements) (i * cfg .e + j) 0)
-      (interpolated bytes used (λ r. getD elements (r * cfg .e + j) 0))
+      (interpolated byteField used (λ r. getD elements (r * cfg .e + j) 0))
       (λ i l. decoded-at cfg servers elements i j l h)
-      ∙ ap (λ n. listOf n (interpolated bytes used (λ r. getD elements (r * cfg .e + j) 0))) (sym size)
+      ∙ ap (λ n. tabulate n (interpolated byteField used (λ r. getD elements (r * cfg .e + j) 0))) (sym size)
 
   -- byte j of the element of server r of what was decoded is byte j of the element that was handed in
   encode-byte : (elements : List ℕ) → Bytes elements → (r j : ℕ) → r < cfg .k → j < cfg .e
       → elementByte cfg (decoded cfg servers elements) (getD servers r 0) j ≡ getD elements (r * cfg .e + j) 0
   encode-byte elements h r j l m =
       element-value cfg (decoded cfg servers elements) (bytes-decoded elements h) (getD servers r 0) j (server-lt r)
-      ∙ ap₂ (value bytes) (column-decoded elements j m) (sym (used-at r l))
+      ∙ ap₂ (value byteField) (column-decoded elements j m) (sym (used-at r l))
       ∙ at-points used (λ t. getD elements (t * cfg .e + j) 0)
       (rise.bytes-take (cfg .n) servers up (omega arith) (cfg .k) enough) (λ t. h (t * cfg .e + j))
       (rise.distinct-take (cfg .n) servers up (cfg .k) enough) r (rw size l)
 
   -- encoding what was decoded gives the k elements back: any k elements are those of some board
   pub encode-decoded : (elements : List ℕ) → Bytes elements → cfg .k * cfg .e ≤ length elements → (r : ℕ) → r < cfg .k
-      → element cfg (decoded cfg servers elements) (getD servers r 0) ≡ take (cfg .e) (drop (r * cfg .e) elements)
+      → element cfg (decoded cfg servers elements) (getD servers r 0) ≡ part (cfg .e) r elements
   encode-decoded elements h f r l =
-      ext-getD 0 (element cfg (decoded cfg servers elements) (getD servers r 0)) (take (cfg .e) (drop (r * cfg .e) elements))
+      ext-getD 0 (element cfg (decoded cfg servers elements) (getD servers r 0)) (part (cfg .e) r elements)
       (length-element cfg (decoded cfg servers elements) (getD servers r 0)
       ∙ sym (length-take-le (cfg .e) (drop (r * cfg .e) elements)
       (rw (length-drop (r * cfg .e) elements) (omega (arith, mul-le-mul-right (cfg .e) l)))))

@@ -4,11 +4,11 @@ use mathlib.Core.Path.{_≡_, sym, ap, ap₂, _∙_}
 use native.Mathlib.Omega.{arith}
 use native.Mathlib.Nat.{zero-mul, one-mul, div-one}
 use lib.Bits.{bitAnd, and-zero-r, and-mask, xor-shifted, xor-zero-r, xor-zero-l}
-use Rattle.field.specs.Field.{plus, times, double, doubled, bit, sum}
+use Rattle.field.specs.Field.{plus, times, double, doubled, bit, partialProduct}
 use Rattle.field.proofs.Laws.{times-plus-right, times-double, times-comm, times-one, times-zero-right, double-lt}
 use Rattle.field.proofs.Linear.{double-byte}
 use Rattle.laws.proofs.Xor.{by-digit}
-use Rattle.code.specs.Multiples.{Multiples}
+use Rattle.code.specs.inner.Doubles.{ByDoublesPre}
 
 -- ---- a digit
 
@@ -56,8 +56,8 @@ swapped x s r lx ls e = e ∙ times-comm x s lx ls
 
 -- ---- all digits of a factor: the sum of the other doubled as often as each says
 
-first : (c x : ℕ) → x % 2 * c ≡ sum 1 c x
-unfolding sum doubled
+first : (c x : ℕ) → x % 2 * c ≡ partialProduct 1 c x
+unfolding partialProduct doubled
 first c x = ap (λ n. n % 2 * c) (sym (div-one x)) ∙ sym (xor-zero-l (x / 1 % 2 * c))
 
 pub record Doublings (c c1 c2 c3 c4 c5 c6 c7 : ℕ) : Type 0 where
@@ -69,7 +69,7 @@ pub record Doublings (c c1 c2 c3 c4 c5 c6 c7 : ℕ) : Type 0 where
   pub six : c6 ≡ doubled 6 c
   pub seven : c7 ≡ doubled 7 c
 
-pub doublings : {c c1 c2 c3 c4 c5 c6 c7 : ℕ} → Multiples c c1 c2 c3 c4 c5 c6 c7 → Doublings c c1 c2 c3 c4 c5 c6 c7
+pub doublings : {c c1 c2 c3 c4 c5 c6 c7 : ℕ} → ByDoublesPre c c1 c2 c3 c4 c5 c6 c7 → Doublings c c1 c2 c3 c4 c5 c6 c7
 unfolding doubled
 doublings {c} m =
     let d1 : _ ≡ doubled 1 c = m .one in
@@ -80,10 +80,10 @@ doublings {c} m =
     let d6 : _ ≡ doubled 6 c = m .six ∙ ap double d5 in
     record { one = d1; two = d2; three = d3; four = d4; five = d5; six = d6; seven = m .seven ∙ ap double d6 }
 
-pub eight : (x c c1 c2 c3 c4 c5 c6 c7 : ℕ) → Multiples c c1 c2 c3 c4 c5 c6 c7
+pub eight : (x c c1 c2 c3 c4 c5 c6 c7 : ℕ) → ByDoublesPre c c1 c2 c3 c4 c5 c6 c7
     → plus (plus (plus (plus (plus (plus (plus (x % 2 * c) (x / 2 % 2 * c1)) (x / 4 % 2 * c2)) (x / 8 % 2 * c3)) (x / 16 % 2 * c4)) (x / 32 % 2 * c5)) (x / 64 % 2 * c6)) (x / 128 % 2 * c7)
     ≡ times c x
-unfolding times sum doubled
+unfolding times partialProduct doubled
 eight x c c1 c2 c3 c4 c5 c6 c7 m =
     let d = doublings m in
     term (x / 128) (term (x / 64) (term (x / 32) (term (x / 16) (term (x / 8) (term (x / 4) (term (x / 2) (first c x) (d .one)) (d .two)) (d .three)) (d .four)) (d .five)) (d .six)) (d .seven)
@@ -92,18 +92,18 @@ eight x c c1 c2 c3 c4 c5 c6 c7 m =
     term y e f = ap₂ plus e (ap (λ n. y % 2 * n) f)
 
 -- the sum over the digits below 5 is that over all where the factor is below 32
-five-digits : (x s : ℕ) → s < 32 → sum 5 x s ≡ times x s
-unfolding times sum
+five-digits : (x s : ℕ) → s < 32 → partialProduct 5 x s ≡ times x s
+unfolding times partialProduct
 five-digits x s h =
     sym
-    (none 7 (sum 7 x s) (omega arith) ∙ none 6 (sum 6 x s) (omega arith) ∙ none 5 (sum 5 x s) (omega arith))
+    (none 7 (partialProduct 7 x s) (omega arith) ∙ none 6 (partialProduct 6 x s) (omega arith) ∙ none 5 (partialProduct 5 x s) (omega arith))
   where
     none : (n a : ℕ) → bit n s ≡ 0 → plus a (bit n s * doubled n x) ≡ a
     none n a e = ap (λ d. plus a (d * doubled n x)) e ∙ ap (plus a) (zero-mul (doubled n x)) ∙ xor-zero-r a
 
 pub five : (s x x1 x2 x3 x4 : ℕ) → s < 32 → x < 256 → x1 ≡ double x → x2 ≡ double x1 → x3 ≡ double x2 → x4 ≡ double x3
     → plus (plus (plus (plus (s % 2 * x) (s / 2 % 2 * x1)) (s / 4 % 2 * x2)) (s / 8 % 2 * x3)) (s / 16 % 2 * x4) ≡ times s x
-unfolding sum doubled
+unfolding partialProduct doubled
 five s x x1 x2 x3 x4 h lx e1 e2 e3 e4 =
     term (s / 16) (term (s / 8) (term (s / 4) (term (s / 2) (first x s) e1) (e2 ∙ ap double e1)) (e3 ∙ ap double (e2 ∙ ap double e1)))
     (e4 ∙ ap double (e3 ∙ ap double (e2 ∙ ap double e1)))

@@ -1,7 +1,7 @@
 -- Synthetic division of one polynomial by (x + s) for the s of 16 lanes side by side, from the highest coefficient down: the
 -- quotients' coefficients, and the quotients' values at s.
-use Prim.Native.Nat.{ℕ, zero, suc, _+_, _-_, _<_, _≤_}
-use mathlib.Core.Path.{_≡_, refl, sym, ap, ap₂, subst, subst₂, _∙_}
+use Prim.Native.Nat.{ℕ, suc, _-_, _<_, _≤_}
+use mathlib.Core.Path.{_≡_, sym, ap, ap₂, subst, subst₂, _∙_}
 use mathlib.Core.List.{List, [], _∷_, map}
 use native.Mathlib.Omega.{arith}
 use native.Mathlib.Decide.{ℕ-discrete}
@@ -11,8 +11,8 @@ use lib.Seq.{getD-set-same, getD-set-other, length-take-le}
 use Rattle.field.specs.Field.{plus, times, inverseOf}
 use Rattle.field.proofs.Laws.{times-zero-right, plus-zero}
 use Rattle.code.specs.Polynomial.{value, divided, roots, scaled, lagrange}
-use Rattle.code.specs.Element.{bytes}
-use Rattle.code.specs.Lanes.{Inverse, Scaled, Usable, advanced, firstRoots}
+use Rattle.code.specs.Element.{byteField}
+use Rattle.code.specs.inner.Lanes.{InvertPost, ScalePost, InvertPre, advanced, firstRoots}
 use Rattle.code.proofs.Advanced.{advanced-at}
 use Rattle.code.proofs.Factor.{divided-at}
 use Rattle.code.proofs.FirstRoots.{roots-top, firstRoots-at}
@@ -21,19 +21,19 @@ use Rattle.code.proofs.Value.{value-drop}
 
 -- the quotient of p by (x + s) for the s of lane t
 abbrev pub quotient : List ℕ → List ℕ → ℕ → List ℕ
-quotient p s t = divided bytes (getD s t 0) p
+quotient p s t = divided byteField (getD s t 0) p
 
 -- with the quotients' coefficients from i on in the rows: q has that of i, and v the value of those from i on
 pub record Divided (k : ℕ) (p s : List ℕ) (i : ℕ) (rows : List (List ℕ)) (q v : List ℕ) : Type 0 where
   pub bound : i < k
   pub size : length rows ≡ 16
   pub here : (t : ℕ) → t < 16 → getD q t 0 ≡ getD (quotient p s t) i 0
-  pub total : (t : ℕ) → t < 16 → getD v t 0 ≡ value bytes (drop i (quotient p s t)) (getD s t 0)
+  pub total : (t : ℕ) → t < 16 → getD v t 0 ≡ value byteField (drop i (quotient p s t)) (getD s t 0)
   pub row : (j t : ℕ) → i ≤ j → j < k → t < 16 → getD (getD rows j []) t 0 ≡ getD (quotient p s t) j 0
 
 module _ (k : ℕ) (p s : List ℕ) (high : k ≤ 16) (lp : length p ≡ suc k) where
   size-quotient : (t : ℕ) → length (quotient p s t) ≡ k
-  size-quotient t = divided-length bytes (getD s t 0) p k lp
+  size-quotient t = divided-length byteField (getD s t 0) p k lp
 
   -- a row more
   row-set : (i : ℕ) (rows : List (List ℕ)) (q : List ℕ) → i < length rows
@@ -55,21 +55,21 @@ module _ (k : ℕ) (p s : List ℕ) (high : k ≤ 16) (lp : length p ≡ suc k) 
   monic : (t : ℕ) → getD p k 0 ≡ 1 → (i : ℕ) → suc i ≡ k → getD (quotient p s t) i 0 ≡ 1
   unfolding value
   monic t e i h =
-      divided-at bytes x p i (omega arith)
-      ∙ ap (λ n. value bytes (drop n p) x) h
-      ∙ value-drop bytes p k x (omega arith)
-      ∙ ap (λ r. plus (getD p k 0) (times x (value bytes r x))) (drop-of-length-le p {i = suc k} (omega arith))
+      divided-at byteField x p i (omega arith)
+      ∙ ap (λ n. value byteField (drop n p) x) h
+      ∙ value-drop byteField p k x (omega arith)
+      ∙ ap (λ r. plus (getD p k 0) (times x (value byteField r x))) (drop-of-length-le p {i = suc k} (omega arith))
       ∙ ap₂ plus e (times-zero-right x)
       ∙ plus-zero 1
     where
       x : ℕ
       x = getD s t 0
 
-  last-value : (t i : ℕ) → suc i ≡ k → value bytes (drop i (quotient p s t)) (getD s t 0) ≡ getD (quotient p s t) i 0
+  last-value : (t i : ℕ) → suc i ≡ k → value byteField (drop i (quotient p s t)) (getD s t 0) ≡ getD (quotient p s t) i 0
   unfolding value
   last-value t i h =
-      value-drop bytes (quotient p s t) i (getD s t 0) (rw size-quotient (omega arith))
-      ∙ ap (λ r. plus (getD (quotient p s t) i 0) (times (getD s t 0) (value bytes r (getD s t 0))))
+      value-drop byteField (quotient p s t) i (getD s t 0) (rw size-quotient (omega arith))
+      ∙ ap (λ r. plus (getD (quotient p s t) i 0) (times (getD s t 0) (value byteField r (getD s t 0))))
       (drop-of-length-le (quotient p s t) {i = suc i} (rw size-quotient (omega arith)))
       ∙ ap (plus (getD (quotient p s t) i 0)) (times-zero-right (getD s t 0))
       ∙ plus-zero (getD (quotient p s t) i 0)
@@ -94,9 +94,9 @@ module _ (k : ℕ) (p s : List ℕ) (high : k ≤ 16) (lp : length p ≡ suc k) 
     coefficient t h =
         advanced-at q s c t h
         ∙ ap₂ (λ a b. plus a (times (getD s t 0) b)) (at t h)
-        (d .here t h ∙ divided-at bytes (getD s t 0) p (suc i) (omega (arith, d .bound)))
-        ∙ sym (value-drop bytes p (suc i) (getD s t 0) (omega (arith, d .bound)))
-        ∙ sym (divided-at bytes (getD s t 0) p i (omega (arith, d .bound)))
+        (d .here t h ∙ divided-at byteField (getD s t 0) p (suc i) (omega (arith, d .bound)))
+        ∙ sym (value-drop byteField p (suc i) (getD s t 0) (omega (arith, d .bound)))
+        ∙ sym (divided-at byteField (getD s t 0) p i (omega (arith, d .bound)))
 
     pub step : Divided k p s i (set rows i (advanced q s c)) (advanced q s c) (advanced v s (advanced q s c))
     step =
@@ -106,65 +106,65 @@ module _ (k : ℕ) (p s : List ℕ) (high : k ≤ 16) (lp : length p ≡ suc k) 
           here = coefficient;
           total = λ t h. advanced-at v s (advanced q s c) t h
               ∙ ap₂ (λ a b. plus a (times (getD s t 0) b)) (coefficient t h) (d .total t h)
-              ∙ sym (value-drop bytes (quotient p s t) i (getD s t 0) (rw size-quotient (omega (arith, d .bound))));
+              ∙ sym (value-drop byteField (quotient p s t) i (getD s t 0) (rw size-quotient (omega (arith, d .bound))));
           row = row-set i rows (advanced q s c) (omega (arith, d .bound, d .size)) coefficient (d .row);
         }
 
 -- scaled by the inverse of its value, a quotient of the product of all (x + s) is Lagrange's polynomial
 pub lagrange-at : (points : List ℕ) (x j : ℕ)
-    → times (inverseOf (value bytes (divided bytes x (roots bytes points)) x)) (getD (divided bytes x (roots bytes points)) j 0)
-    ≡ getD (lagrange bytes points x) j 0
+    → times (inverseOf (value byteField (divided byteField x (roots byteField points)) x)) (getD (divided byteField x (roots byteField points)) j 0)
+    ≡ getD (lagrange byteField points x) j 0
 unfolding lagrange scaled
 lagrange-at points x j =
     sym (ap (getD (map (times a) q) j) (sym (times-zero-right a)) ∙ List·getD-map (times a) q j 0)
   where
     q : List ℕ
-    q = divided bytes x (roots bytes points)
+    q = divided byteField x (roots byteField points)
 
     a : ℕ
-    a = inverseOf (value bytes q x)
+    a = inverseOf (value byteField q x)
 
-module _ (k : ℕ) (servers : List ℕ) (u : Usable k servers) (s : List ℕ) where
+module _ (k : ℕ) (servers : List ℕ) (u : InvertPre k servers) (s : List ℕ) where
   abbrev points : List ℕ
   points = take k servers
 
   size-points : length points ≡ k
   size-points = length-take-le k servers (u .enough)
 
-  size-roots : length (roots bytes points) ≡ suc k
+  size-roots : length (roots byteField points) ≡ suc k
   unfolding roots
-  size-roots = length-rooted bytes (1 ∷ []) points ∙ omega (arith, size-points)
+  size-roots = length-rooted byteField (1 ∷ []) points ∙ omega (arith, size-points)
 
   -- the division of the product of all (x + s), with its first coefficients
   pub begins : (i : ℕ) → suc i ≡ k → (rows : List (List ℕ)) → length rows ≡ 16
-      → Divided k (roots bytes points) s i (set rows i (replicate 16 1)) (replicate 16 1) (replicate 16 1)
+      → Divided k (roots byteField points) s i (set rows i (replicate 16 1)) (replicate 16 1) (replicate 16 1)
   begins i h rows lr =
-      start k (roots bytes points) s (u .high) size-roots i h rows lr
-      (ap (λ n. getD (roots bytes points) n 0) (sym size-points) ∙ roots-top points)
+      start k (roots byteField points) s (u .high) size-roots i h rows lr
+      (ap (λ n. getD (roots byteField points) n 0) (sym size-points) ∙ roots-top points)
 
   -- a turn, for coefficient i - 1
   pub turns : (i : ℕ) (rows : List (List ℕ)) (q v p q' v' : List ℕ) → 0 < i → p ≡ firstRoots k servers
       → q' ≡ advanced q s (replicate 16 (getD p i 0)) → v' ≡ advanced v s q'
-      → Divided k (roots bytes points) s i rows q v → Divided k (roots bytes points) s (i - 1) (set rows (i - 1) q') q' v'
+      → Divided k (roots byteField points) s i rows q v → Divided k (roots byteField points) s (i - 1) (set rows (i - 1) q') q' v'
   turns i rows q v p q' v' h e eq ev d =
       let one : i ≡ suc (i - 1) = omega arith in
       let turned =
-      step k (roots bytes points) s (u .high) size-roots (i - 1) rows q v (replicate 16 (getD p i 0))
-      (subst (λ n. Divided k (roots bytes points) s n rows q v) one d)
+      step k (roots byteField points) s (u .high) size-roots (i - 1) rows q v (replicate 16 (getD p i 0))
+      (subst (λ n. Divided k (roots byteField points) s n rows q v) one d)
       (λ t l. getD-replicate 16 t (getD p i 0) 0 l ∙ ap (λ a. getD a i 0) e
-      ∙ firstRoots-at k servers i (omega (arith, d .bound, u .high)) ∙ ap (λ n. getD (roots bytes points) n 0) one) in
-      subst₂ (λ a b. Divided k (roots bytes points) s (i - 1) (set rows (i - 1) a) a b) (sym eq) (sym (ev ∙ ap (advanced v s) eq)) turned
+      ∙ firstRoots-at k servers i (omega (arith, d .bound, u .high)) ∙ ap (λ n. getD (roots byteField points) n 0) one) in
+      subst₂ (λ a b. Divided k (roots byteField points) s (i - 1) (set rows (i - 1) a) a b) (sym eq) (sym (ev ∙ ap (advanced v s) eq)) turned
 
   -- scaled after the last turn, it is the inverse
-  pub ends : (rows out : List (List ℕ)) (q v d : List ℕ) → Divided k (roots bytes points) s 0 rows q v
+  pub ends : (rows out : List (List ℕ)) (q v d : List ℕ) → Divided k (roots byteField points) s 0 rows q v
       → ((r : ℕ) → r < k → getD s r 0 ≡ getD servers r 0)
       → ((r : ℕ) → r < k → getD d r 0 ≡ inverseOf (getD v r 0))
-      → Scaled k d rows out
-      → Inverse k servers out
+      → ScalePost k d rows out
+      → InvertPost k servers out
   ends rows out q v d w hs hd ho i r hi hr =
       ho i r hi (omega (arith, u .high))
       ∙ ap₂ times
       (hd r hr ∙ ap inverseOf (w .total r (omega (arith, u .high))))
       (w .row i r (omega arith) hi (omega (arith, u .high)))
       ∙ lagrange-at points (getD s r 0) i
-      ∙ ap (λ x. getD (lagrange bytes points x) i 0) (hs r hr)
+      ∙ ap (λ x. getD (lagrange byteField points x) i 0) (hs r hr)

@@ -1,20 +1,20 @@
 -- The questions of `encode`: which is the first no, and what is known where there is none.
-use Prim.Native.Nat.{ℕ, _*_, _<_, _≤_}
-use mathlib.Core.Path.{_≡_, refl, sym, ap, _∙_}
+use Prim.Native.Nat.{ℕ, _≤_}
+use mathlib.Core.Path.{_≡_, refl, sym, _∙_}
 use mathlib.Core.Bool.{Bool, true, false, _&&_}
-use mathlib.Core.List.{List, [], _∷_, _++_}
+use mathlib.Core.List.{_++_, [], _∷_}
 use native.Mathlib.Omega.{arith}
-use borrow.Author.Tests.{eq-eqb, ne-eqb, eqb-true, le-leb, lt-leb, leb-true}
-use lib.Dec.{eqb, leb}
-use lib.ListN.{length}
+use borrow.Author.Tests.{eq-eqb, ne-eqb, eqb-true}
+use lib.Dec.{eqb}
 use Rattle.laws.proofs.Bools.{and-left, and-right}
 use Rattle.config.specs.declared.Config.{Config}
-use Rattle.config.specs.Config.{questions, boardLength, Valid}
-use Rattle.config.specs.Questions.{Question, ask, within, firstNo, numbered}
-use Rattle.config.proofs.Questions.{firstNo-yes, firstNo-no, within-low, within-high, within-true}
+use Rattle.config.specs.Config.{questions, boardLength}
+use Rattle.config.specs.Questions.{ask, within, firstNo, lastQuestion, numbered}
+use Rattle.config.proofs.Questions.{early, firstNo-high, firstNo-pass, none-first, numbered-both, questions-numbered, firstNo-yes, firstNo-no, within-low, within-high, within-true}
 use Rattle.config.proofs.Valid.{valid}
-use Rattle.code.specs.Encode.{encodeQuestions, Encodable}
-use Rattle.code.proofs.Asked.{left-no, right-no, both-yes, passed, stopped, none-of, all-high}
+use Rattle.code.specs.Encode.{encodeQuestions}
+use Rattle.code.specs.inner.Calls.{EncodePre}
+use Rattle.code.proofs.Asked.{left-no, right-no, both-yes}
 
 all-yes : (a b : Bool) → firstNo (ask 6 a ∷ ask 18 b ∷ []) ≡ 0 → (a ≡ true) × (b ≡ true)
 unfolding firstNo
@@ -34,16 +34,16 @@ module _ (cfg : Config) (board s buffer : ℕ) where
 
   pub refused : (got : ℕ) → got ≡ firstNo (questions cfg) → (got ≡ 0 → ⊥) → got ≡ answer
   unfolding encodeQuestions
-  refused = stopped cfg (ask 6 shape ∷ ask 18 server ∷ [])
+  refused got e some = early cfg e some (ask 6 shape ∷ ask 18 server ∷ [])
 
   passes : firstNo (questions cfg) ≡ 0 → answer ≡ firstNo (ask 6 shape ∷ ask 18 server ∷ [])
   unfolding encodeQuestions
-  passes = passed cfg (ask 6 shape ∷ ask 18 server ∷ [])
+  passes = firstNo-pass (questions cfg) (ask 6 shape ∷ ask 18 server ∷ []) (questions-numbered cfg)
 
-  pub encodable : answer ≡ 0 → Encodable cfg board s buffer
+  pub encodable : answer ≡ 0 → EncodePre cfg board s buffer
   unfolding encodeQuestions
   encodable h =
-      let none : firstNo (questions cfg) ≡ 0 = none-of cfg (ask 6 shape ∷ ask 18 server ∷ []) h in
+      let none : firstNo (questions cfg) ≡ 0 = none-first (questions cfg) (ask 6 shape ∷ ask 18 server ∷ []) h in
       let y = all-yes shape server (sym (passes none) ∙ h) in
       record {
         valid = valid cfg none;
@@ -53,9 +53,10 @@ module _ (cfg : Config) (board s buffer : ℕ) where
         server-high = within-high 1 (cfg .n) s (y .1);
       }
 
-  pub answer-high : answer ≤ 18
+  pub answer-high : answer ≤ lastQuestion
   unfolding encodeQuestions numbered
-  answer-high = all-high cfg (ask 6 shape ∷ ask 18 server ∷ []) refl
+  answer-high = firstNo-high (questions cfg ++ ask 6 shape ∷ ask 18 server ∷ [])
+      (numbered-both (questions cfg) (ask 6 shape ∷ ask 18 server ∷ []) (questions-numbered cfg) refl)
 
   module _ (none : firstNo (questions cfg) ≡ 0) where
     misshaped : shape ≡ false → 6 ≡ answer
@@ -74,12 +75,12 @@ module _ (cfg : Config) (board s buffer : ℕ) where
           ∙ firstNo-yes 6 shape (ask 18 server ∷ [])
           (both-yes (eqb board (boardLength cfg)) (eqb buffer (cfg .e)) (eq-eqb board (boardLength cfg) lb) (eq-eqb buffer (cfg .e) le))
 
-      pub server-below : s < 1 → 18 ≡ answer
-      server-below h = sym (last ∙ firstNo-no 18 server [] (left-no (leb 1 s) (leb s (cfg .n)) (lt-leb 1 s h)))
+      pub no-server : server ≡ false → 18 ≡ answer
+      no-server h = sym (last ∙ firstNo-no 18 server [] h)
 
-      pub server-above : cfg .n < s → 18 ≡ answer
-      server-above h = sym (last ∙ firstNo-no 18 server [] (right-no (leb 1 s) (leb s (cfg .n)) (lt-leb s (cfg .n) h)))
+      pub some-server : server ≡ true → 0 ≡ answer
+      unfolding firstNo
+      some-server h = sym (last ∙ firstNo-yes 18 server [] h)
 
       pub accepted : 1 ≤ s → s ≤ cfg .n → 0 ≡ answer
-      unfolding firstNo
-      accepted h l = sym (last ∙ firstNo-yes 18 server [] (within-true 1 (cfg .n) s h l))
+      accepted h l = some-server (within-true 1 (cfg .n) s h l)

@@ -7,15 +7,16 @@ use native.Mathlib.Nat.{mul-le-mul-right}
 use lib.ListN.{length, replicate, length-replicate, getD-replicate}
 use Rattle.config.specs.declared.Config.{Config}
 use Rattle.config.specs.Config.{boardLength}
-use Rattle.code.specs.Decode.{Decodable}
-use Rattle.code.specs.Lanes.{Usable}
-use Rattle.code.specs.Table.{place, Ready, Spreadable}
+use Rattle.code.specs.inner.Calls.{DecodePre}
+use Rattle.code.specs.inner.Lanes.{InvertPre}
+use Rattle.code.specs.inner.Table.{place, Ready, SpreadPre}
 use Rattle.code.proofs.Asked.{board-small}
-use Rattle.code.proofs.Parts.{part, part-length, row-inside}
+use Rattle.code.proofs.Lent.{lentRow, lent-row-length}
+use Rattle.laws.proofs.Parts.{part-fits}
 use Rattle.code.proofs.Rising as rise
 
-module _ (cfg : Config) (servers : List ℕ) (elements buffer : ℕ) (d : Decodable cfg servers elements buffer) where
-  pub usable : Usable (cfg .k) servers
+module _ (cfg : Config) (servers : List ℕ) (elements buffer : ℕ) (d : DecodePre cfg servers elements buffer) where
+  pub usable : InvertPre (cfg .k) servers
   usable =
       record {
         low = d .valid .k-low;
@@ -27,15 +28,15 @@ module _ (cfg : Config) (servers : List ℕ) (elements buffer : ℕ) (d : Decoda
 
   pub element-fits : (r : ℕ) → r < cfg .k → (r * cfg .e + cfg .e ≤ elements) × (r * cfg .e + cfg .e ≤ 1024) × (r < 16)
   element-fits r h =
-      omega (arith, row-inside (cfg .k) (cfg .e) r h, board-small cfg (d .valid), d .elements-length, mul-le-mul-right (cfg .e) (d .enough), usable .high)
+      omega (arith, part-fits r (cfg .k) (cfg .e) h, board-small cfg (d .valid), d .elements-length, mul-le-mul-right (cfg .e) (d .enough), usable .high)
 
-pub element-part : (cfg : Config) (servers elements : List ℕ) (buffer : ℕ) → Decodable cfg servers (length elements) buffer → (r : ℕ) → r < cfg .k
-    → length (part (cfg .e) elements r) ≡ cfg .e
+pub element-part : (cfg : Config) (servers elements : List ℕ) (buffer : ℕ) → DecodePre cfg servers (length elements) buffer → (r : ℕ) → r < cfg .k
+    → length (lentRow (cfg .e) elements r) ≡ cfg .e
 element-part cfg servers elements buffer d r h =
-    part-length (cfg .k) (cfg .e) r elements h (omega (arith, d .elements-length, mul-le-mul-right (cfg .e) (d .enough)))
+    lent-row-length (cfg .k) (cfg .e) r elements h (omega (arith, d .elements-length, mul-le-mul-right (cfg .e) (d .enough)))
 
-pub spreadable : (cfg : Config) (servers elements table now : List ℕ) (buffer : ℕ) → Decodable cfg servers (length elements) buffer
-    → Ready table → length now ≡ boardLength cfg → (r : ℕ) → r < cfg .k → Spreadable (cfg .k) r (part (cfg .e) elements r) table now
+pub spreadable : (cfg : Config) (servers elements table now : List ℕ) (buffer : ℕ) → DecodePre cfg servers (length elements) buffer
+    → Ready table → length now ≡ boardLength cfg → (r : ℕ) → r < cfg .k → SpreadPre (cfg .k) r (lentRow (cfg .e) elements r) table now
 spreadable cfg servers elements table now buffer d t size r h =
     let e = element-part cfg servers elements buffer d r h in
     let u = usable cfg servers (length elements) buffer d in

@@ -1,18 +1,18 @@
 -- Interpolation: Lagrange's polynomial of a point is 1 there and 0 at the others, so the polynomial of k coefficients with given
 -- values at k distinct points is the sum of value times Lagrange's polynomial, and no other.
 use Prim.Native.Nat.{ℕ, zero, suc, _+_, _<_, _≤_}
-use mathlib.Core.Path.{_≡_, refl, sym, ap, ap₂, _∙_}
+use mathlib.Core.Path.{_≡_, refl, sym, ap, _∙_}
 use mathlib.Core.List.{List, [], _∷_}
 use native.Mathlib.Omega.{arith}
-use native.Mathlib.Nat.{add-suc, add-zero as plus-zero}
+use native.Mathlib.Nat.{add-zero as plus-zero}
 use native.Mathlib.Decide.{ℕ-discrete, decLt}
 use lib.ListN.{length, getD, length-map}
-use Rattle.code.specs.Lists.{listOf}
-use Rattle.code.specs.Polynomial.{Operations, sum, power, value, carried, rooted, roots, divided, scaled, lagrange, interpolated}
-use Rattle.code.proofs.Listed.{length-listOf, getD-listOf}
-use Rattle.code.proofs.Ring.{Laws, normal, add-zero, mul-zero, mul-one, zero-mul, mul-comm, mul-assoc, zero-add, add-self}
+use Rattle.laws.specs.Bytes.{tabulate}
+use Rattle.code.specs.Polynomial.{Operations, sum, powerIn, value, carried, rooted, roots, divided, scaled, lagrange, interpolated}
+use Rattle.laws.proofs.Bytes.{length-tabulate}
+use Rattle.code.proofs.Ring.{Laws, normal, add-zero, mul-zero, mul-one, zero-mul, mul-comm, zero-add, add-self}
 use Rattle.code.proofs.Sums.{sum-cong, sum-mul, sum-mul-right, sum-swap, sum-only}
-use Rattle.code.proofs.Value.{value-listOf, value-scaled, value-sum}
+use Rattle.code.proofs.Value.{value-tabulate, value-scaled, value-sum}
 use Rattle.code.proofs.Factor.{length-divided}
 use Rattle.code.proofs.Roots.{Distinct, quotient-vanishes, root-bound, unique}
 
@@ -200,15 +200,15 @@ module _ {F : Type 0} (o : Operations F) (L : Laws o) where
 
     -- value times Lagrange's polynomial, at x, summed power by power
     term : (v : ℕ → F) (x : F) (r : ℕ)
-        → sum o (length xs) (λ i. o .mul (o .mul (getD (lagrange o xs (getD xs r (o .nought))) i (o .nought)) (v r)) (power o x i))
+        → sum o (length xs) (λ i. o .mul (o .mul (getD (lagrange o xs (getD xs r (o .nought))) i (o .nought)) (v r)) (powerIn o x i))
         ≡ o .mul (v r) (value o (lagrange o xs (getD xs r (o .nought))) x)
     term v x r =
         sum-cong o (length xs)
-        (λ i. o .mul (o .mul (c i) (v r)) (power o x i))
-        (λ i. o .mul (v r) (o .mul (c i) (power o x i)))
-        (λ i h. swapped (c i) (v r) (power o x i))
-        ∙ sym (sum-mul o L (v r) (length xs) (λ i. o .mul (c i) (power o x i)))
-        ∙ ap (λ n. o .mul (v r) (sum o n (λ i. o .mul (c i) (power o x i)))) (sym (length-lagrange xs (getD xs r (o .nought))))
+        (λ i. o .mul (o .mul (c i) (v r)) (powerIn o x i))
+        (λ i. o .mul (v r) (o .mul (c i) (powerIn o x i)))
+        (λ i h. swapped (c i) (v r) (powerIn o x i))
+        ∙ sym (sum-mul o L (v r) (length xs) (λ i. o .mul (c i) (powerIn o x i)))
+        ∙ ap (λ n. o .mul (v r) (sum o n (λ i. o .mul (c i) (powerIn o x i)))) (sym (length-lagrange xs (getD xs r (o .nought))))
         ∙ ap (o .mul (v r)) (sym (value-sum o L (lagrange o xs (getD xs r (o .nought))) x))
       where
         c : ℕ → F
@@ -216,18 +216,18 @@ module _ {F : Type 0} (o : Operations F) (L : Laws o) where
 
     -- the value of the interpolated polynomial anywhere
     pub interpolated-anywhere : (v : ℕ → F) (x : F)
-        → value o (listOf (length xs) (interpolated o xs v)) x
+        → value o (tabulate (length xs) (interpolated o xs v)) x
         ≡ sum o (length xs) (λ r. o .mul (v r) (value o (lagrange o xs (getD xs r (o .nought))) x))
     unfolding interpolated
     interpolated-anywhere v x =
-        value-listOf o L (length xs) (interpolated o xs v) x
+        value-tabulate o L (length xs) (interpolated o xs v) x
         ∙ sum-cong o (length xs)
-        (λ i. o .mul (interpolated o xs v i) (power o x i))
-        (λ i. sum o (length xs) (λ r. o .mul (o .mul (c r i) (v r)) (power o x i)))
-        (λ i h. sum-mul-right o L (length xs) (λ r. o .mul (c r i) (v r)) (power o x i))
-        ∙ sum-swap o L (length xs) (length xs) (λ i r. o .mul (o .mul (c r i) (v r)) (power o x i))
+        (λ i. o .mul (interpolated o xs v i) (powerIn o x i))
+        (λ i. sum o (length xs) (λ r. o .mul (o .mul (c r i) (v r)) (powerIn o x i)))
+        (λ i h. sum-mul-right o L (length xs) (λ r. o .mul (c r i) (v r)) (powerIn o x i))
+        ∙ sum-swap o L (length xs) (length xs) (λ i r. o .mul (o .mul (c r i) (v r)) (powerIn o x i))
         ∙ sum-cong o (length xs)
-        (λ r. sum o (length xs) (λ i. o .mul (o .mul (c r i) (v r)) (power o x i)))
+        (λ r. sum o (length xs) (λ i. o .mul (o .mul (c r i) (v r)) (powerIn o x i)))
         (λ r. o .mul (v r) (value o (lagrange o xs (getD xs r (o .nought))) x))
         (λ r h. term v x r)
       where
@@ -236,7 +236,7 @@ module _ {F : Type 0} (o : Operations F) (L : Laws o) where
 
     -- at the points it has the given values
     pub interpolated-value : (v : ℕ → F) (t : ℕ) → t < length xs
-        → value o (listOf (length xs) (interpolated o xs v)) (getD xs t (o .nought)) ≡ v t
+        → value o (tabulate (length xs) (interpolated o xs v)) (getD xs t (o .nought)) ≡ v t
     interpolated-value v t h =
         interpolated-anywhere v (getD xs t (o .nought))
         ∙ sum-only o L (length xs)
@@ -247,10 +247,10 @@ module _ {F : Type 0} (o : Operations F) (L : Laws o) where
 
     -- a polynomial of as many coefficients is interpolated from its values
     pub interpolated-back : (p : List F) → length p ≡ length xs
-        → listOf (length xs) (interpolated o xs (λ r. value o p (getD xs r (o .nought)))) ≡ p
+        → tabulate (length xs) (interpolated o xs (λ r. value o p (getD xs r (o .nought)))) ≡ p
     interpolated-back p e =
-        unique o L xs (listOf (length xs) (interpolated o xs v)) p (length-listOf (length xs) (interpolated o xs v) ∙ sym e)
-        (rw length-listOf (omega arith)) n (λ i h. interpolated-value v i h)
+        unique o L xs (tabulate (length xs) (interpolated o xs v)) p (length-tabulate (length xs) (interpolated o xs v) ∙ sym e)
+        (rw length-tabulate (omega arith)) n (λ i h. interpolated-value v i h)
       where
         v : ℕ → F
         v r = value o p (getD xs r (o .nought))

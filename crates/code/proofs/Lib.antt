@@ -1,30 +1,29 @@
-pub mod Advanced
-pub mod Answered
-pub mod Asked
-pub mod Combined
-pub mod Counted
+mod Advanced
+mod Answered
+mod Asked
+mod Combined
+mod Counted
 pub mod Decodable
 pub mod Decoding
-pub mod Digits
-pub mod Division
+mod Digits
+mod Division
 pub mod Encodable
-pub mod Factor
-pub mod Filled
-pub mod FirstRoots
-pub mod Horner
-pub mod Interpolated
-pub mod Joined
-pub mod Lagrange
-pub mod Listed
-pub mod Numbers
-pub mod Parts
-pub mod Preserved
-pub mod Ring
-pub mod Rising
-pub mod Roots
-pub mod Single
-pub mod Spreading
-pub mod Sums
-pub mod Tabled
-pub mod Value
-pub mod Written
+mod Factor
+mod Filled
+mod FirstRoots
+mod Homomorphism
+mod Horner
+mod Interpolated
+mod Lagrange
+mod Lent
+mod Numbers
+mod Ring
+mod Rising
+mod Roots
+mod Single
+mod Spreading
+mod Sums
+mod Tabled
+pub mod Theorems
+mod Value
+mod Written

@@ -1,6 +1,6 @@
 -- What follows from the laws of a field of characteristic two, and `normal`, the list by which `simp` takes two sums of
 -- products to one form.
-use mathlib.Core.Path.{_≡_, refl, sym, ap, ap₂, _∙_}
+use mathlib.Core.Path.{_≡_, sym, ap, ap₂, _∙_}
 use Rattle.laws.specs.Algebra.{FieldLaws}
 use Rattle.code.specs.Polynomial.{Operations}
 
@@ -94,9 +94,3 @@ pub ruleset normal = (
   mul-zero,
   zero-mul,
 )
-
-module _ {F : Type 0} (o : Operations F) (L : Laws o) where
-  -- a test: the step of the factor theorem
-  trial : (c x s p q : F) → o .add c (o .mul x (o .add p (o .mul (o .add x s) q)))
-      ≡ o .add (o .add c (o .mul s p)) (o .mul (o .add x s) (o .add p (o .mul x q)))
-  trial c x s p q = simp (normal, L)

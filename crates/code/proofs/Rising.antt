@@ -12,7 +12,7 @@ use lib.ListN.{length, getD, take, drop, List·getD-eq-default, drop-of-length-l
 use lib.Seq.{getD-take, length-take-le, drop-cons}
 use Rattle.laws.proofs.Bools.{and-left, and-right}
 use Rattle.code.specs.Decoded.{rising, risingAbove}
-use Rattle.code.specs.Lists.{Bytes}
+use Rattle.laws.specs.Bytes.{Bytes}
 use Rattle.code.proofs.Roots.{Distinct}
 
 neither : (a b : Bool) → ((a && false) && b) ≡ false

@@ -1,11 +1,11 @@
 -- The root bound: a polynomial of k coefficients that is 0 at k distinct points has all coefficients 0. So two polynomials of
 -- k coefficients that agree at k distinct points are one.
 use Prim.Native.Nat.{ℕ, zero, suc, _<_, _≤_}
-use mathlib.Core.Path.{_≡_, refl, sym, ap, ap₂, subst, _∙_}
+use mathlib.Core.Path.{_≡_, refl, sym, ap, ap₂, _∙_}
 use mathlib.Core.List.{List, [], _∷_}
 use native.Mathlib.Omega.{arith}
 use native.Mathlib.Decide.{decLt}
-use lib.ListN.{length, getD, drop, List·getD-eq-default, drop-of-length-le}
+use lib.ListN.{length, getD, drop, drop-of-length-le}
 use lib.Seq.{ext-getD}
 use Rattle.code.specs.Polynomial.{Operations, value, divided}
 use Rattle.code.proofs.Ring.{Laws, normal, same, no-divisor, not-zero, zero-add, add-self, mul-zero}

@@ -12,18 +12,17 @@ use Rattle.config.specs.declared.Config.{Config}
 use Rattle.config.specs.Config.{boardLength, Valid}
 use Rattle.field.specs.Field.{times, power}
 use Rattle.field.proofs.Laws.{times-one}
-use Rattle.code.specs.Lists.{Bytes}
+use Rattle.laws.specs.Bytes.{Bytes}
 use Rattle.code.specs.Polynomial.{sum}
-use Rattle.code.specs.Element.{bytes, element, elementByte}
-use Rattle.code.specs.Encode.{Encodable}
-use Rattle.code.specs.Decode.{Decodable}
+use Rattle.code.specs.Element.{byteField, element, elementByte}
+use Rattle.code.specs.inner.Calls.{EncodePre, DecodePre}
 use Rattle.code.specs.Decoded.{decoded, rising}
 use Rattle.code.proofs.Decoding.{length-element, element-at, length-decoded, bytes-decoded, encode-decoded}
-use Rattle.code.proofs.Parts.{copied}
+use Rattle.code.proofs.Lent.{copied}
 
-one-term : (f : ℕ → ℕ) (k : ℕ) → k ≡ 1 → sum bytes k f ≡ f 0
+one-term : (f : ℕ → ℕ) (k : ℕ) → k ≡ 1 → sum byteField k f ≡ f 0
 unfolding sum
-one-term f k e = ap (λ n. sum bytes n f) e ∙ xor-zero-l (f 0)
+one-term f k e = ap (λ n. sum byteField n f) e ∙ xor-zero-l (f 0)
 
 pub element-one : (cfg : Config) (board : List ℕ) (s : ℕ) → cfg .k ≡ 1 → length board ≡ cfg .e → Bytes board → element cfg board s ≡ board
 unfolding elementByte power
@@ -35,11 +34,11 @@ element-one cfg board s one lb b =
     ∙ times-one (getD board j 0) (b j))
 
 -- an encoder's buffer has the board's length
-pub same-size : (cfg : Config) (board s buffer : ℕ) → Encodable cfg board s buffer → cfg .k ≡ 1 → buffer ≡ board
+pub same-size : (cfg : Config) (board s buffer : ℕ) → EncodePre cfg board s buffer → cfg .k ≡ 1 → buffer ≡ board
 same-size cfg board s buffer h one =
     h .buffer-length ∙ sym (h .board-length ∙ ap (λ n. n * cfg .e) one ∙ one-mul (cfg .e))
 
-pub copied-board : (cfg : Config) (board buffer : List ℕ) (s n : ℕ) → Encodable cfg (length board) s (length buffer) → cfg .k ≡ 1 → Bytes board
+pub copied-board : (cfg : Config) (board buffer : List ℕ) (s n : ℕ) → EncodePre cfg (length board) s (length buffer) → cfg .k ≡ 1 → Bytes board
     → n ≡ length board → take n board ++ drop n buffer ≡ element cfg board s
 copied-board cfg board buffer s n h one b ln =
     copied board buffer n ln (same-size cfg (length board) s (length buffer) h one)
@@ -52,13 +51,13 @@ one-byte (b ∷ []) (a ∷ []) h l = refl
 one-byte (b ∷ []) (a ∷ c ∷ buffer) h l = absurd (omega arith)
 one-byte (b ∷ c ∷ board) buffer h l = absurd (omega arith)
 
-pub copied-byte : (cfg : Config) (board buffer : List ℕ) (s : ℕ) → Encodable cfg (length board) s (length buffer) → cfg .k ≡ 1 → Bytes board
+pub copied-byte : (cfg : Config) (board buffer : List ℕ) (s : ℕ) → EncodePre cfg (length board) s (length buffer) → cfg .k ≡ 1 → Bytes board
     → length board ≡ 1 → set buffer 0 (getD board 0 0) ≡ element cfg board s
 copied-byte cfg board buffer s h one b l =
     one-byte board buffer l (same-size cfg (length board) s (length buffer) h one)
     ∙ sym (element-one cfg board s one (sym (same-size cfg (length board) s (length buffer) h one) ∙ h .buffer-length) b)
 
-module _ (cfg : Config) (servers elements buffer : List ℕ) (d : Decodable cfg servers (length elements) (length buffer)) (one : cfg .k ≡ 1) where
+module _ (cfg : Config) (servers elements buffer : List ℕ) (d : DecodePre cfg servers (length elements) (length buffer)) (one : cfg .k ≡ 1) where
   size : boardLength cfg ≡ cfg .e
   size = ap (λ n. n * cfg .e) one ∙ omega arith
 

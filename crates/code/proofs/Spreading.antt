@@ -7,21 +7,22 @@ use native.Mathlib.Nat.{mul-le-mul}
 use lib.Arith.{digits-div, digits-mod}
 use lib.ListN.{length, getD, take, drop}
 use Rattle.field.specs.Field.{plus, times}
-use Rattle.code.specs.Lists.{listOf}
-use Rattle.code.specs.Row.{added}
-use Rattle.code.specs.Table.{Spreadable, spread}
+use Rattle.laws.specs.Bytes.{tabulate}
+use Rattle.code.specs.inner.Row.{added}
+use Rattle.code.specs.inner.Table.{SpreadPre, spread}
 use Rattle.code.proofs.Filled.{filled, filled-none, filled-all, filled-rest, turn-part}
-use Rattle.code.proofs.Listed.{listOf-cong}
-use Rattle.code.proofs.Parts.{part, part-at, part-length, row-inside}
+use Rattle.laws.proofs.Bytes.{tabulate-cong}
+use Rattle.code.proofs.Lent.{lentRow, lent-row-at, lent-row-length}
+use Rattle.laws.proofs.Parts.{part-fits}
 
 -- byte m of the board, with its row's coefficient times x
 unfoldable pub each : List (List ℕ) → ℕ → List ℕ → List ℕ → ℕ → ℕ
 each rows r x board m = plus (getD board m 0) (times (getD (getD rows (m / length x) []) r 0) (getD x (m % length x) 0))
 
-module _ (k r : ℕ) (x table board : List ℕ) (h : Spreadable k r x table board) where
+module _ (k r : ℕ) (x table board : List ℕ) (h : SpreadPre k r x table board) where
   -- a row lies within the board, which is short
   pub row-fits : (i : ℕ) → i < k → (i * length x + length x ≤ k * length x) × (k * length x ≤ 1024) × (i < 16)
-  row-fits i l = omega (arith, row-inside k (length x) i l, mul-le-mul (h .k-high) (h .e-high), h .k-high)
+  row-fits i l = omega (arith, part-fits i k (length x) l, mul-le-mul (h .k-high) (h .e-high), h .k-high)
 
   module _ (rows : List (List ℕ)) where
     pub spread-none : board ≡ filled (each rows r x board) (0 * length x) board
@@ -30,16 +31,16 @@ module _ (k r : ℕ) (x table board : List ℕ) (h : Spreadable k r x table boar
 
     pub spread-more : (i n : ℕ) (now row : List ℕ) → i < k → length now ≡ k * length x → n ≡ length x
         → now ≡ filled (each rows r x board) (i * length x) board
-        → row ≡ added (part (length x) now i) (getD (getD rows i []) r 0) x
+        → row ≡ added (lentRow (length x) now i) (getD (getD rows i []) r 0) x
         → take (i * length x) now ++ (row ++ drop n (drop (i * length x) now)) ≡ filled (each rows r x board) ((i + 1) * length x) board
     unfolding added each
     spread-more i n now row l ln e hn hr =
         turn-part (each rows r x board) (i * length x) (length x) n board now row hn inside e
         (hr
-        ∙ ap (λ n. listOf n (λ j. plus (getD (part (length x) now i) j 0) (times c (getD x j 0))))
-        (part-length k (length x) i now l (omega arith))
-        ∙ listOf-cong (length x)
-        (λ j. plus (getD (part (length x) now i) j 0) (times c (getD x j 0)))
+        ∙ ap (λ n. tabulate n (λ j. plus (getD (lentRow (length x) now i) j 0) (times c (getD x j 0))))
+        (lent-row-length k (length x) i now l (omega arith))
+        ∙ tabulate-cong (length x)
+        (λ j. plus (getD (lentRow (length x) now i) j 0) (times c (getD x j 0)))
         (λ j. each rows r x board (i * length x + j))
         (λ j lj. ap₂ plus (as-it-was j lj)
         (ap₂ (λ a b. times (getD (getD rows a []) r 0) (getD x b 0)) (sym (digits-div i lj)) (sym (digits-mod i lj)))))
@@ -51,9 +52,9 @@ module _ (k r : ℕ) (x table board : List ℕ) (h : Spreadable k r x table boar
         inside : i * length x + length x ≤ length board
         inside = omega (arith, h .size, row-fits i l)
 
-        as-it-was : (j : ℕ) → j < length x → getD (part (length x) now i) j 0 ≡ getD board (i * length x + j) 0
+        as-it-was : (j : ℕ) → j < length x → getD (lentRow (length x) now i) j 0 ≡ getD board (i * length x + j) 0
         as-it-was j lj =
-            part-at (length x) i j now lj
+            lent-row-at (length x) i j now lj
             ∙ ap (λ b. getD b (i * length x + j) 0) hn
             ∙ filled-rest (each rows r x board) (i * length x) (i * length x + j) board 0 (omega arith) (omega (arith, inside))
 

@@ -9,8 +9,8 @@ use lib.ListN.{getD}
 use lib.Bits.{xor-shifted}
 use Rattle.field.specs.Field.{plus, times, double, doubled}
 use Rattle.field.proofs.Laws.{times-plus-left, times-zero-left, times-one-left, times-doubled}
-use Rattle.code.specs.Multiples.{Multiples}
-use Rattle.code.specs.Table.{place, Ready, Placed, Rows}
+use Rattle.code.specs.inner.Doubles.{ByDoublesPre}
+use Rattle.code.specs.inner.Table.{place, Ready, PlacePost, Rows}
 use Rattle.code.proofs.Digits.{doublings}
 use Rattle.code.proofs.Written.{written, found, length-written, written-here, written-there}
 
@@ -42,7 +42,7 @@ module _ (x x1 x2 x3 x4 x5 x6 x7 : ℕ) where
       (0 ∷ x ∷ x1 ∷ plus x x1 ∷ 0 ∷ x2 ∷ x3 ∷ plus x2 x3 ∷ 0 ∷ x4 ∷ x5 ∷ plus x4 x5 ∷ 0 ∷ x6 ∷ x7 ∷ plus x6 x7 ∷ [])
       n 0
 
-  module _ (m : Multiples x x1 x2 x3 x4 x5 x6 x7) (hx : x < 256) (table : List ℕ) (r : Ready table) (j : ℕ) (hj : j < 64) where
+  module _ (m : ByDoublesPre x x1 x2 x3 x4 x5 x6 x7) (hx : x < 256) (table : List ℕ) (r : Ready table) (j : ℕ) (hj : j < 64) where
     after : List ℕ
     after = written rows multiple j table
 
@@ -92,7 +92,7 @@ module _ (x x1 x2 x3 x4 x5 x6 x7 : ℕ) where
       | no a ↦ there d 0 i hi a ∙ r .clear d i hd hi
     ]
 
-    pub placed : Placed table j x (written rows multiple j table)
+    pub placed : PlacePost table j x (written rows multiple j table)
     unfolding after Row
     placed =
         record {
@@ -103,7 +103,7 @@ module _ (x x1 x2 x3 x4 x5 x6 x7 : ℕ) where
 
 -- ---- an element's rows
 
-pub rows-more : (x table after : List ℕ) (j : ℕ) → j < 64 → Rows j x table → Placed table j (getD x j 0) after → Rows (j + 1) x after
+pub rows-more : (x table after : List ℕ) (j : ℕ) → j < 64 → Rows j x table → PlacePost table j (getD x j 0) after → Rows (j + 1) x after
 rows-more x table after j hj h p d v i hd hv hi = elim (ℕ-discrete i j) as (λ _. getD after (place d v i) 0 ≡ times (v * 4 ^ d) (getD x i 0)) [
   | yes e ↦ rw e (p .here d v hd hv)
   | no a ↦ p .there d v i (omega arith) a ∙ h d v i hd hv (omega arith)

@@ -4,9 +4,9 @@ use mathlib.Core.Path.{_≡_, refl, sym, ap, ap₂, _∙_}
 use mathlib.Core.List.{List, [], _∷_}
 use native.Mathlib.Omega.{arith}
 use lib.ListN.{length, getD, drop}
-use Rattle.code.specs.Lists.{listOf}
-use Rattle.code.specs.Polynomial.{Operations, sum, power, value, scaled}
-use Rattle.code.proofs.Listed.{length-listOf, getD-listOf}
+use Rattle.laws.specs.Bytes.{tabulate}
+use Rattle.code.specs.Polynomial.{Operations, sum, powerIn, value, scaled}
+use Rattle.laws.proofs.Bytes.{length-tabulate, getD-tabulate}
 use Rattle.code.proofs.Ring.{Laws, normal, mul-one, mul-zero, mul-left-comm}
 use Rattle.code.proofs.Sums.{sum-cong, sum-front, sum-mul}
 
@@ -19,28 +19,28 @@ value-drop o (c ∷ p) zero x h = refl
 value-drop o (c ∷ p) (suc i) x h = value-drop o p i x (omega arith)
 
 module _ {F : Type 0} (o : Operations F) (L : Laws o) where
-  pub value-sum : (p : List F) (x : F) → value o p x ≡ sum o (length p) (λ i. o .mul (getD p i (o .nought)) (power o x i))
-  unfolding value power sum
+  pub value-sum : (p : List F) (x : F) → value o p x ≡ sum o (length p) (λ i. o .mul (getD p i (o .nought)) (powerIn o x i))
+  unfolding value powerIn sum
   value-sum [] x = refl
   value-sum (c ∷ p) x =
       ap₂ (o .add) (sym (mul-one o L c))
       (ap (o .mul x) (value-sum p x)
-      ∙ sum-mul o L x (length p) (λ i. o .mul (getD p i (o .nought)) (power o x i))
+      ∙ sum-mul o L x (length p) (λ i. o .mul (getD p i (o .nought)) (powerIn o x i))
       ∙ sum-cong o (length p)
-      (λ i. o .mul x (o .mul (getD p i (o .nought)) (power o x i)))
-      (λ i. o .mul (getD p i (o .nought)) (o .mul x (power o x i)))
-      (λ i h. mul-left-comm o L x (getD p i (o .nought)) (power o x i))
+      (λ i. o .mul x (o .mul (getD p i (o .nought)) (powerIn o x i)))
+      (λ i. o .mul (getD p i (o .nought)) (o .mul x (powerIn o x i)))
+      (λ i h. mul-left-comm o L x (getD p i (o .nought)) (powerIn o x i))
       )
-      ∙ sym (sum-front o L (length p) (λ i. o .mul (getD (c ∷ p) i (o .nought)) (power o x i)))
+      ∙ sym (sum-front o L (length p) (λ i. o .mul (getD (c ∷ p) i (o .nought)) (powerIn o x i)))
 
-  pub value-listOf : (n : ℕ) (f : ℕ → F) (x : F) → value o (listOf n f) x ≡ sum o n (λ i. o .mul (f i) (power o x i))
-  value-listOf n f x =
-      value-sum (listOf n f) x
-      ∙ ap (λ m. sum o m (λ i. o .mul (getD (listOf n f) i (o .nought)) (power o x i))) (length-listOf n f)
+  pub value-tabulate : (n : ℕ) (f : ℕ → F) (x : F) → value o (tabulate n f) x ≡ sum o n (λ i. o .mul (f i) (powerIn o x i))
+  value-tabulate n f x =
+      value-sum (tabulate n f) x
+      ∙ ap (λ m. sum o m (λ i. o .mul (getD (tabulate n f) i (o .nought)) (powerIn o x i))) (length-tabulate n f)
       ∙ sum-cong o n
-      (λ i. o .mul (getD (listOf n f) i (o .nought)) (power o x i))
-      (λ i. o .mul (f i) (power o x i))
-      (λ i h. ap (λ c. o .mul c (power o x i)) (getD-listOf n f i (o .nought) h))
+      (λ i. o .mul (getD (tabulate n f) i (o .nought)) (powerIn o x i))
+      (λ i. o .mul (f i) (powerIn o x i))
+      (λ i h. ap (λ c. o .mul c (powerIn o x i)) (getD-tabulate n f i (o .nought) h))
 
   scaled-step : (a c x y : F) → o .add (o .mul a c) (o .mul x (o .mul a y)) ≡ o .mul a (o .add c (o .mul x y))
   scaled-step a c x y = simp (normal, L)

@@ -1,13 +1,13 @@
 -- What the call `decode` answers.
-use Prim.Native.Nat.{ℕ, _*_, _≤_}
-use mathlib.Core.Bool.{_&&_, cond, true}
+use Prim.Native.Nat.{ℕ, _*_}
+use mathlib.Core.Bool.{_&&_, cond}
 use mathlib.Core.Path.{_≡_}
 use mathlib.Core.List.{List, [], _∷_, _++_}
 use lib.Dec.{eqb, leb}
 use lib.ListN.{length}
 use Rattle.config.specs.declared.Config.{Config}
 use Rattle.config.specs.declared.Verdict.{Verdict}
-use Rattle.config.specs.Config.{questions, boardLength, Valid}
+use Rattle.config.specs.Config.{questions, boardLength}
 use Rattle.config.specs.Questions.{Question, ask, firstNo}
 use Rattle.config.specs.Refusal.{verdictNumber}
 use Rattle.code.specs.Decoded.{decoded, rising}
@@ -27,11 +27,3 @@ pub record DecodePost (cfg : Config) (servers elements before after : List ℕ) 
   pub number : verdictNumber r ≡ firstNo (decodeQuestions cfg servers (length elements) (length before))
   pub buffer : after
       ≡ cond (eqb (firstNo (decodeQuestions cfg servers (length elements) (length before))) 0) (decoded cfg servers elements) before
-
--- what the questions show where all are answered yes
-pub record Decodable (cfg : Config) (servers : List ℕ) (elements buffer : ℕ) : Type 0 where
-  pub valid : Valid cfg
-  pub elements-length : elements ≡ length servers * cfg .e
-  pub buffer-length : buffer ≡ boardLength cfg
-  pub rises : rising (cfg .n) servers ≡ true
-  pub enough : cfg .k ≤ length servers

@@ -6,8 +6,8 @@ use lib.Dec.{ltb, leb}
 use lib.ListN.{getD, take}
 use Rattle.config.specs.declared.Config.{Config}
 use Rattle.config.specs.Config.{boardLength}
-use Rattle.code.specs.Element.{bytes}
-use Rattle.code.specs.Lists.{listOf, joined}
+use Rattle.code.specs.Element.{byteField}
+use Rattle.laws.specs.Bytes.{tabulate, joined}
 use Rattle.code.specs.Polynomial.{interpolated}
 
 -- each number is above the one before, the first above `low`, and none is above n
@@ -23,12 +23,12 @@ rising n servers = risingAbove n 0 servers
 -- and uses the first k." Board byte i × E + j is coefficient i of the polynomial of k coefficients whose value at server r of the
 -- first k is byte j of element r; the elements stand one after the other.
 unfoldable pub decodedByte : ℕ → ℕ → List ℕ → List ℕ → ℕ → ℕ → ℕ
-decodedByte k e servers elements i j = interpolated bytes (take k servers) (λ r. getD elements (r * e + j) 0) i
+decodedByte k e servers elements i j = interpolated byteField (take k servers) (λ r. getD elements (r * e + j) 0) i
 
 -- the V bytes of the board
 unfoldable pub decoded : Config → List ℕ → List ℕ → List ℕ
 decoded cfg servers elements =
-    listOf (boardLength cfg) (λ m. decodedByte (cfg .k) (cfg .e) servers elements (m / cfg .e) (m % cfg .e))
+    tabulate (boardLength cfg) (λ m. decodedByte (cfg .k) (cfg .e) servers elements (m / cfg .e) (m % cfg .e))
 
 -- the same of server numbers, each with its element
 unfoldable pub decodedPairs : Config → List (ℕ × List ℕ) → List ℕ

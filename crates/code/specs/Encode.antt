@@ -1,5 +1,5 @@
 -- What the call `encode` answers.
-use Prim.Native.Nat.{ℕ, _≤_}
+use Prim.Native.Nat.{ℕ}
 use mathlib.Core.Bool.{_&&_, cond}
 use mathlib.Core.Path.{_≡_}
 use mathlib.Core.List.{List, [], _∷_, _++_}
@@ -7,7 +7,7 @@ use lib.Dec.{eqb}
 use lib.ListN.{length}
 use Rattle.config.specs.declared.Config.{Config}
 use Rattle.config.specs.declared.Verdict.{Verdict}
-use Rattle.config.specs.Config.{questions, boardLength, Valid}
+use Rattle.config.specs.Config.{questions, boardLength}
 use Rattle.config.specs.Questions.{Question, ask, within, firstNo}
 use Rattle.config.specs.Refusal.{verdictNumber}
 use Rattle.code.specs.Element.{element}
@@ -24,11 +24,3 @@ encodeQuestions cfg board s buffer =
 pub record EncodePost (cfg : Config) (board : List ℕ) (s : ℕ) (before after : List ℕ) (r : Verdict) : Type 0 where
   pub number : verdictNumber r ≡ firstNo (encodeQuestions cfg (length board) s (length before))
   pub buffer : after ≡ cond (eqb (firstNo (encodeQuestions cfg (length board) s (length before))) 0) (element cfg board s) before
-
--- what the questions show where all are answered yes
-pub record Encodable (cfg : Config) (board s buffer : ℕ) : Type 0 where
-  pub valid : Valid cfg
-  pub board-length : board ≡ boardLength cfg
-  pub buffer-length : buffer ≡ cfg .e
-  pub server-low : 1 ≤ s
-  pub server-high : s ≤ cfg .n

@@ -2,9 +2,5 @@ pub mod Decode
 pub mod Decoded
 pub mod Element
 pub mod Encode
-pub mod Lanes
-pub mod Lists
-pub mod Multiples
+pub mod inner
 pub mod Polynomial
-pub mod Row
-pub mod Table

@@ -18,9 +18,9 @@ module _ {F : Type 0} (o : Operations F) where
   sum (suc n) f = o .add (sum n f) (f n)
 
   -- x to the power i; power 0 is 1
-  unfoldable pub power : F → ℕ → F
-  power x zero = o .unit
-  power x (suc i) = o .mul x (power x i)
+  unfoldable pub powerIn : F → ℕ → F
+  powerIn x zero = o .unit
+  powerIn x (suc i) = o .mul x (powerIn x i)
 
   -- the value of a polynomial at x, by Horner's rule
   unfoldable pub value : List F → F → F

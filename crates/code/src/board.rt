@@ -2,13 +2,13 @@
 ghost use mathlib.Core.Path.{_≡_};
 ghost use lib.ListN.{length};
 ghost use Rattle.code.specs.Decoded.{decoded};
-ghost use Rattle.code.specs.Decode.{Decodable};
-ghost use Rattle.code.specs.Table.{Spread, Spreadable};
+ghost use Rattle.code.specs.inner.Calls.{DecodePre};
+ghost use Rattle.code.specs.inner.Table.{SpreadPost, SpreadPre};
 use config::Config;
 
 // Of one server, the board is its element.
 pub(crate) fn decode(cfg: Config, servers: &[u8], elements: &[u8], buffer: &mut [u8])
-    requires { ⌜ Decodable cfg (now servers) (length (now elements)) (length (now buffer)) ⌝ }
+    requires { ⌜ DecodePre cfg (now servers) (length (now elements)) (length (now buffer)) ⌝ }
     ensures { λ _. ⌜ now (buffer .exit) ≡ decoded cfg (now (servers .entry)) (now (elements .entry)) ⌝ }
 {
     let e = cfg.e;
@@ -20,7 +20,7 @@ pub(crate) fn decode(cfg: Config, servers: &[u8], elements: &[u8], buffer: &mut 
 }
 
 fn interpolate(cfg: Config, servers: &[u8], elements: &[u8], buffer: &mut [u8])
-    requires { ⌜ Decodable cfg (now servers) (length (now elements)) (length (now buffer)) ⌝ }
+    requires { ⌜ DecodePre cfg (now servers) (length (now elements)) (length (now buffer)) ⌝ }
     ensures { λ _. ⌜ now (buffer .exit) ≡ decoded cfg (now (servers .entry)) (now (elements .entry)) ⌝ }
 {
     let k = cfg.k;
@@ -45,8 +45,8 @@ fn spread(
     table: &mut [u8],
     board: &mut [u8],
 )
-    requires { ⌜ Spreadable k r (now x) (now table) (now board) ⌝ }
-    ensures { λ _. ⌜ Spread (now (inverse .entry)) r (now (x .entry)) (now (board .entry)) (now (board .exit)) (now (table .exit)) ⌝ }
+    requires { ⌜ SpreadPre k r (now x) (now table) (now board) ⌝ }
+    ensures { λ _. ⌜ SpreadPost (now (inverse .entry)) r (now (x .entry)) (now (board .entry)) (now (board .exit)) (now (table .exit)) ⌝ }
 {
     let e = x.len();
     crate::row::multiply(x, table);

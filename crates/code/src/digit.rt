@@ -2,10 +2,10 @@
 ghost use mathlib.Core.Path.{_≡_};
 ghost use Prim.Native.Nat.{_%_, _*_, _/_, _<_, _≤_};
 ghost use Rattle.field.specs.Field.{times};
-ghost use Rattle.code.specs.Multiples.{Multiples};
+ghost use Rattle.code.specs.inner.Doubles.{ByDoublesPre};
 
 // x where the last digit of d is 1, else 0
-fn kept(x: u8, d: u8) -> u8
+fn masked(x: u8, d: u8) -> u8
     ensures { λ r. ⌜ r ≡ d % 2 * x ⌝ }
 {
     x & ((d % 2) * 255)
@@ -16,7 +16,7 @@ fn next(a: u8, x: u8, c: u8) -> u8
     requires { ⌜ a ≡ times x (c / 2) ⌝ }
     ensures { λ r. ⌜ r ≡ times x c ⌝ }
 {
-    field::double(a) ^ kept(x, c)
+    field::double(a) ^ masked(x, c)
 }
 
 // s times x for a server number s, by at most four doublings
@@ -49,16 +49,16 @@ pub(crate) fn small(s: u8, x: u8) -> u8
     let x2 = field::double(x1);
     let x3 = field::double(x2);
     let x4 = field::double(x3);
-    kept(x, s) ^ kept(x1, s / 2) ^ kept(x2, s / 4) ^ kept(x3, s / 8) ^ kept(x4, s / 16)
+    masked(x, s) ^ masked(x1, s / 2) ^ masked(x2, s / 4) ^ masked(x3, s / 8) ^ masked(x4, s / 16)
 }
 
 // c times x, of c doubled none to seven times
-pub(crate) fn sum(x: u8, c: u8, c1: u8, c2: u8, c3: u8, c4: u8, c5: u8, c6: u8, c7: u8) -> u8
-    requires { ⌜ Multiples c c1 c2 c3 c4 c5 c6 c7 ⌝ }
+pub(crate) fn by_doubles(x: u8, c: u8, c1: u8, c2: u8, c3: u8, c4: u8, c5: u8, c6: u8, c7: u8) -> u8
+    requires { ⌜ ByDoublesPre c c1 c2 c3 c4 c5 c6 c7 ⌝ }
     ensures { λ r. ⌜ r ≡ times c x ⌝ }
 {
-    let low = kept(c, x) ^ kept(c1, x / 2) ^ kept(c2, x / 4) ^ kept(c3, x / 8);
-    low ^ kept(c4, x / 16) ^ kept(c5, x / 32) ^ kept(c6, x / 64) ^ kept(c7, x / 128)
+    let low = masked(c, x) ^ masked(c1, x / 2) ^ masked(c2, x / 4) ^ masked(c3, x / 8);
+    low ^ masked(c4, x / 16) ^ masked(c5, x / 32) ^ masked(c6, x / 64) ^ masked(c7, x / 128)
 }
 
 // c times x, neither of which need be the same in a loop
@@ -72,5 +72,5 @@ pub(crate) fn product(c: u8, x: u8) -> u8
     let c5 = field::double(c4);
     let c6 = field::double(c5);
     let c7 = field::double(c6);
-    sum(x, c, c1, c2, c3, c4, c5, c6, c7)
+    by_doubles(x, c, c1, c2, c3, c4, c5, c6, c7)
 }

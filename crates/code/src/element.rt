@@ -2,12 +2,12 @@
 ghost use mathlib.Core.Path.{_≡_};
 ghost use lib.ListN.{length};
 ghost use Rattle.code.specs.Element.{element};
-ghost use Rattle.code.specs.Encode.{Encodable};
+ghost use Rattle.code.specs.inner.Calls.{EncodePre};
 use config::Config;
 
 // Of one row, the element is the board; one byte needs no loop.
 pub(crate) fn encode(cfg: Config, board: &[u8], s: u8, buffer: &mut [u8])
-    requires { ⌜ Encodable cfg (length (now board)) s (length (now buffer)) ⌝ }
+    requires { ⌜ EncodePre cfg (length (now board)) s (length (now buffer)) ⌝ }
     ensures { λ _. ⌜ now (buffer .exit) ≡ element cfg (now (board .entry)) s ⌝ }
 {
     if cfg.k == 1 {
@@ -22,7 +22,7 @@ pub(crate) fn encode(cfg: Config, board: &[u8], s: u8, buffer: &mut [u8])
 }
 
 fn evaluate(cfg: Config, board: &[u8], s: u8, buffer: &mut [u8])
-    requires { ⌜ Encodable cfg (length (now board)) s (length (now buffer)) ⌝ }
+    requires { ⌜ EncodePre cfg (length (now board)) s (length (now buffer)) ⌝ }
     ensures { λ _. ⌜ now (buffer .exit) ≡ element cfg (now (board .entry)) s ⌝ }
 {
     let k = cfg.k;

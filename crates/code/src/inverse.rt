@@ -5,11 +5,11 @@ ghost use mathlib.Core.Path.{_≡_};
 ghost use Prim.Native.Nat.{ℕ, _<_, _≤_};
 ghost use lib.ListN.{getD, length};
 ghost use Rattle.field.specs.Field.{inverseOf};
-ghost use Rattle.code.specs.Lanes.{Inverse, Scaled, Small, Usable, advanced, firstRoots, numbers, rootedOnce, scaledLanes};
+ghost use Rattle.code.specs.inner.Lanes.{InvertPost, ScalePost, AdvancePre, InvertPre, advanced, firstRoots, numbers, rootedOnce, scaledLanes};
 
 // in each lane s times x, plus c
 fn advance(x: [u8; 16], s: [u8; 16], c: [u8; 16]) -> [u8; 16]
-    requires { ⌜ Small s ⌝ }
+    requires { ⌜ AdvancePre s ⌝ }
     ensures { λ r. ⌜ r ≡ advanced x s c ⌝ }
 {
     let mut r = [0u8; 16];
@@ -51,7 +51,7 @@ fn root(p: [u8; 16], s: u8) -> [u8; 16]
 
 // the first 16 coefficients of the product of all (x + s)
 fn roots(k: usize, servers: &[u8]) -> [u8; 16]
-    requires { ⌜ Usable k (now servers) ⌝ }
+    requires { ⌜ InvertPre k (now servers) ⌝ }
     ensures { λ r. ⌜ r ≡ firstRoots k (now (servers .entry)) ⌝ }
 {
     let mut p = [0u8; 16];
@@ -68,7 +68,7 @@ fn roots(k: usize, servers: &[u8]) -> [u8; 16]
 
 // the numbers of the servers used, one in a lane
 fn lanes(k: usize, servers: &[u8]) -> [u8; 16]
-    requires { ⌜ Usable k (now servers) ⌝ }
+    requires { ⌜ InvertPre k (now servers) ⌝ }
     ensures { λ r. ⌜ r ≡ numbers k (now (servers .entry)) ⌝ }
 {
     let mut s = [0u8; 16];
@@ -95,8 +95,8 @@ fn inverted(k: usize, v: [u8; 16]) -> [u8; 16]
 }
 
 pub(crate) fn invert(k: usize, servers: &[u8]) -> [[u8; 16]; 16]
-    requires { ⌜ Usable k (now servers) ⌝ }
-    ensures { λ r. ⌜ Inverse k (now (servers .entry)) r ⌝ }
+    requires { ⌜ InvertPre k (now servers) ⌝ }
+    ensures { λ r. ⌜ InvertPost k (now (servers .entry)) r ⌝ }
 {
     let s = lanes(k, servers);
     let p = roots(k, servers);
@@ -121,7 +121,7 @@ pub(crate) fn invert(k: usize, servers: &[u8]) -> [[u8; 16]; 16]
 // the first k rows, each lane scaled by its own
 fn scale(k: usize, d: [u8; 16], rows: &mut [[u8; 16]; 16])
     requires { ⌜ (k ≤ 16) × (length (now rows) ≡ 16) ⌝ }
-    ensures { λ _. ⌜ Scaled k d (now (rows .entry)) (now (rows .exit)) ⌝ }
+    ensures { λ _. ⌜ ScalePost k d (now (rows .entry)) (now (rows .exit)) ⌝ }
 {
     let mut i = 0;
     while i < k {

@@ -21,10 +21,7 @@ pub(crate) fn encode(cfg: Config, board: usize, s: u8, buffer: usize) -> u8
     if buffer != cfg.e {
         return 6;
     }
-    if s < 1 {
-        return 18;
-    }
-    if cfg.n < s as usize {
+    if !cfg.server_exists(s as usize) {
         return 18;
     }
     0

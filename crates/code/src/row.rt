@@ -3,8 +3,8 @@ ghost use mathlib.Core.Path.{_≡_};
 ghost use Prim.Native.Nat.{ℕ, _<_, _≤_};
 ghost use mathlib.Core.List.{List};
 ghost use lib.ListN.{length};
-ghost use Rattle.code.specs.Row.{added, stepped, zeros};
-ghost use Rattle.code.specs.Table.{Multiplied, Placed, Ready};
+ghost use Rattle.code.specs.inner.Row.{added, stepped, zeros};
+ghost use Rattle.code.specs.inner.Table.{MultiplyPost, PlacePost, Ready};
 
 // s times the row, plus another: one step of Horner's rule
 pub(crate) fn step(row: &mut [u8], s: u8, more: &[u8])
@@ -22,7 +22,7 @@ pub(crate) fn step(row: &mut [u8], s: u8, more: &[u8])
 // number 0 are clear already.
 fn place(j: usize, x: u8, table: &mut [u8])
     requires { ⌜ Ready (now table) × (j < 64) ⌝ }
-    ensures { λ _. ⌜ Placed (now (table .entry)) j x (now (table .exit)) ⌝ }
+    ensures { λ _. ⌜ PlacePost (now (table .entry)) j x (now (table .exit)) ⌝ }
 {
     let x1 = field::double(x);
     let x2 = field::double(x1);
@@ -48,7 +48,7 @@ fn place(j: usize, x: u8, table: &mut [u8])
 // the multiples of an element, row by row of a table
 pub(crate) fn multiply(x: &[u8], table: &mut [u8])
     requires { ⌜ Ready (now table) × (length (now x) ≤ 64) ⌝ }
-    ensures { λ _. ⌜ Multiplied (now (x .entry)) (now (table .exit)) ⌝ }
+    ensures { λ _. ⌜ MultiplyPost (now (x .entry)) (now (table .exit)) ⌝ }
 {
     let mut j = 0;
     while j < x.len() {
@@ -60,7 +60,7 @@ pub(crate) fn multiply(x: &[u8], table: &mut [u8])
 // adds c times x to a row, from the multiples of x: one row of the table for every two binary digits of c
 pub(crate) fn add(row: &mut [u8], c: u8, table: &[u8])
     requires { ⌜ (length (now row) ≤ 64) × (length (now table) ≡ 1024) ⌝ }
-    ensures { λ _. ⌜ ((x : List ℕ) → length x ≡ length (now (row .entry)) → Multiplied x (now (table .entry)) → now (row .exit) ≡ added (now (row .entry)) c x) ⌝ }
+    ensures { λ _. ⌜ ((x : List ℕ) → length x ≡ length (now (row .entry)) → MultiplyPost x (now (table .entry)) → now (row .exit) ≡ added (now (row .entry)) c x) ⌝ }
 {
     let at0 = 64 * (c % 4) as usize;
     let at1 = 256 + 64 * (c / 4 % 4) as usize;

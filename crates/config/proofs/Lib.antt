@@ -1,3 +1,5 @@
-pub mod Number
+mod Number
 pub mod Questions
+pub mod Refusals
+pub mod Sizes
 pub mod Valid

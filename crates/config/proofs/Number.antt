@@ -1,31 +1,18 @@
--- The answers of a constructor, after questions `first` and the last, 8: refused by the first, refused by the last, made.
--- Assumes nothing.
-use mathlib.Core.Path.{_≡_, refl, sym, _∙_, ap}
-use mathlib.Core.Bool.{Bool, true, false, cond}
-use mathlib.Core.List.{List, [], _∷_, _++_}
-use Prim.Native.Nat.{ℕ, _≤_}
-use native.Mathlib.Omega.{arith}
+-- The answers of a constructor, by the first no of its questions: refused, or made. Assumes nothing.
+use mathlib.Core.Path.{_≡_, sym, _∙_}
+use mathlib.Core.Bool.{true}
+use mathlib.Core.List.{List}
+use Prim.Native.Nat.{ℕ}
 use borrow.Author.Tests.{eq-eqb, ne-eqb}
-use lib.Dec.{eqb}
-use Rattle.config.specs.Questions.{Question, ask, firstNo, numbered}
+use Rattle.config.specs.Number.{NewPost}
+use Rattle.config.specs.Questions.{Question, firstNo, numbered}
 use Rattle.config.specs.Refusal.{clamped}
-use Rattle.config.proofs.Questions.{firstNo-stop, firstNo-high, last-yes, last-no}
+use Rattle.config.proofs.Refusals.{refusal-is}
 
-abbrev pub Answered : List Question → ℕ → ℕ → ℕ → Type 0
-Answered qs x number made = (number ≡ firstNo qs) × (made ≡ cond (eqb (firstNo qs) 0) x 0)
+module _ (qs : List Question) (x : ℕ) {asked : ℕ} (e : asked ≡ firstNo qs) where
+  pub not-made : numbered qs ≡ true → (asked ≡ 0 → ⊥) → {number : ℕ} → number ≡ clamped asked → NewPost qs x number 0
+  not-made known some h =
+      record { number = refusal-is qs known e some h; made = rw (ne-eqb (firstNo qs) 0 (λ z. some (e ∙ z))) }
 
-module _ (first : List Question) (known : numbered first ≡ true) (holds : Bool) (x : ℕ) where
-  abbrev all : List Question
-  all = first ++ ask 8 holds ∷ []
-
-  pub refused-first : (asked number : ℕ) → asked ≡ firstNo first → (asked ≡ 0 → ⊥) → number ≡ clamped asked → Answered all x number 0
-  refused-first asked number e some c =
-      let stop : firstNo all ≡ firstNo first = firstNo-stop first (ask 8 holds ∷ []) (λ z. some (e ∙ z)) in
-      let ne : firstNo all ≡ 0 → ⊥ = λ z. some (e ∙ sym stop ∙ z) in
-      (omega (arith, firstNo-high first known), rw (ne-eqb (firstNo all) 0 ne))
-
-  pub refused-last : firstNo first ≡ 0 → holds ≡ false → Answered all x 8 0
-  refused-last none h = rw (last-no first 8 holds known none h) (refl, refl)
-
-  pub made-one : firstNo first ≡ 0 → holds ≡ true → Answered all x 0 x
-  made-one none h = rw (last-yes first 8 holds known none h) (refl, refl)
+  pub made : asked ≡ 0 → NewPost qs x 0 x
+  made none = record { number = sym none ∙ e; made = rw (eq-eqb (firstNo qs) 0 (sym e ∙ none)) }

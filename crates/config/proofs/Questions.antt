@@ -1,15 +1,18 @@
--- A list of questions: its first no, and what all yes tell of a configuration. Assumes nothing.
-use mathlib.Core.Path.{_≡_, refl, sym, _∙_, ap}
-use mathlib.Core.Bool.{Bool, true, false, cond, _&&_}
+-- A list of questions. In order: the test `within`; a question that is answered yes or no; a list and then another; questions 1 to 5
+-- and then the rest; the last question. Assumes nothing.
+use mathlib.Core.Path.{_≡_, refl, sym, _∙_}
+use mathlib.Core.Bool.{Bool, true, false, _&&_}
 use mathlib.Core.List.{List, [], _∷_, _++_}
-use Prim.Native.Nat.{ℕ, zero, suc, _+_, _≤_, _<_}
+use Prim.Native.Nat.{ℕ, _≤_}
 use native.Mathlib.Omega.{arith}
 use borrow.Author.Tests.{leb-true, le-leb}
 use lib.Dec.{leb}
 use Rattle.laws.proofs.Bools.{and-left, and-right}
 use Rattle.config.specs.declared.Config.{Config}
-use Rattle.config.specs.Config.{questions, rigQuestions, Valid}
-use Rattle.config.specs.Questions.{Question, ask, within, firstNo, numbered}
+use Rattle.config.specs.Config.{questions, rigQuestions}
+use Rattle.config.specs.Questions.{Question, ask, within, firstNo, lastQuestion, numbered}
+
+-- ---- within
 
 pub within-low : (low high x : ℕ) → within low high x ≡ true → low ≤ x
 within-low low high x h = leb-true low x (and-left (leb low x) (leb x high) h)
@@ -19,6 +22,8 @@ within-high low high x h = leb-true x high (and-right (leb low x) (leb x high) h
 
 pub within-true : (low high x : ℕ) → low ≤ x → x ≤ high → within low high x ≡ true
 within-true low high x a b = rw (le-leb low x a, le-leb x high b)
+
+-- ---- one question
 
 -- a question that is answered yes is passed over
 pub firstNo-yes : (number : ℕ) (holds : Bool) (rest : List Question) → holds ≡ true → firstNo (ask number holds ∷ rest) ≡ firstNo rest
@@ -32,13 +37,28 @@ unfolding firstNo
 firstNo-no number true rest h = cc
 firstNo-no number false rest h = refl
 
+-- where there is no refusal, a question is answered yes, and so are those behind it
+pub yes-next : (number : ℕ) (holds : Bool) (rest : List Question) → 1 ≤ number → firstNo (ask number holds ∷ rest) ≡ 0
+    → (holds ≡ true) × (firstNo rest ≡ 0)
+unfolding firstNo
+yes-next number true rest low h = (refl, h)
+yes-next number false rest low h = absurd (omega arith)
+
+-- ---- a list of questions, and then another
+
+-- the numbers of a list's first question and of the others
+numbered-first : (number : ℕ) (first : List Question) → (within 1 lastQuestion number && numbered first) ≡ true → within 1 lastQuestion number ≡ true
+numbered-first number first = and-left (within 1 lastQuestion number) (numbered first)
+
+numbered-rest : (number : ℕ) (first : List Question) → (within 1 lastQuestion number && numbered first) ≡ true → numbered first ≡ true
+numbered-rest number first = and-right (within 1 lastQuestion number) (numbered first)
+
 -- where the first questions are all answered yes, the refusal is that of the rest
 pub firstNo-pass : (first rest : List Question) → numbered first ≡ true → firstNo first ≡ 0 → firstNo (first ++ rest) ≡ firstNo rest
 unfolding firstNo numbered
 firstNo-pass [] rest known none = refl
-firstNo-pass (ask number true ∷ first) rest known none = firstNo-pass first rest (and-right (within 1 18 number) (numbered first) known) none
-firstNo-pass (ask number false ∷ first) rest known none =
-    absurd (omega (arith, within-low 1 18 number (and-left (within 1 18 number) (numbered first) known)))
+firstNo-pass (ask number true ∷ first) rest known none = firstNo-pass first rest (numbered-rest number first known) none
+firstNo-pass (ask number false ∷ first) rest known none = absurd (omega (arith, within-low 1 lastQuestion number (numbered-first number first known)))
 
 -- where one of the first is answered no, it is that one's
 pub firstNo-stop : (first rest : List Question) → (firstNo first ≡ 0 → ⊥) → firstNo (first ++ rest) ≡ firstNo first
@@ -47,13 +67,31 @@ firstNo-stop [] rest some = absurd (some refl)
 firstNo-stop (ask number true ∷ first) rest some = firstNo-stop first rest some
 firstNo-stop (ask number false ∷ first) rest some = refl
 
-pub firstNo-high : (qs : List Question) → numbered qs ≡ true → firstNo qs ≤ 18
+-- where all are answered yes, the first are, and the rest
+pub none-first : (first rest : List Question) → firstNo (first ++ rest) ≡ 0 → firstNo first ≡ 0
+unfolding firstNo
+none-first [] rest h = refl
+none-first (ask number true ∷ first) rest h = none-first first rest h
+none-first (ask number false ∷ first) rest h = h
+
+pub none-rest : (first rest : List Question) → numbered first ≡ true → firstNo (first ++ rest) ≡ 0 → firstNo rest ≡ 0
+none-rest first rest known h = sym (firstNo-pass first rest known (none-first first rest h)) ∙ h
+
+-- no refusal's number is above the last question's
+pub firstNo-high : (qs : List Question) → numbered qs ≡ true → firstNo qs ≤ lastQuestion
 unfolding firstNo numbered
 firstNo-high [] known = omega arith
-firstNo-high (ask number true ∷ qs) known = firstNo-high qs (and-right (within 1 18 number) (numbered qs) known)
-firstNo-high (ask number false ∷ qs) known = within-high 1 18 number (and-left (within 1 18 number) (numbered qs) known)
+firstNo-high (ask number true ∷ qs) known = firstNo-high qs (numbered-rest number qs known)
+firstNo-high (ask number false ∷ qs) known = within-high 1 lastQuestion number (numbered-first number qs known)
 
--- the questions of a configuration have document 01's numbers
+pub numbered-both : (first rest : List Question) → numbered first ≡ true → numbered rest ≡ true → numbered (first ++ rest) ≡ true
+unfolding numbered
+numbered-both [] rest known h = h
+numbered-both (ask number holds ∷ first) rest known h =
+    rw (numbered-first number first known, numbered-both first rest (numbered-rest number first known) h)
+
+-- ---- questions 1 to 5, and then the rest: `asked` is what `Config::ask` or `Config::ask_rig` gave
+
 pub questions-numbered : (cfg : Config) → numbered (questions cfg) ≡ true
 unfolding numbered questions
 questions-numbered cfg = refl
@@ -62,7 +100,33 @@ pub rigQuestions-numbered : (cfg : Config) (m : ℕ) → numbered (rigQuestions 
 unfolding numbered rigQuestions
 rigQuestions-numbered cfg m = refl
 
--- the last question, after others that are all answered yes
+stops : (first rest : List Question) (asked : ℕ) → asked ≡ firstNo first → (asked ≡ 0 → ⊥) → asked ≡ firstNo (first ++ rest)
+stops first rest asked e some = e ∙ sym (firstNo-stop first rest (λ z. some (e ∙ z)))
+
+passes : (first rest : List Question) (asked n : ℕ) → numbered first ≡ true → asked ≡ firstNo first → asked ≡ 0 → n ≡ firstNo rest
+    → n ≡ firstNo (first ++ rest)
+passes first rest asked n known e none h = h ∙ sym (firstNo-pass first rest known (sym e ∙ none))
+
+-- one of 1 to 5 is answered no: it is the refusal
+pub early : (cfg : Config) {asked : ℕ} → asked ≡ firstNo (questions cfg) → (asked ≡ 0 → ⊥) → (rest : List Question)
+    → asked ≡ firstNo (questions cfg ++ rest)
+early cfg {asked} e some rest = stops (questions cfg) rest asked e some
+
+-- none is: the refusal is that of the rest
+pub later : (cfg : Config) {asked n : ℕ} → asked ≡ firstNo (questions cfg) → asked ≡ 0 → (rest : List Question) → n ≡ firstNo rest
+    → n ≡ firstNo (questions cfg ++ rest)
+later cfg {asked} {n} e none rest h = passes (questions cfg) rest asked n (questions-numbered cfg) e none h
+
+pub rig-early : (cfg : Config) (m : ℕ) {asked : ℕ} → asked ≡ firstNo (rigQuestions cfg m) → (asked ≡ 0 → ⊥) → (rest : List Question)
+    → asked ≡ firstNo (rigQuestions cfg m ++ rest)
+rig-early cfg m {asked} e some rest = stops (rigQuestions cfg m) rest asked e some
+
+pub rig-later : (cfg : Config) (m : ℕ) {asked n : ℕ} → asked ≡ firstNo (rigQuestions cfg m) → asked ≡ 0 → (rest : List Question)
+    → n ≡ firstNo rest → n ≡ firstNo (rigQuestions cfg m ++ rest)
+rig-later cfg m {asked} {n} e none rest h = passes (rigQuestions cfg m) rest asked n (rigQuestions-numbered cfg m) e none h
+
+-- ---- the last question, after others that are all answered yes
+
 pub last-yes : (first : List Question) (number : ℕ) (holds : Bool) → numbered first ≡ true → firstNo first ≡ 0 → holds ≡ true
     → firstNo (first ++ ask number holds ∷ []) ≡ 0
 unfolding firstNo
@@ -75,9 +139,5 @@ last-no first number holds known none h = firstNo-pass first (ask number holds �
 -- all yes, and the last too
 pub last-all : (first : List Question) (number : ℕ) (holds : Bool) → numbered first ≡ true → 1 ≤ number
     → firstNo (first ++ ask number holds ∷ []) ≡ 0 → (firstNo first ≡ 0) × (holds ≡ true)
-unfolding firstNo numbered
-last-all [] number true known low h = (refl, refl)
-last-all [] number false known low h = absurd (omega arith)
-last-all (ask m true ∷ first) number holds known low h = last-all first number holds (and-right (within 1 18 m) (numbered first) known) low h
-last-all (ask m false ∷ first) number holds known low h =
-    absurd (omega (arith, within-low 1 18 m (and-left (within 1 18 m) (numbered first) known)))
+last-all first number holds known low h =
+    (none-first first (ask number holds ∷ []) h, yes-next number holds [] low (none-rest first (ask number holds ∷ []) known h) .0)

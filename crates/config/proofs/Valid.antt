@@ -1,85 +1,73 @@
 -- What a configuration's questions say: they are all answered yes exactly of a valid one. Assumes nothing.
-use mathlib.Core.Path.{_≡_, refl, sym, _∙_}
-use mathlib.Core.Bool.{Bool, true, false, cond, _&&_}
-use mathlib.Core.List.{List, [], _∷_, _++_}
-use Prim.Native.Nat.{ℕ, _+_, _/_, _≤_}
+use mathlib.Core.Path.{_≡_, sym, _∙_}
+use mathlib.Core.Bool.{Bool, cond}
+use mathlib.Core.List.{[], _∷_}
+use Prim.Native.Nat.{ℕ, _≤_}
 use native.Mathlib.Omega.{arith}
 use borrow.Author.Tests.{leb-true, le-leb}
 use lib.Dec.{leb}
 use Rattle.laws.specs.Servers.{count, shared}
 use Rattle.laws.proofs.Servers.{count-both}
 use Rattle.config.specs.declared.Config.{Config}
-use Rattle.config.specs.Config.{questions, rigQuestions, quorumOf, Valid}
-use Rattle.config.specs.Questions.{Question, ask, within, firstNo}
-use Rattle.config.proofs.Questions.{within-low, within-high, within-true}
-
-five : Bool → Bool → Bool → Bool → Bool → List Question
-five a b c d e = ask 1 a ∷ ask 2 b ∷ ask 3 c ∷ ask 4 d ∷ ask 5 e ∷ []
-
-all-yes : (a b c d e : Bool) → firstNo (five a b c d e) ≡ 0 → (a ≡ true) × (b ≡ true) × (c ≡ true) × (d ≡ true) × (e ≡ true)
-unfolding firstNo five
-all-yes true true true true true h = (refl, refl, refl, refl, refl)
-all-yes true true true true false h = absurd (omega arith)
-all-yes true true true false e h = absurd (omega arith)
-all-yes true true false d e h = absurd (omega arith)
-all-yes true false c d e h = absurd (omega arith)
-all-yes false b c d e h = absurd (omega arith)
-
--- what the rig asks of M is asked last
-five-stop : (a b c d e m : Bool) → (firstNo (five a b c d e) ≡ 0 → ⊥) → firstNo (five a b c d (e && m)) ≡ firstNo (five a b c d e)
-unfolding firstNo five
-five-stop true true true true true m some = absurd (some refl)
-five-stop true true true true false m some = refl
-five-stop true true true false e m some = refl
-five-stop true true false d e m some = refl
-five-stop true false c d e m some = refl
-five-stop false b c d e m some = refl
-
-five-pass : (a b c d e m : Bool) → firstNo (five a b c d e) ≡ 0 → firstNo (five a b c d (e && m)) ≡ cond m 0 5
-unfolding firstNo five
-five-pass true true true true true m none = refl
-five-pass true true true true false m none = absurd (omega arith)
-five-pass true true true false e m none = absurd (omega arith)
-five-pass true true false d e m none = absurd (omega arith)
-five-pass true false c d e m none = absurd (omega arith)
-five-pass false b c d e m none = absurd (omega arith)
-
-pub rig-stop : (cfg : Config) (m : ℕ) → (firstNo (questions cfg) ≡ 0 → ⊥) → firstNo (rigQuestions cfg m) ≡ firstNo (questions cfg)
-unfolding questions rigQuestions five
-rig-stop cfg m =
-    five-stop (within 1 16 (cfg .n)) (within 1 (cfg .n) (cfg .k)) (leb (cfg .d) 7) (within 1 64 (cfg .e)) (within 1 16 (cfg .c)) (within 1 512 m)
-
-pub rig-pass : (cfg : Config) (m : ℕ) → firstNo (questions cfg) ≡ 0 → firstNo (rigQuestions cfg m) ≡ cond (within 1 512 m) 0 5
-unfolding questions rigQuestions five
-rig-pass cfg m =
-    five-pass (within 1 16 (cfg .n)) (within 1 (cfg .n) (cfg .k)) (leb (cfg .d) 7) (within 1 64 (cfg .e)) (within 1 16 (cfg .c)) (within 1 512 m)
+use Rattle.config.specs.Config.{Valid, mostClients, mostDepth, mostMessages, mostServers, mostWidth, questions, questionsTo5, quorumOf, rigQuestions}
+use Rattle.config.specs.Questions.{ask, firstNo, within}
+use Rattle.config.proofs.Questions.{firstNo-pass, firstNo-stop, none-first, none-rest, questions-numbered, within-low, within-high, within-true, yes-next}
 
 pub valid : (cfg : Config) → firstNo (questions cfg) ≡ 0 → Valid cfg
-unfolding questions five
+unfolding questions
 valid cfg h =
-    let y = all-yes (within 1 16 (cfg .n)) (within 1 (cfg .n) (cfg .k)) (leb (cfg .d) 7) (within 1 64 (cfg .e)) (within 1 16 (cfg .c)) h in
+    let n = yes-next 1 (within 1 mostServers (cfg .n)) _ (omega arith) h in
+    let k = yes-next 2 (within 1 (cfg .n) (cfg .k)) _ (omega arith) (n .1) in
+    let d = yes-next 3 (leb (cfg .d) mostDepth) _ (omega arith) (k .1) in
+    let e = yes-next 4 (within 1 mostWidth (cfg .e)) _ (omega arith) (d .1) in
+    let c = yes-next 5 (within 1 mostClients (cfg .c)) _ (omega arith) (e .1) in
     record {
-      n-low = within-low 1 16 (cfg .n) (y .0);
-      n-high = within-high 1 16 (cfg .n) (y .0);
-      k-low = within-low 1 (cfg .n) (cfg .k) (y .1);
-      k-high = within-high 1 (cfg .n) (cfg .k) (y .1);
-      d-high = leb-true (cfg .d) 7 (y .2);
-      e-low = within-low 1 64 (cfg .e) (y .3);
-      e-high = within-high 1 64 (cfg .e) (y .3);
-      c-low = within-low 1 16 (cfg .c) (y .4);
-      c-high = within-high 1 16 (cfg .c) (y .4);
+      n-low = within-low 1 mostServers (cfg .n) (n .0);
+      n-high = within-high 1 mostServers (cfg .n) (n .0);
+      k-low = within-low 1 (cfg .n) (cfg .k) (k .0);
+      k-high = within-high 1 (cfg .n) (cfg .k) (k .0);
+      d-high = leb-true (cfg .d) mostDepth (d .0);
+      e-low = within-low 1 mostWidth (cfg .e) (e .0);
+      e-high = within-high 1 mostWidth (cfg .e) (e .0);
+      c-low = within-low 1 mostClients (cfg .c) (c .0);
+      c-high = within-high 1 mostClients (cfg .c) (c .0);
     }
+
+-- a configuration that was asked questions 1 to 5, and not refused
+pub asked-valid : (cfg : Config) {asked : ℕ} → asked ≡ firstNo (questions cfg) → asked ≡ 0 → Valid cfg
+asked-valid cfg e none = valid cfg (sym e ∙ none)
+
+-- what the rig asks of M is asked last
+pub rig-stop : (cfg : Config) (m : ℕ) → (firstNo (questions cfg) ≡ 0 → ⊥) → firstNo (rigQuestions cfg m) ≡ firstNo (questions cfg)
+unfolding questions rigQuestions
+rig-stop cfg m some = firstNo-stop (questionsTo5 cfg) (ask 5 (within 1 mostMessages m) ∷ []) some
+
+pub rig-pass : (cfg : Config) (m : ℕ) → firstNo (questions cfg) ≡ 0 → firstNo (rigQuestions cfg m) ≡ cond (within 1 mostMessages m) 0 5
+unfolding firstNo questions rigQuestions
+rig-pass cfg m none = firstNo-pass (questionsTo5 cfg) (ask 5 (within 1 mostMessages m) ∷ []) (questions-numbered cfg) none
+
+-- a rig's that was asked them, and not refused
+pub rig-valid : (cfg : Config) (m : ℕ) {asked : ℕ} → asked ≡ firstNo (rigQuestions cfg m) → asked ≡ 0 → Valid cfg
+unfolding questions rigQuestions
+rig-valid cfg m e none = valid cfg (none-first (questionsTo5 cfg) (ask 5 (within 1 mostMessages m) ∷ []) (sym e ∙ none))
+
+pub rig-most : (cfg : Config) (m : ℕ) {asked : ℕ} → asked ≡ firstNo (rigQuestions cfg m) → asked ≡ 0 → (1 ≤ m) × (m ≤ mostMessages)
+unfolding questions rigQuestions
+rig-most cfg m e none =
+    let w = yes-next 5 (within 1 mostMessages m) [] (omega arith)
+    (none-rest (questionsTo5 cfg) (ask 5 (within 1 mostMessages m) ∷ []) (questions-numbered cfg) (sym e ∙ none)) .0 in
+    (within-low 1 mostMessages m w, within-high 1 mostMessages m w)
 
 -- a valid configuration is asked nothing in vain: every question of it is answered yes
 pub valid-asked : (cfg : Config) → Valid cfg → firstNo (questions cfg) ≡ 0
 unfolding firstNo questions
 valid-asked cfg v =
     rw (
-      within-true 1 16 (cfg .n) (v .n-low) (v .n-high),
+      within-true 1 mostServers (cfg .n) (v .n-low) (v .n-high),
       within-true 1 (cfg .n) (cfg .k) (v .k-low) (v .k-high),
-      le-leb (cfg .d) 7 (v .d-high),
-      within-true 1 64 (cfg .e) (v .e-low) (v .e-high),
-      within-true 1 16 (cfg .c) (v .c-low) (v .c-high),
+      le-leb (cfg .d) mostDepth (v .d-high),
+      within-true 1 mostWidth (cfg .e) (v .e-low) (v .e-high),
+      within-true 1 mostClients (cfg .c) (v .c-low) (v .c-high),
     )
 
 -- the quorum of a valid configuration is at least 1 and at most N

@@ -1,4 +1,5 @@
 pub mod Config
+pub mod Lengths
 pub mod Number
 pub mod Questions
 pub mod Refusal

@@ -12,7 +12,7 @@ use Rattle.config.specs.declared.NewServer.{NewServer}
 use Rattle.config.specs.declared.NewClient.{NewClient}
 use Rattle.config.specs.Config.{questions}
 use Rattle.config.specs.Questions.{Question, ask, within, firstNo}
-use Rattle.config.specs.Refusal.{numberOf}
+use Rattle.config.specs.Refusal.{refusalNumber}
 
 -- the number that a Server wraps
 abbrev pub serverNumber : Server → ℕ
@@ -33,11 +33,11 @@ clientQuestions cfg c = questions cfg ++ ask 8 (within 1 (cfg .c) c) ∷ []
 -- the number of a constructor's answer: 0 where it made one
 abbrev pub newServerNumber : NewServer → ℕ
 newServerNumber (NewServer.Made s) = 0
-newServerNumber (NewServer.No why) = numberOf why
+newServerNumber (NewServer.No why) = refusalNumber why
 
 abbrev pub newClientNumber : NewClient → ℕ
 newClientNumber (NewClient.Made c) = 0
-newClientNumber (NewClient.No why) = numberOf why
+newClientNumber (NewClient.No why) = refusalNumber why
 
 -- what it made wraps: 0 where it made none
 abbrev pub serverMade : NewServer → ℕ
@@ -48,12 +48,14 @@ abbrev pub clientMade : NewClient → ℕ
 clientMade (NewClient.Made c) = clientNumber c
 clientMade (NewClient.No why) = 0
 
--- a Server is made exactly of a number that passes the questions, and wraps that number
-pub record NewServerPost (cfg : Config) (s : ℕ) (r : NewServer) : Type 0 where
-  pub number : newServerNumber r ≡ firstNo (serverQuestions cfg s)
-  pub made : serverMade r ≡ cond (eqb (firstNo (serverQuestions cfg s)) 0) s 0
+-- a Server or Client is made exactly of a number x that passes the questions, and wraps that number: `answer` is the number of the
+-- constructor's answer, and `wrapped` what it made wraps
+pub record NewPost (qs : List Question) (x answer wrapped : ℕ) : Type 0 where
+  pub number : answer ≡ firstNo qs
+  pub made : wrapped ≡ cond (eqb (firstNo qs) 0) x 0
 
--- a Client is made exactly of a number that passes the questions, and wraps that number
-pub record NewClientPost (cfg : Config) (c : ℕ) (r : NewClient) : Type 0 where
-  pub number : newClientNumber r ≡ firstNo (clientQuestions cfg c)
-  pub made : clientMade r ≡ cond (eqb (firstNo (clientQuestions cfg c)) 0) c 0
+abbrev pub NewServerPost : Config → ℕ → NewServer → Type 0
+NewServerPost cfg s r = NewPost (serverQuestions cfg s) s (newServerNumber r) (serverMade r)
+
+abbrev pub NewClientPost : Config → ℕ → NewClient → Type 0
+NewClientPost cfg c r = NewPost (clientQuestions cfg c) c (newClientNumber r) (clientMade r)

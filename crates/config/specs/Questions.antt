@@ -1,5 +1,5 @@
--- A call's questions: a list of document 01's numbers, each with the answer, in the document's order. The first that is
--- answered no is the refusal, and nothing else is.
+-- A call's questions: a list of their numbers, each with the answer, in document 01's order. The first that is answered no is
+-- the refusal, and nothing else is.
 use Prim.Native.Nat.{ℕ}
 use mathlib.Core.Bool.{Bool, true, cond, _&&_}
 use mathlib.Core.List.{List, [], _∷_}
@@ -17,7 +17,11 @@ firstNo (ask number holds ∷ rest) = cond holds (firstNo rest) number
 abbrev pub within : ℕ → ℕ → ℕ → Bool
 within low high x = leb low x && leb x high
 
--- each number is one of document 01's
+-- questions are numbered from 1 to this
+abbrev pub lastQuestion : ℕ
+lastQuestion = 28
+
+-- each number is a question's
 unfoldable pub numbered : List Question → Bool
 numbered [] = true
-numbered (ask number holds ∷ rest) = within 1 18 number && numbered rest
+numbered (ask number holds ∷ rest) = within 1 lastQuestion number && numbered rest

@@ -1,35 +1,46 @@
--- The numbers of refusals in document 01, "Questions, in this order".
+-- The numbers of refusals: documents 01's and 02's questions, by number.
 use Prim.Native.Nat.{ℕ, min, max}
 use Rattle.config.specs.declared.Refusal.{Refusal}
-use Rattle.config.specs.declared.Refusal.the-variants.{Servers, Threshold, Depth, Width, Clients, Shape, Event, Missing, Down, Busy, Exhausted, IllFormed, Full, NotAwaited, Cleared, Misdirected, NotRising, TooFew}
+use Rattle.config.specs.declared.Refusal.the-variants.{Servers, Threshold, Depth, Width, Clients, Shape, Event, Missing, Down, Busy, Exhausted, IllFormed, Full, NotAwaited, Cleared, Misdirected, NotRising, Elements, Length, Seed, Rank, Boards, Contradiction, Saved, Sources, Right, Errors, Uncorrectable}
 use Rattle.config.specs.declared.Verdict.{Verdict}
+use Rattle.config.specs.Questions.{lastQuestion}
 
 -- the number of a refusal
-abbrev pub numberOf : Refusal → ℕ
-numberOf Servers = 1
-numberOf Threshold = 2
-numberOf Depth = 3
-numberOf Width = 4
-numberOf Clients = 5
-numberOf Shape = 6
-numberOf Event = 7
-numberOf Missing = 8
-numberOf Down = 9
-numberOf Busy = 10
-numberOf Exhausted = 11
-numberOf IllFormed = 12
-numberOf Full = 13
-numberOf NotAwaited = 14
-numberOf Cleared = 15
-numberOf Misdirected = 16
-numberOf NotRising = 17
-numberOf TooFew = 18
+abbrev pub refusalNumber : Refusal → ℕ
+refusalNumber Servers = 1
+refusalNumber Threshold = 2
+refusalNumber Depth = 3
+refusalNumber Width = 4
+refusalNumber Clients = 5
+refusalNumber Shape = 6
+refusalNumber Event = 7
+refusalNumber Missing = 8
+refusalNumber Down = 9
+refusalNumber Busy = 10
+refusalNumber Exhausted = 11
+refusalNumber IllFormed = 12
+refusalNumber Full = 13
+refusalNumber NotAwaited = 14
+refusalNumber Cleared = 15
+refusalNumber Misdirected = 16
+refusalNumber NotRising = 17
+refusalNumber Elements = 18
+refusalNumber Length = 19
+refusalNumber Seed = 20
+refusalNumber Rank = 21
+refusalNumber Boards = 22
+refusalNumber Contradiction = 23
+refusalNumber Saved = 24
+refusalNumber Sources = 25
+refusalNumber Right = 26
+refusalNumber Errors = 27
+refusalNumber Uncorrectable = 28
 
 -- a number past either end is taken for that end
 abbrev pub clamped : ℕ → ℕ
-clamped x = max 1 (min x 18)
+clamped x = max 1 (min x lastQuestion)
 
 -- the number of a verdict: 0 where nothing was refused
 abbrev pub verdictNumber : Verdict → ℕ
 verdictNumber Verdict.Accepted = 0
-verdictNumber (Verdict.No why) = numberOf why
+verdictNumber (Verdict.No why) = refusalNumber why

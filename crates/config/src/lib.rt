@@ -1,11 +1,34 @@
-// The configuration of document 01, its questions 1 to 5, the quorum, the numbers of servers and clients, and the names of
-// the refusals. Every function is proved, nothing is assumed, and no public function has a `requires`.
+// The configuration of document 01, its questions 1 to 5, the quorum, the lengths of buffers, the numbers of servers and clients,
+// and the names of the refusals. Every function is proved, nothing is assumed, and no public function has a `requires`.
+ghost use mathlib.Core.List.{[], _∷_, _++_};
 ghost use mathlib.Core.Path.{_≡_};
 ghost use Rattle.config.specs.Config.{quorumOf, questions, rigQuestions};
+ghost use Rattle.config.specs.Lengths.{lengthsOf, messagesLength};
 ghost use Rattle.config.specs.Number.{NewClientPost, NewServerPost, clientNumber, serverNumber};
-ghost use Rattle.config.specs.Questions.{firstNo, within as inside};
-ghost use Rattle.config.specs.Refusal.{clamped, numberOf, verdictNumber};
+ghost use Rattle.config.specs.Questions.{ask as question, firstNo, lastQuestion, within as inside};
+ghost use Rattle.config.specs.Refusal.{clamped, refusalNumber, verdictNumber};
 ghost use Prim.Native.Nat.{min};
+
+// The most servers.
+pub const MOST_SERVERS: usize = 16;
+
+// The most clients.
+pub const MOST_CLIENTS: usize = 16;
+
+// The greatest D.
+pub const MOST_DEPTH: usize = 7;
+
+// The greatest E.
+pub const MOST_WIDTH: usize = 64;
+
+// The greatest M.
+pub const MOST_MESSAGES: usize = 512;
+
+// The bytes of a message record.
+pub const RECORD: usize = 80;
+
+// Questions are numbered from 1 to this.
+const LAST_QUESTION: u8 = 28;
 
 // N servers, numbered from 1; the elements of any k of them give a board back; a server keeps D tags besides the newest;
 // an element has E bytes; C clients, numbered from 1. The numbers may have any value: the questions are asked of them.
@@ -22,19 +45,19 @@ impl Config {
     pub fn ask(self) -> u8
         ensures { λ r. ⌜ r ≡ firstNo (questions self) ⌝ }
     {
-        if !within(1, 16, self.n) {
+        if !within(1, MOST_SERVERS, self.n) {
             return 1;
         }
         if !within(1, self.n, self.k) {
             return 2;
         }
-        if 7 < self.d {
+        if MOST_DEPTH < self.d {
             return 3;
         }
-        if !within(1, 64, self.e) {
+        if !within(1, MOST_WIDTH, self.e) {
             return 4;
         }
-        if !within(1, 16, self.c) {
+        if !within(1, MOST_CLIENTS, self.c) {
             return 5;
         }
         0
@@ -44,14 +67,21 @@ impl Config {
     pub fn ask_rig(self, m: usize) -> u8
         ensures { λ r. ⌜ r ≡ firstNo (rigQuestions self m) ⌝ }
     {
-        let no = self.ask();
-        if no != 0 {
-            return no;
-        }
-        if !within(1, 512, m) {
-            return 5;
-        }
-        0
+        ask_then(self, 5, MOST_MESSAGES, m)
+    }
+
+    // Is there a server of this number, 1 to N?
+    pub fn server_exists(self, s: usize) -> bool
+        ensures { λ r. ⌜ r ≡ inside 1 (self .n) s ⌝ }
+    {
+        within(1, self.n, s)
+    }
+
+    // Is there a client of this number, 1 to C?
+    pub fn client_exists(self, c: usize) -> bool
+        ensures { λ r. ⌜ r ≡ inside 1 (self .c) c ⌝ }
+    {
+        within(1, self.c, c)
     }
 
     // The quorum, (N + k) / 2 rounded up. It wraps at no numbers.
@@ -60,6 +90,63 @@ impl Config {
     {
         self.n / 2 + self.k / 2 + (self.n % 2 + self.k % 2 + 1) / 2
     }
+
+    // The lengths that question 6 asks for, with M given: all are 0 where questions 1 to 5 refuse, and that of the messages where M
+    // is out of range.
+    pub fn lengths(self, m: usize) -> Lengths
+        ensures { λ r. ⌜ r ≡ lengthsOf self m ⌝ }
+    {
+        if self.ask() != 0 {
+            return Lengths {
+                board: 0,
+                store: 0,
+                sends: 0,
+                elements: 0,
+                messages: 0,
+            };
+        }
+        Lengths {
+            board: self.k * self.e,
+            store: (self.d + 1) * self.e,
+            sends: RECORD * self.n,
+            elements: self.n * self.e,
+            messages: messages_length(m),
+        }
+    }
+}
+
+// The bytes of M records; 0 where M is out of range.
+fn messages_length(m: usize) -> usize
+    ensures { λ r. ⌜ r ≡ messagesLength m ⌝ }
+{
+    if !within(1, MOST_MESSAGES, m) {
+        return 0;
+    }
+    RECORD * m
+}
+
+// The bytes of a board, of a server's store, of a client's sends, of the elements that a client has received, and of the
+// messages in flight.
+pub struct Lengths {
+    pub board: usize,
+    pub store: usize,
+    pub sends: usize,
+    pub elements: usize,
+    pub messages: usize,
+}
+
+// Questions 1 to 5, and one more: is x within 1 to `high`?
+fn ask_then(cfg: Config, number: u8, high: usize, x: usize) -> u8
+    ensures { λ r. ⌜ r ≡ firstNo (questions cfg ++ question number (inside 1 high x) ∷ []) ⌝ }
+{
+    let no = cfg.ask();
+    if no != 0 {
+        return no;
+    }
+    if !within(1, high, x) {
+        return number;
+    }
+    0
 }
 
 // low ≤ x ≤ high
@@ -93,12 +180,9 @@ impl Server {
     pub fn new(cfg: Config, s: u8) -> NewServer
         ensures { λ r. ⌜ NewServerPost cfg s r ⌝ }
     {
-        let no = cfg.ask();
+        let no = ask_then(cfg, 8, cfg.n, s as usize);
         if no != 0 {
             return NewServer::No(Refusal::of(no));
-        }
-        if !within(1, cfg.n, s as usize) {
-            return NewServer::No(Refusal::Missing);
         }
         NewServer::Made(Server(s))
     }
@@ -115,12 +199,9 @@ impl Client {
     pub fn new(cfg: Config, c: u8) -> NewClient
         ensures { λ r. ⌜ NewClientPost cfg c r ⌝ }
     {
-        let no = cfg.ask();
+        let no = ask_then(cfg, 8, cfg.c, c as usize);
         if no != 0 {
             return NewClient::No(Refusal::of(no));
-        }
-        if !within(1, cfg.c, c as usize) {
-            return NewClient::No(Refusal::Missing);
         }
         NewClient::Made(Client(c))
     }
@@ -132,13 +213,18 @@ impl Client {
     }
 }
 
-// What document 01's questions are about, in its order: a refusal names the first that was answered no.
+// What the questions are about: a refusal names the first that was answered no. 1 to 18 are document 01's; 19 to 28 are document
+// 02's, and no call gives them yet.
 pub enum Refusal {
-    // 1 to 5: N, k, D, E or C (in the rig C or M) out of range.
+    // 1: N is out of range.
     Servers,
+    // 2: k is out of range.
     Threshold,
+    // 3: D is out of range.
     Depth,
+    // 4: E is out of range.
     Width,
+    // 5: C is out of range, or in the rig M.
     Clients,
     // 6: a buffer's length, or a count, number or tag of the state.
     Shape,
@@ -165,13 +251,66 @@ pub enum Refusal {
     // 17: server numbers do not rise strictly within 1 to N.
     NotRising,
     // 18: decode, fewer than k elements; encode, s is not within 1 to N.
-    TooFew,
+    Elements,
+    // 19: the write's length is above V.
+    Length,
+    // 20: the seed is 0.
+    Seed,
+    // 21: a rank is above 3.
+    Rank,
+    // 22: not 1 to 8 boards, shares that add to more than M, or no such board.
+    Boards,
+    // 23: the elements do not all belong to one board.
+    Contradiction,
+    // 24: a saved store is not of its form.
+    Saved,
+    // 25: s is not within 1 to N, or the given stores are none or not of distinct other servers.
+    Sources,
+    // 26: the beginning client does not hold the right.
+    Right,
+    // 27: e is above 7, or there are fewer than k + 2 × e elements.
+    Errors,
+    // 28: there is no board from which at most e of them differ.
+    Uncorrectable,
 }
 
+// The refusals by their numbers; 0 is taken for 1.
+const REFUSALS: [Refusal; 29] = [
+    Refusal::Servers,
+    Refusal::Servers,
+    Refusal::Threshold,
+    Refusal::Depth,
+    Refusal::Width,
+    Refusal::Clients,
+    Refusal::Shape,
+    Refusal::Event,
+    Refusal::Missing,
+    Refusal::Down,
+    Refusal::Busy,
+    Refusal::Exhausted,
+    Refusal::IllFormed,
+    Refusal::Full,
+    Refusal::NotAwaited,
+    Refusal::Cleared,
+    Refusal::Misdirected,
+    Refusal::NotRising,
+    Refusal::Elements,
+    Refusal::Length,
+    Refusal::Seed,
+    Refusal::Rank,
+    Refusal::Boards,
+    Refusal::Contradiction,
+    Refusal::Saved,
+    Refusal::Sources,
+    Refusal::Right,
+    Refusal::Errors,
+    Refusal::Uncorrectable,
+];
+
 impl Refusal {
-    // The number of a refusal in document 01.
+    // The number of a refusal.
     pub fn number(self) -> u8
-        ensures { λ r. ⌜ r ≡ numberOf self ⌝ }
+        ensures { λ r. ⌜ r ≡ refusalNumber self ⌝ }
     {
         match self {
             Refusal::Servers => 1,
@@ -191,34 +330,28 @@ impl Refusal {
             Refusal::Cleared => 15,
             Refusal::Misdirected => 16,
             Refusal::NotRising => 17,
-            Refusal::TooFew => 18,
+            Refusal::Elements => 18,
+            Refusal::Length => 19,
+            Refusal::Seed => 20,
+            Refusal::Rank => 21,
+            Refusal::Boards => 22,
+            Refusal::Contradiction => 23,
+            Refusal::Saved => 24,
+            Refusal::Sources => 25,
+            Refusal::Right => 26,
+            Refusal::Errors => 27,
+            Refusal::Uncorrectable => 28,
         }
     }
 
     // The refusal of a number; a number past either end is taken for that end.
     pub fn of(no: u8) -> Refusal
-        ensures { λ r. ⌜ numberOf r ≡ clamped no ⌝ }
+        ensures { λ r. ⌜ refusalNumber r ≡ clamped no ⌝ }
     {
-        match no {
-            0 | 1 => Refusal::Servers,
-            2 => Refusal::Threshold,
-            3 => Refusal::Depth,
-            4 => Refusal::Width,
-            5 => Refusal::Clients,
-            6 => Refusal::Shape,
-            7 => Refusal::Event,
-            8 => Refusal::Missing,
-            9 => Refusal::Down,
-            10 => Refusal::Busy,
-            11 => Refusal::Exhausted,
-            12 => Refusal::IllFormed,
-            13 => Refusal::Full,
-            14 => Refusal::NotAwaited,
-            15 => Refusal::Cleared,
-            16 => Refusal::Misdirected,
-            17 => Refusal::NotRising,
-            _ => Refusal::TooFew,
+        if LAST_QUESTION < no {
+            return Refusal::Uncorrectable;
         }
+        REFUSALS[no as usize]
     }
 }
 
@@ -231,7 +364,7 @@ pub enum Verdict {
 impl Verdict {
     // The verdict of a refusal's number, or of 0.
     pub fn of(no: u8) -> Verdict
-        ensures { λ r. ⌜ verdictNumber r ≡ min no 18 ⌝ }
+        ensures { λ r. ⌜ verdictNumber r ≡ min no lastQuestion ⌝ }
     {
         if no == 0 {
             return Verdict::Accepted;

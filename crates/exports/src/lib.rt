@@ -1,6 +1,7 @@
-// The code for programs in C and Rust, as a static library: a slice is a pointer and a length. Each call is that of `code`, with
-// D 0 and one client, which do not concern it; it answers the refusal's number, or 0.
-ghost use Rattle.exports.specs.Calls.{Decoded, Encoded};
+// The code for programs in C and Rust, as a static library: a slice is a pointer and a length. Each call is that of `code`, and
+// answers the refusal's number, or 0. A call that is handed a configuration asks 1 to 5 of all of it: here D is 0 and there is one
+// client, so that 3 and 5 are answered yes.
+ghost use Rattle.exports.specs.Calls.{CodedDecodePost, CodedEncodePost};
 use config::Config;
 
 #[no_mangle]
@@ -12,7 +13,7 @@ pub extern "C" fn coded_encode(
     s: u8,
     element: &mut [u8],
 ) -> u8
-    ensures { λ r. ⌜ Encoded n k e (now (board .entry)) s (now (element .entry)) (now (element .exit)) r ⌝ }
+    ensures { λ r. ⌜ CodedEncodePost n k e (now (board .entry)) s (now (element .entry)) (now (element .exit)) r ⌝ }
 {
     let cfg = Config {
         n,
@@ -33,7 +34,7 @@ pub extern "C" fn coded_decode(
     elements: &[u8],
     board: &mut [u8],
 ) -> u8
-    ensures { λ r. ⌜ Decoded n k e (now (servers .entry)) (now (elements .entry)) (now (board .entry)) (now (board .exit)) r ⌝ }
+    ensures { λ r. ⌜ CodedDecodePost n k e (now (servers .entry)) (now (elements .entry)) (now (board .entry)) (now (board .exit)) r ⌝ }
 {
     let cfg = Config {
         n,

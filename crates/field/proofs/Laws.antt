@@ -12,7 +12,7 @@ use lib.Bits.{xor-zero-r, xor-self, xor-comm, xor-lt}
 use lib.Dec.{eqb, lit<}
 use borrow.Author.Tests.{eqb-true, eqb-false}
 use Rattle.laws.proofs.Xor.{xor-assoc}
-use Rattle.field.specs.Field.{plus, double, doubled, sum, times, power, inverseBelow, inverseOf}
+use Rattle.field.specs.Field.{plus, double, doubled, times, power, inverseBelow, inverseOf}
 use Rattle.field.proofs.Generator.{generated, period}
 pub use Rattle.field.proofs.Linear.{
   double-plus,

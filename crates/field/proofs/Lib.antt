@@ -1,5 +1,5 @@
 pub mod Byte
-pub mod Generator
+mod Generator
 pub mod Laws
 pub mod Linear
-pub mod Tables
+mod Tables

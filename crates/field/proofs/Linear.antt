@@ -8,7 +8,7 @@ use native.Mathlib.Omega.{arith}
 use lib.Pow.{mod-pow-add, pow-pos}
 use lib.Bits.{xor-self, xor-comm, xor-mod, xor-lt, xor-block, xor-shifted}
 use Rattle.laws.proofs.Xor.{by-digit, xor-swap, xor-shl, xor-bit, digit-mul-xor, xor-digit-mul}
-use Rattle.field.specs.Field.{bit, plus, modulus, double, doubled, sum, times}
+use Rattle.field.specs.Field.{bit, plus, modulus, double, doubled, partialProduct, times}
 
 bit-lt : (i a : ℕ) → bit i a < 2
 bit-lt i a = mod-lt (a / 2 ^ i) (zero-lt-suc 1)
@@ -75,27 +75,27 @@ doubled-comm i j a = sym (doubled-add i j a) ∙ ap (λ (n : ℕ). doubled n a) 
 
 -- ---- the product
 
-sum-plus-left : (n a b c : ℕ) → sum n (plus a b) c ≡ plus (sum n a c) (sum n b c)
-unfolding sum
-sum-plus-left zero a b c = refl
-sum-plus-left (suc n) a b c =
-    ap₂ plus (sum-plus-left n a b c)
+partial-plus-left : (n a b c : ℕ) → partialProduct n (plus a b) c ≡ plus (partialProduct n a c) (partialProduct n b c)
+unfolding partialProduct
+partial-plus-left zero a b c = refl
+partial-plus-left (suc n) a b c =
+    ap₂ plus (partial-plus-left n a b c)
     (ap (λ (x : ℕ). bit n c * x) (doubled-plus n a b) ∙ digit-mul-xor (bit n c) (bit-lt n c) (doubled n a) (doubled n b))
-    ∙ xor-swap (sum n a c) (sum n b c) (bit n c * doubled n a) (bit n c * doubled n b)
+    ∙ xor-swap (partialProduct n a c) (partialProduct n b c) (bit n c * doubled n a) (bit n c * doubled n b)
 
-sum-plus-right : (n a b c : ℕ) → sum n a (plus b c) ≡ plus (sum n a b) (sum n a c)
-unfolding sum
-sum-plus-right zero a b c = refl
-sum-plus-right (suc n) a b c =
-    ap₂ plus (sum-plus-right n a b c)
+partial-plus-right : (n a b c : ℕ) → partialProduct n a (plus b c) ≡ plus (partialProduct n a b) (partialProduct n a c)
+unfolding partialProduct
+partial-plus-right zero a b c = refl
+partial-plus-right (suc n) a b c =
+    ap₂ plus (partial-plus-right n a b c)
     (ap (λ (x : ℕ). x * doubled n a) (xor-bit b c n)
     ∙ xor-digit-mul (bit n b) (bit-lt n b) (bit n c) (bit-lt n c) (doubled n a))
-    ∙ xor-swap (sum n a b) (sum n a c) (bit n b * doubled n a) (bit n c * doubled n a)
+    ∙ xor-swap (partialProduct n a b) (partialProduct n a c) (bit n b * doubled n a) (bit n c * doubled n a)
 
-sum-zero : (n b : ℕ) → sum n 0 b ≡ 0
-unfolding sum
-sum-zero zero b = refl
-sum-zero (suc n) b = ap₂ plus (sum-zero n b) (ap (λ (x : ℕ). bit n b * x) (doubled-zero n) ∙ mul-zero (bit n b))
+partial-zero : (n b : ℕ) → partialProduct n 0 b ≡ 0
+unfolding partialProduct
+partial-zero zero b = refl
+partial-zero (suc n) b = ap₂ plus (partial-zero n b) (ap (λ (x : ℕ). bit n b * x) (doubled-zero n) ∙ mul-zero (bit n b))
 
 digit-mul-double : (d : ℕ) → d < 2 → (a : ℕ) → d * double a ≡ double (d * a)
 digit-mul-double =
@@ -103,32 +103,32 @@ digit-mul-double =
     (λ a. zero-mul (double a) ∙ sym (ap double (zero-mul a) ∙ double-zero))
     (λ a. one-mul (double a) ∙ ap double (sym (one-mul a)))
 
-sum-double : (n a b : ℕ) → sum n (double a) b ≡ double (sum n a b)
-unfolding sum doubled
-sum-double zero a b = sym double-zero
-sum-double (suc n) a b =
-    ap₂ plus (sum-double n a b)
+partial-double : (n a b : ℕ) → partialProduct n (double a) b ≡ double (partialProduct n a b)
+unfolding partialProduct doubled
+partial-double zero a b = sym double-zero
+partial-double (suc n) a b =
+    ap₂ plus (partial-double n a b)
     (ap (λ (x : ℕ). bit n b * x) (doubled-comm n 1 a) ∙ digit-mul-double (bit n b) (bit-lt n b) (doubled n a))
-    ∙ sym (double-plus (sum n a b) (bit n b * doubled n a))
+    ∙ sym (double-plus (partialProduct n a b) (bit n b * doubled n a))
 
 pub times-plus-left : (a b c : ℕ) → times (plus a b) c ≡ plus (times a c) (times b c)
 unfolding times
-times-plus-left a b c = sum-plus-left _ a b c
+times-plus-left a b c = partial-plus-left _ a b c
 
 pub times-plus-right : (a b c : ℕ) → times a (plus b c) ≡ plus (times a b) (times a c)
 unfolding times
-times-plus-right a b c = sum-plus-right _ a b c
+times-plus-right a b c = partial-plus-right _ a b c
 
 pub times-zero-left : (b : ℕ) → times 0 b ≡ 0
 unfolding times
-times-zero-left b = sum-zero _ b
+times-zero-left b = partial-zero _ b
 
 pub times-zero-right : (a : ℕ) → times a 0 ≡ 0
 times-zero-right a = times-plus-right a 0 0 ∙ xor-self (times a 0)
 
 pub times-double : (a b : ℕ) → times (double a) b ≡ double (times a b)
 unfolding times
-times-double a b = sum-double _ a b
+times-double a b = partial-double _ a b
 
 pub times-doubled : (i a b : ℕ) → times (doubled i a) b ≡ doubled i (times a b)
 unfolding doubled
@@ -137,9 +137,9 @@ times-doubled (suc i) a b = times-double (doubled i a) b ∙ ap double (times-do
 
 -- ---- 1 times a byte
 
-sum-one : (n b : ℕ) → doubled n 1 ≡ 2 ^ n → sum n 1 b ≡ b % 2 ^ n → sum (suc n) 1 b ≡ b % 2 ^ suc n
-unfolding sum
-sum-one n b e f =
+partial-one : (n b : ℕ) → doubled n 1 ≡ 2 ^ n → partialProduct n 1 b ≡ b % 2 ^ n → partialProduct (suc n) 1 b ≡ b % 2 ^ suc n
+unfolding partialProduct
+partial-one n b e f =
     ap₂ (λ (x y : ℕ). plus x (bit n b * y)) f e
     ∙ xor-comm (b % 2 ^ n) (bit n b * 2 ^ n)
     ∙ xor-shifted (bit n b) n (b % 2 ^ n) (mod-lt b (pow-pos n))
@@ -147,14 +147,14 @@ sum-one n b e f =
     ∙ ap (λ (x : ℕ). b % 2 ^ x) (one-add n)
 
 pub times-one-left : (b : ℕ) → b < 256 → times 1 b ≡ b
-unfolding times sum doubled double
+unfolding times partialProduct doubled double
 times-one-left b h =
-    sum-one 7 b refl
-    (sum-one 6 b refl
-    (sum-one 5 b refl
-    (sum-one 4 b refl
-    (sum-one 3 b refl
-    (sum-one 2 b refl
-    (sum-one 1 b refl
-    (sum-one 0 b refl (sym (mod-one b)))))))))
+    partial-one 7 b refl
+    (partial-one 6 b refl
+    (partial-one 5 b refl
+    (partial-one 4 b refl
+    (partial-one 3 b refl
+    (partial-one 2 b refl
+    (partial-one 1 b refl
+    (partial-one 0 b refl (sym (mod-one b)))))))))
     ∙ mod-eq-of-lt h

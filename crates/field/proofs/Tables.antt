@@ -10,7 +10,7 @@ use lib.ListN.{length, getD}
 use borrow.Author.Tests.{ne-eqb}
 use Rattle.laws.proofs.Table.{follows, first, next, passes, at, and-left, and-right}
 use Rattle.field.specs.Field.{double, doubled, power}
-use Rattle.field.specs.Table.{Logarithm}
+use Rattle.field.specs.inner.Table.{LogarithmPost}
 use Rattle.field.proofs.Generator.{doublings, doublings-at}
 use Rattle.field.proofs.Laws.{power-two}
 
@@ -26,10 +26,10 @@ power-at t p i h = doubled-at t p i h ∙ sym (power-two i)
 abbrev pub isLogarithm : List ℕ → ℕ → ℕ → Bool
 isLogarithm t a i = ltb i 255 && (eqb a 0 || eqb (getD t i 0) a)
 
-pub logarithm-at : (l : List ℕ) → T (passes (isLogarithm (doublings 255 1)) 0 l) → (a : ℕ) → a < length l → Logarithm a (getD l a 0)
+pub logarithm-at : (l : List ℕ) → T (passes (isLogarithm (doublings 255 1)) 0 l) → (a : ℕ) → a < length l → LogarithmPost a (getD l a 0)
 logarithm-at l p a h = of (getD l a 0) (at (isLogarithm (doublings 255 1)) l p a h)
   where
-    of : (i : ℕ) → T (isLogarithm (doublings 255 1) a i) → Logarithm a i
+    of : (i : ℕ) → T (isLogarithm (doublings 255 1) a i) → LogarithmPost a i
     of i t =
         let least = ltb→lt i 255 (and-left (ltb i 255) (eqb a 0 || eqb (getD (doublings 255 1) i 0) a) t) in
         record {

@@ -27,13 +27,13 @@ doubled zero a = a
 doubled (suc i) a = double (doubled i a)
 
 -- the sum of a times x^i over the i below n at which b has x^i
-unfoldable pub sum : ℕ → ℕ → ℕ → ℕ
-sum zero a b = 0
-sum (suc n) a b = plus (sum n a b) (bit n b * doubled n a)
+unfoldable pub partialProduct : ℕ → ℕ → ℕ → ℕ
+partialProduct zero a b = 0
+partialProduct (suc n) a b = plus (partialProduct n a b) (bit n b * doubled n a)
 
 -- multiplication is that of polynomials modulo hexadecimal 11D
 unfoldable pub times : ℕ → ℕ → ℕ
-times a b = sum 8 a b
+times a b = partialProduct 8 a b
 
 -- a to the power i; power 0 is 1
 unfoldable pub power : ℕ → ℕ → ℕ

@@ -15,7 +15,7 @@ pub fn product(a: u8, b: u8) -> u8
     if b == 0 {
         return 0;
     }
-    table::power(table::logarithm(a) as usize + table::logarithm(b) as usize)
+    table::power_of_two(table::logarithm(a) as usize + table::logarithm(b) as usize)
 }
 
 // The inverse of a; 0 gives 0.
@@ -25,7 +25,7 @@ pub fn inverse(a: u8) -> u8
     if a == 0 {
         return 0;
     }
-    table::power(255 - table::logarithm(a) as usize)
+    table::power_of_two(255 - table::logarithm(a) as usize)
 }
 
 // a doubled in the field.

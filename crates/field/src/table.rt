@@ -2,7 +2,7 @@
 ghost use mathlib.Core.Path.{_≡_};
 ghost use Prim.Native.Nat.{_<_};
 ghost use Rattle.field.specs.Field.{power};
-ghost use Rattle.field.specs.Table.{Logarithm};
+ghost use Rattle.field.specs.inner.Table.{LogarithmPost};
 
 // The powers of 2, for exponents 0 to 509: each entry is twice the one before in the field.
 const POWERS: [u8; 510] = [
@@ -779,7 +779,7 @@ const LOGS: [u8; 256] = [
 ];
 
 // 2 to the power i.
-pub(crate) fn power(i: usize) -> u8
+pub(crate) fn power_of_two(i: usize) -> u8
     requires { ⌜ i < 510 ⌝ }
     ensures { λ r. ⌜ r ≡ power 2 i ⌝ }
 {
@@ -788,7 +788,7 @@ pub(crate) fn power(i: usize) -> u8
 
 // The exponent of a as a power of 2.
 pub(crate) fn logarithm(a: u8) -> u8
-    ensures { λ r. ⌜ Logarithm a r ⌝ }
+    ensures { λ r. ⌜ LogarithmPost a r ⌝ }
 {
     LOGS[a as usize]
 }

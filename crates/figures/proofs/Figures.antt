@@ -1,15 +1,21 @@
 -- The table of document 01's figures holds: each is computed. Assumes nothing.
 use mathlib.Core.Path.{refl}
 use Rattle.figures.specs.Figures.{Figures}
-use Rattle.field.specs.Field.{times, sum, doubled, double, power, inverseOf, inverseBelow}
+use Rattle.laws.specs.Bytes.{tabulate}
+use Rattle.field.specs.Field.{times, partialProduct, doubled, double, power, inverseOf, inverseBelow}
 use Rattle.code.specs.Element.{element, elementByte}
 use Rattle.code.specs.Decoded.{decoded, decodedByte}
-use Rattle.code.specs.Lists.{listOf}
 use Rattle.code.specs.Polynomial as polynomial
+use Rattle.config.specs.Config.{questions}
+use Rattle.config.specs.Questions.{firstNo}
+use Rattle.record.specs.Record.{all, allZero, clauses, elementBytes, fourBytes, headerBytes, kindOf, messageClauses, messageOf, ofConfig, recordOf, wellFormed}
 use Rattle.protocol.proofs.Evaluate.{answersTo}
+use Rattle.server.specs.Calls.{stepQuestions}
+use Rattle.server.specs.Within.{among, every, floorWithin, tagsWithin, once, stateWithin}
+use Rattle.server.specs.View.{each, view}
 
 pub figures : Figures
-unfolding times sum doubled double power inverseOf inverseBelow element elementByte decoded decodedByte listOf polynomial.sum polynomial.value polynomial.carried polynomial.rooted polynomial.roots polynomial.divided polynomial.scaled polynomial.lagrange polynomial.interpolated answersTo
+unfolding times partialProduct doubled double power inverseOf inverseBelow element elementByte decoded decodedByte tabulate polynomial.sum polynomial.value polynomial.carried polynomial.rooted polynomial.roots polynomial.divided polynomial.scaled polynomial.lagrange polynomial.interpolated answersTo questions firstNo all allZero clauses elementBytes fourBytes headerBytes kindOf messageClauses messageOf ofConfig recordOf wellFormed stepQuestions among every floorWithin tagsWithin once stateWithin each view
 figures =
     record {
       quorum-5-3 = refl;
@@ -34,6 +40,9 @@ figures =
       floor-3 = refl;
       not-stored = refl;
       acknowledged = refl;
+      seen-3 = refl;
       read-1-1 = refl;
+      accepted-3-1 = refl;
       read-3-1 = refl;
+      formed = refl;
     }

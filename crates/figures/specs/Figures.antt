@@ -3,18 +3,25 @@ use Prim.Native.Nat.{ℕ}
 use mathlib.Core.Path.{_≡_}
 use mathlib.Core.Bool.{true}
 use mathlib.Core.Option.{Option, none, some}
-use mathlib.Core.List.{List, [], _∷_}
+use mathlib.Core.List.{List, [], _∷_, map}
+use lib.ListN.{replicate}
 use Rattle.config.specs.declared.Config.{Config}
 use Rattle.config.specs.Config.{quorumOf}
+use Rattle.config.specs.Questions.{firstNo}
 use Rattle.field.specs.Field.{times}
 use Rattle.code.specs.Element.{element}
 use Rattle.code.specs.Decoded.{decoded}
 use Rattle.tag.specs.declared.Tag.{Tag}
-use Rattle.tag.specs.Tag.{above, key}
+use Rattle.tag.specs.Tag.{above, key, start}
 use Rattle.record.specs.declared.Kind.{Kind}
 use Rattle.record.specs.declared.Kind.the-variants.{PreWrite, PreWriteAnswer, ReadFinalise, ReadFinaliseAnswer}
 use Rattle.record.specs.Message.{Message}
+use Rattle.record.specs.Record.{all, ofConfig, recordOf}
 use Rattle.protocol.specs.Server.{Server, Served, elementOf, freshServer, serverStep}
+use Rattle.server.specs.declared.Floor.{Floor}
+use Rattle.server.specs.declared.State.{State}
+use Rattle.server.specs.Calls.{stepQuestions}
+use Rattle.server.specs.View.{view}
 
 -- N servers, any k, D, E and C clients
 abbrev pub config : ℕ → ℕ → ℕ → ℕ → ℕ → Config
@@ -35,26 +42,47 @@ five = config 5 3 0 1 1
 abbrev pub three : Config
 three = config 3 2 0 1 1
 
--- a message of client 1 and server 1 in operation 1; elements are numbers here
-abbrev pub message : Kind → Tag → Option ℕ → Message ℕ
-message kind t e = record { kind = kind; client = 1; server = 1; operation = 1; tag = t; element = e }
+-- N 1, k 1, D 0, E 1, and two clients
+abbrev pub one : Config
+one = config 1 1 0 1 2
+
+-- a message of client c to server 1, in its operation 1
+abbrev pub message : Kind → ℕ → Tag → Option (List ℕ) → Message (List ℕ)
+message kind c t e = record { kind = kind; client = c; server = 1; operation = 1; tag = t; element = e }
+
+-- a pre-write of (z, c), by client c, with the element z; a read finalise by client 1
+abbrev pub preWrite : ℕ → ℕ → Message (List ℕ)
+preWrite z c = message PreWrite c (tag z c) (some (z ∷ []))
+
+abbrev pub readFinalise : ℕ → ℕ → Message (List ℕ)
+readFinalise z c = message ReadFinalise 1 (tag z c) none
 
 -- server 1 with D 0 is handed a message
-abbrev pub step : Server ℕ → Kind → Tag → Option ℕ → Served ℕ
-step v kind t e = serverStep key 0 1 v (message kind t e)
+abbrev pub step : Server (List ℕ) → Message (List ℕ) → Served (List ℕ)
+step v m = serverStep key 0 1 v m
 
 -- "D 0, fresh", and after each of the pre-writes
-abbrev pub server-0 : Server ℕ
-server-0 = freshServer 0
+abbrev pub server-0 : Server (List ℕ)
+server-0 = freshServer (0 ∷ [])
 
-abbrev pub server-1 : Server ℕ
-server-1 = step server-0 PreWrite (tag 1 1) (some 1) .server
+abbrev pub server-1 : Server (List ℕ)
+server-1 = step server-0 (preWrite 1 1) .server
 
-abbrev pub server-2 : Server ℕ
-server-2 = step server-1 PreWrite (tag 2 1) (some 2) .server
+abbrev pub server-2 : Server (List ℕ)
+server-2 = step server-1 (preWrite 2 1) .server
 
-abbrev pub server-3 : Served ℕ
-server-3 = step server-2 PreWrite (tag 1 2) (some 3)
+abbrev pub server-3 : Served (List ℕ)
+server-3 = step server-2 (preWrite 1 2)
+
+-- the last of these as a state with its store, and the number that a step in it gets
+abbrev pub state-3 : State
+state-3 = record { me = record { 0 = 1 }; highest = start; floor = Floor.At (tag 1 2); count = 1; tags = replicate 8 (tag 2 1) }
+
+abbrev pub store-3 : List ℕ
+store-3 = 2 ∷ []
+
+abbrev pub gets : Message (List ℕ) → ℕ
+gets m = firstNo (stepQuestions one state-3 (recordOf one m) store-3 (replicate 80 0))
 
 pub record Figures : Type 0 where
   -- "(N, k) gives q: (5, 3) 4; (5, 5) 5; (6, 3) 5; (16, 1) 9."
@@ -85,7 +113,11 @@ pub record Figures : Type 0 where
   -- "then (1, 2) gives floor (1, 2), not stored, acknowledged;"
   pub floor-3 : server-3 .server .floor ≡ some (tag 1 2)
   pub not-stored : elementOf key (tag 1 2) (server-3 .server .stored) ≡ none
-  pub acknowledged : server-3 .answer ≡ some (message PreWriteAnswer (tag 1 2) none)
-  -- "a read finalise of (1, 1) gets 15; one of (3, 1) is answered without an element." No answer is 15.
-  pub read-1-1 : step (server-3 .server) ReadFinalise (tag 1 1) none .answer ≡ none
-  pub read-3-1 : step (server-3 .server) ReadFinalise (tag 3 1) none .answer ≡ some (message ReadFinaliseAnswer (tag 3 1) none)
+  pub acknowledged : server-3 .answer ≡ some (message PreWriteAnswer 2 (tag 1 2) none)
+  -- "a read finalise of (1, 1) gets 15; one of (3, 1) is answered without an element."
+  pub seen-3 : view one state-3 store-3 ≡ server-3 .server
+  pub read-1-1 : gets (readFinalise 1 1) ≡ 15
+  pub accepted-3-1 : gets (readFinalise 3 1) ≡ 0
+  pub read-3-1 : step (server-3 .server) (readFinalise 3 1) .answer ≡ some (message ReadFinaliseAnswer 1 (tag 3 1) none)
+  -- each of these messages is one of the configuration
+  pub formed : all (map (ofConfig one) (preWrite 1 1 ∷ preWrite 2 1 ∷ preWrite 1 2 ∷ readFinalise 1 1 ∷ readFinalise 3 1 ∷ [])) ≡ true

@@ -1,4 +1,5 @@
 pub mod Bools
+pub mod Bytes
 pub mod Lists
 pub mod Parts
 pub mod Servers

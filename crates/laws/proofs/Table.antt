@@ -42,18 +42,24 @@ next step x (y ∷ ys) t (suc i) h = next step (step x) ys (and-right (eqb y x) 
 -- ---- a table whose entries each pass a test of their place
 
 -- f passes at each entry and its place, counted from i
-abbrev pub passes : (ℕ → ℕ → Bool) → ℕ → List ℕ → Bool
+abbrev pub passes : {A : Type 0} → (ℕ → A → Bool) → ℕ → List A → Bool
 passes f i [] = true
 passes f i (x ∷ xs) = f i x && passes f (suc i) xs
 
-passes-from : (f : ℕ → ℕ → Bool) (i : ℕ) (xs : List ℕ) → T (passes f i xs) → (k : ℕ) → k < length xs → T (f (i + k) (getD xs k 0))
-passes-from f i [] t k h = absurd (not-suc-le-zero h)
-passes-from f i (x ∷ xs) t zero h = rw add-zero (and-left (f i x) (passes f (suc i) xs) t)
-passes-from f i (x ∷ xs) t (suc k) h =
-    rw (add-suc, ← suc-add i k) (passes-from f (suc i) xs (and-right (f i x) (passes f (suc i) xs) t) k (le-of-suc-le-suc h))
+module _ {A : Type 0} (d : A) where
+  passes-from : (f : ℕ → A → Bool) (i : ℕ) (xs : List A) → T (passes f i xs) → (k : ℕ) → k < length xs → T (f (i + k) (getD xs k d))
+  passes-from f i [] t k h = absurd (not-suc-le-zero h)
+  passes-from f i (x ∷ xs) t zero h = rw add-zero (and-left (f i x) (passes f (suc i) xs) t)
+  passes-from f i (x ∷ xs) t (suc k) h =
+      rw (add-suc, ← suc-add i k) (passes-from f (suc i) xs (and-right (f i x) (passes f (suc i) xs) t) k (le-of-suc-le-suc h))
 
+  -- each entry passes at its place
+  pub entry : (f : ℕ → A → Bool) (xs : List A) → T (passes f 0 xs) → (k : ℕ) → k < length xs → T (f k (getD xs k d))
+  entry f xs t k h = rw zero-add at (passes-from f 0 xs t k h)
+
+-- a table of numbers
 pub at : (f : ℕ → ℕ → Bool) (xs : List ℕ) → T (passes f 0 xs) → (k : ℕ) → k < length xs → T (f k (getD xs k 0))
-at f xs t k h = rw zero-add at (passes-from f 0 xs t k h)
+at = entry 0
 
 -- ---- a table that has each of the numbers from 1
 

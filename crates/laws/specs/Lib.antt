@@ -1,3 +1,5 @@
 pub mod Algebra
+pub mod Bytes
+pub mod Lists
 pub mod Parts
 pub mod Servers

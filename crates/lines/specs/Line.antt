@@ -6,9 +6,9 @@ use mathlib.Core.List.{List, [], _∷_, _++_}
 use mathlib.Core.Path.{_≡_}
 use lib.Dec.{ltb}
 use lib.ListN.{length, take}
-use Rattle.config.specs.Refusal.{numberOf}
+use Rattle.config.specs.Refusal.{refusalNumber}
 use Rattle.tag.specs.declared.Tag.{Tag}
-use Rattle.rig.specs.declared.Answer.{Answer}
+use Rattle.parties.specs.declared.Answer.{Answer}
 use Rattle.io.specs.Digits.{glyph}
 
 -- the decimal digits of a number that has at most so many
@@ -53,7 +53,7 @@ saidOf Answer.Nothing read = 32 ∷ 111 ∷ 107 ∷ 10 ∷ []
 saidOf (Answer.Written c t) read = writtenOf t
 saidOf (Answer.Spent c) read = 32 ∷ 115 ∷ 112 ∷ 101 ∷ 110 ∷ 116 ∷ 10 ∷ []
 saidOf (Answer.Read c t) read = shownOf t read
-saidOf (Answer.No why) read = refusedOf (numberOf why)
+saidOf (Answer.No why) read = refusedOf (refusalNumber why)
 
 -- the line of an event
 unfoldable pub lineOf : ℕ → Answer → List ℕ → List ℕ

@@ -1,6 +1,6 @@
 // The line of an event.
 use super::text;
-use rig::Answer;
+use parties::Answer;
 use tag::Tag;
 ghost use Prim.Native.Nat.{_+_, _*_, _≤_};
 ghost use lib.ListN.{length};

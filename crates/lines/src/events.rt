@@ -1,8 +1,8 @@
 // Records of 4 + V bytes from standard input, an event each, and their lines to standard output.
 use super::answer;
 use config::Config;
+use rig::Call;
 use rig::Rig;
-use rig::Seat;
 ghost use Prim.Native.Nat.{_+_, _*_, _≤_};
 ghost use lib.ListN.{length};
 
@@ -127,14 +127,12 @@ fn block(
         }
         let next = at + size;
         let bytes = at + 4;
-        let position = super::little(input[at + 2], input[at + 3]);
+        let call = called(at, input);
         let change = rig::changes(
             cfg,
             m,
             rig,
-            input[at],
-            input[at + 1],
-            position,
+            call,
             &input[bytes..next],
             read,
             messages,
@@ -146,14 +144,11 @@ fn block(
         let part = change.part;
         let s = part.server;
         let c = part.client;
-        let kept = part.seat;
-        let state = part.state;
-        let seat = Seat {
-            state: kept,
-            up: part.up,
-        };
-        rig.servers[s] = seat;
-        rig.clients[c] = state;
+        let pair = part.pair;
+        let node = pair.node;
+        let client = pair.client;
+        rig.servers[s] = node;
+        rig.clients[c] = client;
         rig.count = part.count;
         used = answer::line(count, answer, read, output, used);
         count = std::num::wrapping_add_u64(count, 1);
@@ -165,6 +160,17 @@ fn block(
         at,
         end: run.end,
         used,
+    }
+}
+
+// The event of the record at a place: its code, party and position.
+fn called(at: usize, input: &[u8]) -> Call
+    requires { ⌜ at + 4 ≤ length (now input) ⌝ }
+{
+    Call {
+        code: input[at],
+        party: input[at + 1],
+        position: super::little(input[at + 2], input[at + 3]),
     }
 }
 

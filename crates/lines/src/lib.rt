@@ -1,5 +1,5 @@
 // Events from standard input to lines on standard output: what the programs board and simulate share. Every function is proved to
-// be safe and to end, nothing is assumed, and no public function has a `requires`.
+// be safe and to end, but for reading and writing, whose C functions' contracts are assumed; no public function has a `requires`.
 mod answer;
 mod events;
 mod text;
@@ -62,7 +62,7 @@ fn measured(cfg: Config, m: usize) -> Lengths
 }
 
 // A number of two bytes, the low one first.
-pub(crate) fn little(low: u8, high: u8) -> usize
+pub fn little(low: u8, high: u8) -> usize
     ensures { λ r. ⌜ r ≡ low + 256 * high ⌝ }
 {
     low as usize + 256 * high as usize

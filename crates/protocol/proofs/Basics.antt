@@ -1,6 +1,6 @@
 -- Tests, and functions changed at one number.
 use Prim.Native.Nat.{ℕ}
-use mathlib.Core.Path.{_≡_, refl}
+use mathlib.Core.Path.{_≡_, refl, sym, _∙_, ap, fun-ext}
 use mathlib.Core.Bool.{Bool, true, false, cond, _&&_, false≢true}
 use mathlib.Core.Logic.{_⊎_, inl, inr}
 use mathlib.Core.Option.{none, some, Option·none-ne-some, Option·some-injective}
@@ -34,6 +34,13 @@ upd-same f n a = rw (eq-eqb n n refl)
 pub upd-other : {A : Type 0} (f : ℕ → A) (n : ℕ) (a : A) (m : ℕ) → (m ≡ n → ⊥) → upd f n a m ≡ f m
 unfolding upd
 upd-other f n a m h = rw (ne-eqb m n h)
+
+pub upd-own : {A : Type 0} (f : ℕ → A) (n : ℕ) → upd f n (f n) ≡ f
+upd-own {A} f n = fun-ext (λ m. upd-elim (λ (x : A). x ≡ f m) f n (f n) m (λ e. ap f (sym e)) (λ e. refl))
+
+pub upd-twice : {A : Type 0} (f : ℕ → A) (n : ℕ) (a b : A) → upd (upd f n a) n b ≡ upd f n b
+upd-twice {A} f n a b =
+    fun-ext (λ m. upd-elim (λ (x : A). x ≡ upd f n b m) (upd f n a) n b m (λ e. sym (ap (upd f n b) e ∙ upd-same f n b)) (λ e. upd-other f n a m e ∙ sym (upd-other f n b m e)))
 
 pub none≢some : {A : Type 0} {a : A} → none ≡ some a → ⊥
 none≢some {a = a} e = Option·none-ne-some a e

@@ -6,41 +6,40 @@ use mathlib.Core.Option.{Option, none, some}
 use mathlib.Core.List.{List, [], _∷_, _++_, append-assoc, append-nil, List·Memᴰ, List·Memᴰ·head, List·Memᴰ·tail}
 use lib.Dec.{eqb}
 use borrow.Author.Tests.{eqb-true}
+use native.Mathlib.Decide.{ℕ-discrete}
 use native.Mathlib.Omega.{arith}
 use Rattle.config.specs.declared.Config.{Config}
+use Rattle.config.specs.Questions.{Question, firstNo}
+use Rattle.config.proofs.Questions.{firstNo-stop}
 use Rattle.tag.specs.declared.Tag.{Tag}
-use Rattle.protocol.specs.Client.{firstNo}
 use Rattle.protocol.specs.Board.{Call, Event, refused}
-use Rattle.protocol.specs.Rig.{Rig, Code, codeOf, moveOf, partyQuestions, questions, unlessNo, event, run, Execution, refuses, moves}
-use Rattle.protocol.proofs.Move.{numberOf, code-number}
+use Rattle.protocol.specs.Rig.{Rig, Code, codeOf, moveOf, questionsTo11, questions, unlessNo, event, run, Execution, refuses, moves}
+use Rattle.protocol.proofs.Move.{codeNumber, code-number}
 
 -- questions that were all answered with yes: the first of them were
-firstNo-append : (xs ys : List (ℕ × Bool)) → firstNo (xs ++ ys) ≡ 0 → firstNo xs ≡ 0
-unfolding firstNo
-firstNo-append [] ys e = refl
-firstNo-append (x ∷ xs) ys e = go (x .1) e (firstNo-append xs ys)
-  where
-    go : (b : Bool) → cond b (firstNo (xs ++ ys)) (x .0) ≡ 0 → (firstNo (xs ++ ys) ≡ 0 → firstNo xs ≡ 0) → cond b (firstNo xs) (x .0) ≡ 0
-    go true h below = below h
-    go false h below = h
+firstNo-append : (xs ys : List Question) → firstNo (xs ++ ys) ≡ 0 → firstNo xs ≡ 0
+firstNo-append xs ys e = elim (ℕ-discrete (firstNo xs) 0) as (λ _. firstNo xs ≡ 0) [
+  | yes h ↦ h
+  | no h ↦ sym (firstNo-stop xs ys h) ∙ e
+]
 
 module _ {Value Element : Type 0} (key : Tag → ℕ) (encode : Value → ℕ → Element) (decode : List (ℕ × Element) → Value) (cfg : Config) (IsBoard : Value → Type 0) (start : Value) (most : ℕ) where
   abbrev Run : Rig Value Element → List (Event Value) → Type 0
   Run = Execution key encode decode cfg IsBoard start
 
   -- an event, by what its number says
-  event-runs : (r : Rig Value Element) (h : List (Event Value)) → Run r h → (a : Call Value) → (a .code ≡ 1 → IsBoard (a .board)) → (o : Option Code) → codeOf (a .code) ≡ o → (b : Bool) → eqb (firstNo (questions key encode decode cfg most r a o)) 0 ≡ b → Run (cond b (moveOf key encode decode cfg r a o) (record { rig = r; answer = refused (firstNo (questions key encode decode cfg most r a o)) }) .rig) (h ++ (record { call = a; answer = cond b (moveOf key encode decode cfg r a o) (record { rig = r; answer = refused (firstNo (questions key encode decode cfg most r a o)) }) .answer } ∷ []))
-  unfolding questions moveOf firstNo numberOf
-  event-runs r h runs a board o e false f = refuses runs a (firstNo (questions key encode decode cfg most r a o))
+  event-runs : (r : Rig Value Element) (h : List (Event Value)) → Run r h → (a : Call Value) → (a .code ≡ 1 → IsBoard (a .board)) → (o : Option Code) → codeOf (a .code) ≡ o → (b : Bool) → eqb (firstNo (questions key encode decode cfg most r a true o)) 0 ≡ b → Run (cond b (moveOf key encode decode cfg r a o) (record { rig = r; answer = refused (firstNo (questions key encode decode cfg most r a true o)) }) .rig) (h ++ (record { call = a; answer = cond b (moveOf key encode decode cfg r a o) (record { rig = r; answer = refused (firstNo (questions key encode decode cfg most r a true o)) }) .answer } ∷ []))
+  unfolding questions moveOf firstNo codeNumber
+  event-runs r h runs a board o e false f = refuses runs a (firstNo (questions key encode decode cfg most r a true o))
   event-runs r h runs a board none e true f = absurd (omega (arith, eqb-true 7 0 f))
   event-runs r h runs a board (some w) e true f =
-      moves runs a w e (firstNo-append (partyQuestions cfg r a w) _ (eqb-true _ 0 f)) (λ i. board (code-number (a .code) w e ∙ ap numberOf i))
+      moves runs a w e (firstNo-append (questionsTo11 cfg r a w) _ (eqb-true _ 0 f)) (λ i. board (code-number (a .code) w e ∙ ap codeNumber i))
 
   -- the model's event, whatever it answers, goes on with the run
   pub event-run : (r : Rig Value Element) (h : List (Event Value)) → Run r h → (a : Call Value) → (a .code ≡ 1 → IsBoard (a .board)) → Run (event key encode decode cfg most r a .rig) (h ++ (record { call = a; answer = event key encode decode cfg most r a .answer } ∷ []))
   unfolding event unlessNo
   event-run r h runs a board =
-      event-runs r h runs a board (codeOf (a .code)) refl (eqb (firstNo (questions key encode decode cfg most r a (codeOf (a .code)))) 0) refl
+      event-runs r h runs a board (codeOf (a .code)) refl (eqb (firstNo (questions key encode decode cfg most r a true (codeOf (a .code)))) 0) refl
 
   pub calls-run : (calls : List (Call Value)) → ((a : Call Value) → List·Memᴰ a calls → a .code ≡ 1 → IsBoard (a .board)) → (r : Rig Value Element) (h : List (Event Value)) → Run r h → (r′ : Rig Value Element) × Run r′ (h ++ run key encode decode cfg most r calls)
   unfolding run

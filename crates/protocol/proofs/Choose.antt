@@ -4,14 +4,15 @@ use mathlib.Core.Path.{_≡_, refl, sym, _∙_}
 use mathlib.Core.Bool.{Bool, true, false≢true}
 use mathlib.Core.Logic.{_⊎_, inl, inr, ⊎-elim}
 use mathlib.Core.Option.{Option, none, some}
+use mathlib.Core.List.{List, _++_}
 use native.Mathlib.Nat.{le-refl}
 use native.Mathlib.Omega.{arith}
 use Rattle.tag.specs.declared.Tag.{Tag}
 use Rattle.record.specs.declared.Kind.the-variants.{PreWrite, ReadFinalise}
+use Rattle.record.specs.Message.{Message}
 use Rattle.protocol.specs.Number.{upd, nothingYet}
-use Rattle.protocol.specs.Tags.{kindNumber}
 use Rattle.protocol.specs.Client.{Moved, enough, nextTag, sendReadFinalises, sendPreWrites}
-use Rattle.protocol.specs.Rig.{Rig, withClient}
+use Rattle.protocol.specs.Parties.{Parties, withClient}
 use Rattle.protocol.proofs.Basics.{upd-elim, upd-same, upd-other, none≢some, some-injective}
 use Rattle.protocol.proofs.World.{Setting, Ghost, know, Known, Current, Asking, Good}
 use Rattle.protocol.proofs.Monotone.{Below, known-up}
@@ -23,9 +24,9 @@ use Rattle.protocol.proofs.ClientChange.{taken-up, client-chose}
 module _ (S : Setting) where
   open Setting S using (Value, Element, cfg, key, encode, IsBoard)
 
-  module _ {r : Rig Value Element} {g : Ghost S} {now : ℕ} (a : Good S r g now) (c : ℕ) (best : Tag) (cs : ℕ → Bool) (q : enough cfg cs ≡ true) where
+  module _ {ps : Parties Value Element} {ms : List (Message Element)} {g : Ghost S} {now : ℕ} (a : Good S ps ms g now) (c : ℕ) (best : Tag) (cs : ℕ → Bool) (q : enough cfg cs ≡ true) where
     abbrev o : ℕ
-    o = r .clients c .operation
+    o = ps .clients c .operation
 
     -- client c has the tag that it took
     current-taken : (board : Option Value) (t : Tag) (bytes : ℕ → Option Value) → Current S g c board none → Current S (chose S g (g .latest c) t bytes) c board (some t)
@@ -39,25 +40,25 @@ module _ (S : Setting) where
         }
 
     -- a read takes the best tag
-    module _ (asks : Asking S (know S r g) g c none best cs) where
+    module _ (asks : Asking S (know S ps g) g c none best cs) where
       abbrev reads : Moved Value Element
       reads = sendReadFinalises cfg c o best
 
       abbrev pub afterRead : Ghost S
       afterRead = chose S g (g .latest c) best (g .bytes)
 
-      read-up : Below S (know S r g) (know S (withClient r c (reads .client) (reads .sends)) afterRead)
+      read-up : Below S (know S ps g) (know S (withClient ps c (reads .client)) afterRead)
       unfolding sendReadFinalises
-      read-up = taken-up S a c (reads .client) (reads .sends) best (g .bytes) refl (λ n v e. e)
+      read-up = taken-up S a c (reads .client) best (g .bytes) refl (λ n v e. e)
 
-      read-number : o ≤ know S (withClient r c (reads .client) (reads .sends)) afterRead .number c
+      read-number : o ≤ know S (withClient ps c (reads .client)) afterRead .number c
       unfolding sendReadFinalises know withClient
-      read-number = rw (upd-same (r .clients) c (reads .client)) (le-refl _)
+      read-number = rw (upd-same (ps .clients) c (reads .client)) (le-refl _)
 
-      pub read-chose : Good S (withClient r c (reads .client) (reads .sends)) afterRead (now + 1)
+      pub read-chose : Good S (withClient ps c (reads .client)) (ms ++ reads .sends) afterRead (now + 1)
       unfolding sendReadFinalises know withClient
       read-chose =
-          client-chose S a c (reads .client) (reads .sends) best (g .bytes) refl (λ n v e. e)
+          client-chose S a c (reads .client) best (g .bytes) refl (λ n v e. e) (reads .sends)
           (record {
             begun = asks .current .begun;
             unchosen = asks .current .chosen;
@@ -80,7 +81,7 @@ module _ (S : Setting) where
           })
 
     -- a write takes the next tag
-    module _ (board : Value) (asks : Asking S (know S r g) g c (some board) best cs) where
+    module _ (board : Value) (asks : Asking S (know S ps g) g c (some board) best cs) where
       abbrev t : Tag
       t = nextTag best c
 
@@ -104,20 +105,20 @@ module _ (S : Setting) where
       grows : (n : ℕ) (v : Value) → g .bytes n ≡ some v → bytes n ≡ some v
       grows n v e = upd-other (g .bytes) (key t) (some board) n (new n v e) ∙ e
 
-      write-up : Below S (know S r g) (know S (withClient r c (writes .client) (writes .sends)) afterWrite)
+      write-up : Below S (know S ps g) (know S (withClient ps c (writes .client)) afterWrite)
       unfolding sendPreWrites
-      write-up = taken-up S a c (writes .client) (writes .sends) t bytes refl grows
+      write-up = taken-up S a c (writes .client) t bytes refl grows
 
-      write-known : Known S (know S (withClient r c (writes .client) (writes .sends)) afterWrite) t
+      write-known : Known S (know S (withClient ps c (writes .client)) afterWrite) t
       unfolding know nextTag
       write-known =
           record { board = board; is = upd-same (g .bytes) (key t) (some board); within = asks .current .high }
 
-      write-number : o ≤ know S (withClient r c (writes .client) (writes .sends)) afterWrite .number c
+      write-number : o ≤ know S (withClient ps c (writes .client)) afterWrite .number c
       unfolding sendPreWrites know withClient
-      write-number = rw (upd-same (r .clients) c (writes .client)) (le-refl _)
+      write-number = rw (upd-same (ps .clients) c (writes .client)) (le-refl _)
 
-      choice : Choice S (know S r g) (know S (withClient r c (writes .client) (writes .sends)) afterWrite) g (g .latest c) c (some board) t
+      choice : Choice S (know S ps g) (know S (withClient ps c (writes .client)) afterWrite) g (g .latest c) c (some board) t
       unfolding know
       choice =
           record {
@@ -137,9 +138,9 @@ module _ (S : Setting) where
             aboveWrite = λ v e p x u h i j. omega (arith, best-above S asks q (a .log) p x u h i j, next-above S asks q (a .log));
           }
 
-      pub write-chose : Good S (withClient r c (writes .client) (writes .sends)) afterWrite (now + 1)
+      pub write-chose : Good S (withClient ps c (writes .client)) (ms ++ writes .sends) afterWrite (now + 1)
       unfolding sendPreWrites write-known
       write-chose =
-          client-chose S a c (writes .client) (writes .sends) t bytes refl grows choice
+          client-chose S a c (writes .client) t bytes refl grows (writes .sends) choice
           (sent-good S PreWrite c o t (λ s. some (encode board s)) (λ h. omega arith, λ h. omega arith, λ h. omega arith) write-number write-known (λ s x e. sym (some-injective e)))
           (record { board = board; current = current-taken (some board) t bytes (asks .current) })

@@ -3,16 +3,16 @@ use Prim.Native.Nat.{ℕ, _+_, _≤_}
 use mathlib.Core.Path.{_≡_, refl, sym, _∙_, ap}
 use mathlib.Core.Bool.{false≢true}
 use mathlib.Core.Option.{Option, none, some}
-use mathlib.Core.List.{List, List·Memᴰ}
+use mathlib.Core.List.{List, _++_, List·Memᴰ}
 use native.Mathlib.Nat.{le-refl}
 use native.Mathlib.Omega.{arith}
 use Rattle.tag.specs.declared.Tag.{Tag}
 use Rattle.record.specs.Message.{Message}
 use Rattle.protocol.specs.Number.{upd, nobody}
-use Rattle.protocol.specs.Tags.{startingTag}
+use Rattle.tag.specs.Tag.{start as startingTag}
 use Rattle.protocol.specs.Client.{Client, asking}
 use Rattle.protocol.specs.Board.{Answer}
-use Rattle.protocol.specs.Rig.{Rig, withClient}
+use Rattle.protocol.specs.Parties.{Parties, withClient}
 use Rattle.protocol.proofs.Basics.{upd-elim, upd-same, upd-other, none≢some, some-injective}
 use Rattle.protocol.proofs.Quorum.{quorum-map}
 use Rattle.protocol.proofs.World.{Setting, Ghost, know, GoodMessage, GoodPhase, Idle, Asking, Good}
@@ -31,46 +31,46 @@ module _ (S : Setting) where
   apart g p c d b b′ other e f h =
       other (ap (λ (x : ℕ × Option Value). x .0) (some-injective (sym f ∙ ap (g .begun) h ∙ e)))
 
-  module _ {r : Rig Value Element} {g : Ghost S} {now : ℕ} (a : Good S r g now) where
+  module _ {ps : Parties Value Element} {ms : List (Message Element)} {g : Ghost S} {now : ℕ} (a : Good S ps ms g now) where
     -- client c changes but for its operation number
     abbrev Onward : ℕ → Client Value Element → Type 0
-    Onward c x = x .operation ≡ r .clients c .operation
+    Onward c x = x .operation ≡ ps .clients c .operation
 
-    onward-up : (c : ℕ) (x : Client Value Element) (sends : List (Message Element)) (g′ : Ghost S) → Onward c x → ((d s : ℕ) → g′ .base d s ≡ g .base d s) → ((n : ℕ) (v : Value) → g .bytes n ≡ some v → g′ .bytes n ≡ some v) → Below S (know S r g) (know S (withClient r c x sends) g′)
+    onward-up : (c : ℕ) (x : Client Value Element) (g′ : Ghost S) → Onward c x → ((d s : ℕ) → g′ .base d s ≡ g .base d s) → ((n : ℕ) (v : Value) → g .bytes n ≡ some v → g′ .bytes n ≡ some v) → Below S (know S ps g) (know S (withClient ps c x) g′)
     unfolding know withClient
-    onward-up c x sends g′ same base bytes =
+    onward-up c x g′ same base bytes =
         record {
           high = λ s. le-refl _;
           number = λ d.
-              upd-elim (λ (y : Client Value Element). r .clients d .operation ≤ y .operation) (r .clients) c x d
-              (λ e. omega (arith, same, ap (λ (z : ℕ). r .clients z .operation) e))
+              upd-elim (λ (y : Client Value Element). ps .clients d .operation ≤ y .operation) (ps .clients) c x d
+              (λ e. omega (arith, same, ap (λ (z : ℕ). ps .clients z .operation) e))
               (λ n. le-refl _);
           base = λ d e s. base d s;
           bytes = bytes;
         }
 
     -- client c goes on, and the record stays
-    pub client-moved : (c : ℕ) (x : Client Value Element) (sends : List (Message Element)) → Onward c x → GoodPhase S (know S r g) g c (x .phase) → ((m : Message Element) → List·Memᴰ m sends → GoodMessage S (know S r g) m) → Good S (withClient r c x sends) g (now + 1)
+    pub client-moved : (c : ℕ) (x : Client Value Element) (sends : List (Message Element)) → Onward c x → GoodPhase S (know S ps g) g c (x .phase) → ((m : Message Element) → List·Memᴰ m sends → GoodMessage S (know S ps g) m) → Good S (withClient ps c x) (ms ++ sends) g (now + 1)
     unfolding know withClient
     client-moved c x sends same phase sent =
-        let up = onward-up c x sends g same (λ d s. refl) (λ n v e. e) in
+        let up = onward-up c x g same (λ d s. refl) (λ n v e. e) in
         client-changed S a c x sends g up (λ d n. keeps-refl S g d) (a .base)
         (λ m i. message-up S up (sent m i))
-        (phase-up S up (keeps-refl S g c) (sym same ∙ sym (ap (λ (y : Client Value Element). y .operation) (upd-same (r .clients) c x))) (x .phase) phase)
+        (phase-up S up (keeps-refl S g c) (sym same ∙ sym (ap (λ (y : Client Value Element). y .operation) (upd-same (ps .clients) c x))) (x .phase) phase)
         (log-up S up (λ n. refl) (omega arith) (a .log))
 
     -- client c takes the tag t
-    module _ (c : ℕ) (x : Client Value Element) (sends : List (Message Element)) (t : Tag) (bytes : ℕ → Option Value) (same : Onward c x) (grows : (n : ℕ) (v : Value) → g .bytes n ≡ some v → bytes n ≡ some v) where
+    module _ (c : ℕ) (x : Client Value Element) (t : Tag) (bytes : ℕ → Option Value) (same : Onward c x) (grows : (n : ℕ) (v : Value) → g .bytes n ≡ some v → bytes n ≡ some v) where
       abbrev pub taken : Ghost S
       taken = chose S g (g .latest c) t bytes
 
-      pub taken-up : Below S (know S r g) (know S (withClient r c x sends) taken)
-      taken-up = onward-up c x sends taken same (λ d s. refl) grows
+      pub taken-up : Below S (know S ps g) (know S (withClient ps c x) taken)
+      taken-up = onward-up c x taken same (λ d s. refl) grows
 
-      pub client-chose : {board : Option Value} → Choice S (know S r g) (know S (withClient r c x sends) taken) g (g .latest c) c board t → ((m : Message Element) → List·Memᴰ m sends → GoodMessage S (know S (withClient r c x sends) taken) m) → GoodPhase S (know S (withClient r c x sends) taken) taken c (x .phase) → Good S (withClient r c x sends) taken (now + 1)
-      client-chose {board} choice sent phase =
+      pub client-chose : (sends : List (Message Element)) {board : Option Value} → Choice S (know S ps g) (know S (withClient ps c x) taken) g (g .latest c) c board t → ((m : Message Element) → List·Memᴰ m sends → GoodMessage S (know S (withClient ps c x) taken) m) → GoodPhase S (know S (withClient ps c x) taken) taken c (x .phase) → Good S (withClient ps c x) (ms ++ sends) taken (now + 1)
+      client-chose sends {board} choice sent phase =
           client-changed S a c x sends taken taken-up keeps (a .base) sent phase
-          (log-up S (below-refl S (know S (withClient r c x sends) taken)) (λ n. refl) (omega arith) (log-chose S bytes taken-up choice (a .log) grows))
+          (log-up S (below-refl S (know S (withClient ps c x) taken)) (λ n. refl) (omega arith) (log-chose S bytes taken-up choice (a .log) grows))
         where
           keeps : (d : ℕ) → (d ≡ c → ⊥) → Keeps S g taken d
           keeps d n =
@@ -84,11 +84,11 @@ module _ (S : Setting) where
               }
 
     -- client c's operation ends, by an answer
-    pub client-ended : (c : ℕ) (x : Client Value Element) (sends : List (Message Element)) (answer : Answer Value) {board : Option Value} → Onward c x → End S (know S r g) g (g .latest c) c board answer → ((m : Message Element) → List·Memᴰ m sends → GoodMessage S (know S r g) m) → GoodPhase S (know S (withClient r c x sends) (ended S g (g .latest c) (now, answer))) (ended S g (g .latest c) (now, answer)) c (x .phase) → Good S (withClient r c x sends) (ended S g (g .latest c) (now, answer)) (now + 1)
+    pub client-ended : (c : ℕ) (x : Client Value Element) (sends : List (Message Element)) (answer : Answer Value) {board : Option Value} → Onward c x → End S (know S ps g) g (g .latest c) c board answer → ((m : Message Element) → List·Memᴰ m sends → GoodMessage S (know S ps g) m) → GoodPhase S (know S (withClient ps c x) (ended S g (g .latest c) (now, answer))) (ended S g (g .latest c) (now, answer)) c (x .phase) → Good S (withClient ps c x) (ms ++ sends) (ended S g (g .latest c) (now, answer)) (now + 1)
     unfolding know withClient
     client-ended c x sends answer {board} same end sent phase =
         let g′ = ended S g (g .latest c) (now, answer) in
-        let up = onward-up c x sends g′ same (λ d s. refl) (λ n v e. e) in
+        let up = onward-up c x g′ same (λ d s. refl) (λ n v e. e) in
         client-changed S a c x sends g′ up keeps (a .base) (λ m i. message-up S up (sent m i)) phase (log-ended S up (λ n. refl) end (a .log))
       where
         keeps : (d : ℕ) → (d ≡ c → ⊥) → Keeps S g (ended S g (g .latest c) (now, answer)) d
@@ -107,30 +107,30 @@ module _ (S : Setting) where
             }
 
     -- client c begins an operation, with the board to write or none
-    module _ (c : ℕ) (board : Option Value) (sends : List (Message Element)) (idle : Idle S g c) (low : 1 ≤ c) (within : c ≤ Setting.cfg S .c) (isBoard : (v : Value) → board ≡ some v → Setting.IsBoard S v) where
+    module _ (c : ℕ) (board : Option Value) (idle : Idle S g c) (low : 1 ≤ c) (within : c ≤ Setting.cfg S .c) (isBoard : (v : Value) → board ≡ some v → Setting.IsBoard S v) where
       abbrev high : ℕ → ℕ
-      high s = key (r .servers s .highest)
+      high s = key (ps .servers s .highest)
 
       abbrev pub begins : Ghost S
       begins = began S g now c board high
 
       abbrev pub asks : Client Value Element
-      asks = record { operation = r .clients c .operation + 1; phase = asking board startingTag nobody }
+      asks = record { operation = ps .clients c .operation + 1; phase = asking board startingTag nobody }
 
-      pub begins-up : Below S (know S r g) (know S (withClient r c asks sends) begins)
+      pub begins-up : Below S (know S ps g) (know S (withClient ps c asks) begins)
       unfolding know withClient
       begins-up =
           record {
             high = λ s. le-refl _;
             number = λ d.
-                upd-elim (λ (y : Client Value Element). r .clients d .operation ≤ y .operation) (r .clients) c asks d
-                (λ e. omega (arith, ap (λ (z : ℕ). r .clients z .operation) e))
+                upd-elim (λ (y : Client Value Element). ps .clients d .operation ≤ y .operation) (ps .clients) c asks d
+                (λ e. omega (arith, ap (λ (z : ℕ). ps .clients z .operation) e))
                 (λ n. le-refl _);
             base = λ d e s.
                 upd-elim (λ (f : ℕ → ℕ). f s ≡ g .base d s) (g .base) c high d
                 (λ i.
-                let now-is : upd (r .clients) c asks d .operation ≡ r .clients c .operation + 1 = ap (λ (z : ℕ). upd (r .clients) c asks z .operation) i ∙ ap (λ (y : Client Value Element). y .operation) (upd-same (r .clients) c asks) in
-                absurd (omega (arith, e, now-is, ap (λ (z : ℕ). r .clients z .operation) i)))
+                let now-is : upd (ps .clients) c asks d .operation ≡ ps .clients c .operation + 1 = ap (λ (z : ℕ). upd (ps .clients) c asks z .operation) i ∙ ap (λ (y : Client Value Element). y .operation) (upd-same (ps .clients) c asks) in
+                absurd (omega (arith, e, now-is, ap (λ (z : ℕ). ps .clients z .operation) i)))
                 (λ n. refl);
             bytes = λ n v e. e;
           }
@@ -159,7 +159,7 @@ module _ (S : Setting) where
       unended none e = refl
       unended (some x) e = absurd (omega (arith, a .log .endingAfter now x e, a .log .endingBefore now x e))
 
-      phase : Asking S (know S (withClient r c asks sends) begins) begins c board startingTag nobody
+      phase : Asking S (know S (withClient ps c asks) begins) begins c board startingTag nobody
       unfolding know withClient
       phase =
           record {
@@ -171,16 +171,16 @@ module _ (S : Setting) where
               high = within;
             };
             isBoard = isBoard;
-            known = record { board = Setting.start S; is = a .log .startBytes; within = unfold startingTag in omega arith };
+            known = record { board = Setting.start S; is = a .log .startBytes; within = omega arith };
             start = le-refl _;
             answers = λ s e. absurd (false≢true e);
             earlier = λ p x t e f h.
                 quorum-map {P = λ s. key t ≤ high s} {Q = λ s. key t ≤ upd (g .base) c high c s} (λ s l. rw (upd-same (g .base) c high) l) (a .log .endingQuorum p x t e f);
           }
 
-      pub client-began : ((m : Message Element) → List·Memᴰ m sends → GoodMessage S (know S (withClient r c asks sends) begins) m) → Good S (withClient r c asks sends) begins (now + 1)
+      pub client-began : (sends : List (Message Element)) → ((m : Message Element) → List·Memᴰ m sends → GoodMessage S (know S (withClient ps c asks) begins) m) → Good S (withClient ps c asks) (ms ++ sends) begins (now + 1)
       unfolding know withClient
-      client-began sent =
+      client-began sends sent =
           client-changed S a c asks sends begins begins-up keeps
-          (λ d s. upd-elim (λ (f : ℕ → ℕ). f s ≤ key (r .servers s .highest)) (g .base) c high d (λ e. le-refl _) (λ e. a .base d s))
+          (λ d s. upd-elim (λ (f : ℕ → ℕ). f s ≤ key (ps .servers s .highest)) (g .base) c high d (λ e. le-refl _) (λ e. a .base d s))
           sent phase (log-began S c board high begins-up (λ n. refl) idle (a .log))

@@ -3,17 +3,17 @@
 -- the element of the first of them.
 use Prim.Native.Nat.{ℕ}
 use mathlib.Core.Path.{_≡_, refl}
-use mathlib.Core.Bool.{true, false}
 use mathlib.Core.Option.{some, none}
 use mathlib.Core.List.{List, [], _∷_, _++_, map}
 use lib.ListN.{replicate}
 use Rattle.config.specs.declared.Config.{Config}
+use Rattle.config.specs.Questions.{firstNo}
 use Rattle.tag.specs.declared.Tag.{Tag}
 use Rattle.tag.specs.Tag.{key}
 use Rattle.record.specs.declared.Kind.the-variants.{QueryAnswer, PreWrite}
 use Rattle.record.specs.Message.{Message}
-use Rattle.protocol.specs.Board.{Call, Answer, nothingEnded, writtenBy, readBy}
-use Rattle.protocol.specs.Client.{Client, Moved, Ended, asking, idle, clientStep, beginQuestions, firstNo}
+use Rattle.protocol.specs.Board.{Call, nothingEnded, writtenBy, readBy}
+use Rattle.protocol.specs.Client.{Client, Moved, Ended, asking, idle, clientStep, beginQuestions}
 use Rattle.protocol.specs.Server.{Server, serverStep, freshServer}
 use Rattle.protocol.proofs.Evaluate.{answersTo}
 

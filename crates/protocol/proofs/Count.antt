@@ -8,7 +8,8 @@ use borrow.Author.Tests.{eqb-true}
 use native.Mathlib.Omega.{arith}
 use Rattle.record.specs.Message.{Message}
 use Rattle.protocol.specs.Number.{upd}
-use Rattle.protocol.specs.Tags.{kindNumber, higher, same}
+use Rattle.record.specs.Record.{kindNumber}
+use Rattle.protocol.specs.Tags.{higher, sameKey}
 use Rattle.protocol.specs.Client.{Phase, idle, asking, preWriting, finalisingWrite, finalisingRead, down, isFirst, awaits, counting}
 use Rattle.protocol.proofs.Basics.{and-true, upd-elim, some-injective}
 use Rattle.protocol.proofs.Store.{higher-left, higher-right, higher-elim}
@@ -45,7 +46,7 @@ module _ (S : Setting) where
         }
     phase-counted (preWriting t cs) h a = a
     phase-counted (finalisingWrite t cs) h a =
-        let parts = and-true (isFirst 6 cs m) (same key (m .tag) t) h in
+        let parts = and-true (isFirst 6 cs m) (sameKey key (m .tag) t) h in
         record {
           board = a .board;
           current = a .current;
@@ -54,7 +55,7 @@ module _ (S : Setting) where
               (a .answers);
         }
     phase-counted (finalisingRead t cs es) h a =
-        let parts = and-true (isFirst 8 cs m) (same key (m .tag) t) h in
+        let parts = and-true (isFirst 8 cs m) (sameKey key (m .tag) t) h in
         let tags : key (m .tag) ≡ key t = eqb-true (key (m .tag)) (key t) (parts .1) in
         let boards : good .known .board ≡ a .known .board = some-injective (sym (good .known .is) ∙ ap (k .bytes) tags ∙ a .known .is) in
         record {

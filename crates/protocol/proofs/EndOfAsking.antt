@@ -8,9 +8,10 @@ use mathlib.Core.Logic.{⊎-elim}
 use mathlib.Core.Option.{Option, some}
 use native.Mathlib.Omega.{arith}
 use borrow.Author.Tests.{leb-true}
+use Rattle.config.specs.Config.{quorumOf}
 use Rattle.tag.specs.declared.Tag.{Tag}
 use Rattle.protocol.specs.Number.{count}
-use Rattle.protocol.specs.Client.{quorum, enough, nextTag}
+use Rattle.protocol.specs.Client.{enough, nextTag}
 use Rattle.protocol.specs.Board.{Answer}
 use Rattle.protocol.proofs.Basics.{none≢some}
 use Rattle.protocol.proofs.Quorum.{Quorum, quorums-meet}
@@ -23,7 +24,7 @@ module _ (S : Setting) where
     -- the counted servers are a quorum
     answered : Quorum cfg (λ s. k .base c s ≤ key best)
     unfolding enough
-    answered = record { members = cs; enough = leb-true (quorum cfg) (count cs (cfg .n)) q; each = asks .answers }
+    answered = record { members = cs; enough = leb-true (quorumOf cfg) (count cs (cfg .n)) q; each = asks .answers }
 
     -- the best tag is at or above that of each operation that ended before the begin
     pub best-above : (p : ℕ) (x : ℕ × Answer Value) (u : Tag) → g .ending p ≡ some x → g .chosen p ≡ some u → x .0 < g .latest c → key u ≤ key best

@@ -1,18 +1,20 @@
 -- Document 01's example of ten events, evaluated in the model: N 3, k 1, D 0, E 1, C 2, M 64, starting board 0. With k 1 and E 1 a board
 -- is one byte, and every server's element is that byte.
-use Prim.Native.Nat.{ℕ, _+_, _*_}
+use Prim.Native.Nat.{ℕ}
 use mathlib.Core.Path.{_≡_, refl}
-use mathlib.Core.List.{List, [], _∷_}
-use lib.ListN.{length}
+use mathlib.Core.Bool.{Bool, true, false}
+use mathlib.Core.Option.{some}
+use mathlib.Core.List.{List, [], _∷_, _++_}
+use lib.ListN.{length, replicate}
 use native.Mathlib.Omega.{arith}
 use Rattle.config.specs.declared.Config.{Config}
-use Rattle.tag.specs.declared.Tag.{Tag}
+use Rattle.config.specs.Questions.{firstNo}
 use Rattle.tag.specs.Tag.{key}
 use Rattle.protocol.specs.Rig
 use Rattle.protocol.specs.Laws.{TagOrder, Coding, Rising, ElementsOf}
-use Rattle.protocol.proofs.Evaluate.{answersTo}
+use Rattle.protocol.proofs.Evaluate.{answersTo, computed}
 use Rattle.protocol.proofs.Theorem.{atomic-calls}
-use Rattle.protocol.specs.Board.{Atomic, Call, Answer, refused, nothingEnded, readBy}
+use Rattle.protocol.specs.Board.{Atomic, Call, Answer, Event, refused, nothingEnded, writtenBy, readBy, wrote, showed, history, StandsFirst}
 
 abbrev pub config : Config
 config = record { n = 3; k = 1; d = 0; e = 1; c = 2 }
@@ -102,7 +104,52 @@ pub refused-so : answersTo key encode decode config 3 0 refusals ≡ refusal-ans
 unfolding answersTo refusals refusal-answers
 refused-so = refl
 
+-- Question 12 comes before 13: client 1 asks, and the first of its three messages would be handed over. An ill-formed one gets 12, whether M is
+-- 64 or 2; a well-formed one gets 13 if M is 2, since its answer is a third.
+abbrev asks : Rig.Rig ℕ ℕ
+asks = Rig.event key encode decode config 64 (Rig.freshRig config encode 0) (call 2 1 0) .rig
+
+abbrev hands : ℕ → Bool → ℕ
+hands most formed = firstNo (Rig.questions key encode decode config most asks (call 3 0 0) formed (some Rig.handOver))
+
+pub twelve-first : (hands 64 true ≡ 0) × (hands 64 false ≡ 12) × (hands 2 false ≡ 12) × (hands 2 true ≡ 13)
+unfolding answersTo
+twelve-first = (refl, refl, refl, refl)
+
 -- the theorem, for this configuration and code: every list of calls has a history with an order that fits
-pub example-atomic : (calls : List (Call ℕ)) → Atomic key 0 (Rig.run key encode decode config 64 (Rig.freshRig encode 0) calls)
+pub example-atomic : (calls : List (Call ℕ)) → Atomic key 0 (Rig.run key encode decode config 64 (Rig.freshRig config encode 0) calls)
 example-atomic calls =
     atomic-calls config key tags (λ v. Unit {0}) encode decode coding (omega arith) 0 tt 64 calls (λ a i e. tt)
+
+-- A write and a read of it: client 1 begins to write 7, and what is first in flight is handed over 18 times; then client 2 begins to read, and it is
+-- handed over 12 times more.
+abbrev handed : ℕ → List (Call ℕ)
+handed times = replicate times (call 3 0 0)
+
+pub write-then-read : List (Call ℕ)
+write-then-read = record { code = 1; party = 1; position = 0; board = 7 } ∷ handed 18 ++ call 2 2 0 ∷ handed 12
+
+pub write-then-read-answers : answersTo key encode decode config 64 0 write-then-read
+    ≡ replicate 17 nothingEnded
+    ++ writtenBy 1 (record { number = 1; client = 1 })
+    ∷ replicate 12 nothingEnded
+    ++ readBy 2 (record { number = 1; client = 1 }) 7
+    ∷ nothingEnded
+    ∷ []
+unfolding answersTo write-then-read
+write-then-read-answers = refl
+
+abbrev events : List (Event ℕ)
+events = Rig.run key encode decode config 64 (Rig.freshRig config encode 0) write-then-read
+
+-- the event at place 17 ends the write, and that at place 30 the read, of what was written
+pub write-then-read-history : (history events 0 ≡ wrote 7 17) × (history events 19 ≡ showed 7 30)
+unfolding answersTo computed write-then-read
+write-then-read-history = (refl, refl)
+
+-- in the order that the theorem finds, the write stands before the read
+pub write-stands-first : StandsFirst 0 19 (example-atomic write-then-read .order)
+unfolding answersTo computed write-then-read
+write-stands-first =
+    let fits = example-atomic write-then-read .fits in
+    fits .inTime 0 19 (fits .ended 0 tt) (fits .ended 19 tt) (omega arith)

@@ -1,11 +1,15 @@
--- Messages in flight: what is handed over, lost or doubled is one of them.
+-- Messages in flight: what is handed over, lost or doubled is one of them; where nothing is sent, those that an event leaves are all.
 use Prim.Native.Nat.{ℕ, zero, suc, _+_}
 use mathlib.Core.Path.{_≡_, refl, sym, subst}
 use mathlib.Core.Logic.{⊎-elim}
 use mathlib.Core.Option.{Option, none, some}
-use mathlib.Core.List.{List, [], _∷_, _++_, List·Memᴰ, List·Memᴰ·head, List·Memᴰ·tail, List·Memᴰ·not-nil, List·Memᴰ·cases-cons, List·Memᴰ·append-cases, List·Memᴰ·eq-of-singleton}
+use mathlib.Core.List.{List, [], _∷_, append-nil, List·Memᴰ, List·Memᴰ·head, List·Memᴰ·tail, List·Memᴰ·not-nil, List·Memᴰ·cases-cons, List·Memᴰ·append-cases, List·Memᴰ·eq-of-singleton}
 use lib.ListN.{take, drop, getElem?}
-use Rattle.protocol.specs.Rig.{listOf, without}
+use Rattle.record.specs.Message.{Message}
+use Rattle.protocol.specs.Number.{toList}
+use Rattle.protocol.specs.Board.{nothingEnded}
+use Rattle.protocol.specs.Parties.{Parties, quiet}
+use Rattle.protocol.specs.Rig.{without, doubled, leaves}
 use Rattle.protocol.proofs.Basics.{none≢some, some-injective}
 
 module _ {A : Type 0} where
@@ -28,11 +32,17 @@ module _ {A : Type 0} where
   unfolding without
   without-mem n xs y i = ⊎-elim (take-mem n xs y) (drop-mem (n + 1) xs y) (List·Memᴰ·append-cases (take n xs) i)
 
-  listOf-mem : (xs : List A) (p : ℕ) (o : Option A) → getElem? xs p ≡ o → (y : A) → List·Memᴰ y (listOf o) → List·Memᴰ y xs
-  unfolding listOf
-  listOf-mem xs p none e y i = absurd (List·Memᴰ·not-nil i)
-  listOf-mem xs p (some x) e y i = subst (λ (z : A). List·Memᴰ z xs) (sym (List·Memᴰ·eq-of-singleton i)) (at-mem xs p x e)
+  toList-mem : (xs : List A) (p : ℕ) (o : Option A) → getElem? xs p ≡ o → (y : A) → List·Memᴰ y (toList o) → List·Memᴰ y xs
+  unfolding toList
+  toList-mem xs p none e y i = absurd (List·Memᴰ·not-nil i)
+  toList-mem xs p (some x) e y i = subst (λ (z : A). List·Memᴰ z xs) (sym (List·Memᴰ·eq-of-singleton i)) (at-mem xs p x e)
 
-  pub doubled-mem : (p : ℕ) (xs : List A) (y : A) → List·Memᴰ y (xs ++ listOf (getElem? xs p)) → List·Memᴰ y xs
+  pub doubled-mem : (p : ℕ) (xs : List A) (y : A) → List·Memᴰ y (doubled p xs) → List·Memᴰ y xs
+  unfolding doubled
   doubled-mem p xs y i =
-      ⊎-elim (λ j. j) (listOf-mem xs p (getElem? xs p) refl y) (List·Memᴰ·append-cases xs i)
+      ⊎-elim (λ j. j) (toList-mem xs p (getElem? xs p) refl y) (List·Memᴰ·append-cases xs i)
+
+pub leaves-quiet : {Value Element : Type 0} (ms : List (Message Element)) (p : Parties Value Element) → leaves ms (quiet p)
+    ≡ record { rig = record { parties = p; inFlight = ms }; answer = nothingEnded }
+unfolding leaves quiet
+leaves-quiet ms p = λ i. record { rig = record { parties = p; inFlight = append-nil ms i }; answer = nothingEnded }

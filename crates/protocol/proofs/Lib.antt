@@ -1,34 +1,36 @@
 pub mod Evaluate
-pub mod Example
-pub mod Coded
+mod Example
+mod Coded
 pub mod Basics
-pub mod Quorum
-pub mod World
-pub mod Monotone
-pub mod LogUp
-pub mod LogChose
-pub mod LogEnded
-pub mod LogBegan
-pub mod Change
-pub mod Store
-pub mod ServerMove
-pub mod Send
-pub mod Count
-pub mod EndOfAsking
-pub mod ClientChange
+mod Quorum
+pub mod Pairs
+mod World
+mod Monotone
+mod LogUp
+mod LogChose
+mod LogEnded
+mod LogBegan
+mod Change
+mod Store
+mod ServerMove
+mod Send
+mod Count
+mod EndOfAsking
+mod ClientChange
 pub mod Present
-pub mod Choose
-pub mod Settle
-pub mod Events
-pub mod Recorded
-pub mod Fresh
+mod Choose
+mod Settle
+mod Events
+mod Recorded
+mod Fresh
 pub mod Flight
-pub mod Move
-pub mod Sort
-pub mod Replay
-pub mod Order
-pub mod Calls
-pub mod Theorem
-pub mod Refute
-pub mod Teeth
+mod Move
+mod Sort
+mod Replay
+mod Order
+mod Endings
+mod Calls
+mod Theorem
+mod Refute
+mod Teeth
 pub mod Boards

@@ -6,7 +6,7 @@ use mathlib.Core.Option.{Option, some}
 use native.Mathlib.Omega.{arith}
 use Rattle.tag.specs.declared.Tag.{Tag}
 use Rattle.protocol.specs.Number.{upd}
-use Rattle.protocol.specs.Tags.{startingTag}
+use Rattle.tag.specs.Tag.{start as startingTag}
 use Rattle.protocol.specs.Board.{Answer, refused, nothingEnded, writtenBy, spentBy, readBy}
 use Rattle.protocol.proofs.Basics.{upd-elim, upd-other, some-injective}
 use Rattle.protocol.proofs.World.{Setting, Ghost, Knowledge, Wrote, How, Idle, GoodLog}
@@ -100,6 +100,7 @@ module _ (S : Setting) where
           endingBefore = λ r x e. omega (arith, a .endingBefore r x e);
           endingHow = λ r x e d b f.
               ⊎-elim (λ h. absurd (unended r x (h .0) e)) (λ h. how-after r b (x .1) (a .endingHow r x e d b h)) (begun-cases r (d, b) f);
+          endingOnce = a .endingOnce;
           endingQuorum = λ r x t e f. high-up S up (key t) (a .endingQuorum r x t e f);
           startBytes = same (key startingTag) ∙ a .startBytes;
           boards = λ n v e. a .boards n v (sym (same n) ∙ e);

@@ -5,7 +5,7 @@ use mathlib.Core.Logic.{_⊎_, inl, inr, ⊎-elim, ⊎-map}
 use mathlib.Core.Option.{Option, none, some}
 use Rattle.tag.specs.declared.Tag.{Tag}
 use Rattle.protocol.specs.Number.{upd}
-use Rattle.protocol.specs.Tags.{startingTag}
+use Rattle.tag.specs.Tag.{start as startingTag}
 use Rattle.protocol.specs.Board.{Answer, refused, nothingEnded, writtenBy, spentBy, readBy}
 use Rattle.protocol.proofs.Basics.{upd-elim, upd-same, upd-other, none≢some, some-injective}
 use Rattle.protocol.proofs.World.{Setting, Ghost, Knowledge, Known, Wrote, How, GoodLog}
@@ -72,7 +72,7 @@ module _ (S : Setting) where
     how-chose r b (refused n) e f h = h
     how-chose r b nothingEnded e f h = h
     how-chose r b (writtenBy d u) e f h = (e ∙ h .0, h .1)
-    how-chose r b (spentBy d) e f h = e ∙ h
+    how-chose r b (spentBy d) e f h = (e ∙ h .0, h .1)
     how-chose r b (readBy d u v) e f h = (e ∙ h .0, h .1, f (key u) v (h .2))
 
     pub log-chose : ((n : ℕ) (v : Value) → g .bytes n ≡ some v → bytes n ≡ some v) → GoodLog S k′ (chose g p t bytes) now
@@ -95,6 +95,7 @@ module _ (S : Setting) where
           endingAfter = a .endingAfter;
           endingBefore = a .endingBefore;
           endingHow = λ r x e d b f. how-chose r b (x .1) (ended-other r x e) grows (a .endingHow r x e d b f);
+          endingOnce = a .endingOnce;
           endingQuorum = λ r x u e f. high-up S up (key u) (a .endingQuorum r x u e (ended-chosen r x u e f));
           startBytes = up .bytes (key startingTag) start (a .startBytes);
           boards = λ n v e. ⊎-elim (a .boards n v) (λ h. h .2) (choice .boards n v e);

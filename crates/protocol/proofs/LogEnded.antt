@@ -6,7 +6,7 @@ use mathlib.Core.Option.{Option, none, some}
 use native.Mathlib.Omega.{arith}
 use Rattle.tag.specs.declared.Tag.{Tag}
 use Rattle.protocol.specs.Number.{upd}
-use Rattle.protocol.specs.Tags.{startingTag}
+use Rattle.tag.specs.Tag.{start as startingTag}
 use Rattle.protocol.specs.Board.{Answer, refused, nothingEnded, writtenBy, spentBy, readBy}
 use Rattle.protocol.proofs.Basics.{upd-elim, upd-other, none≢some, some-injective}
 use Rattle.protocol.proofs.Quorum.{Quorum}
@@ -74,6 +74,13 @@ module _ (S : Setting) where
         (subst (λ (y : Option Value). How S after r y answer) board-is
         (subst (λ (y : ℕ). How S after y board answer) (sym (h .0)) (how-after p board answer (end .how))))
 
+    once : (q r : ℕ) (x y : ℕ × Answer Value) → upd (g .ending) p (some (now, answer)) q ≡ some x → upd (g .ending) p (some (now, answer)) r ≡ some y → x .0 ≡ y .0 → q ≡ r
+    once q r x y e f same-place =
+        ⊎-elim
+        (λ h. ⊎-elim (λ i. h .0 ∙ sym (i .0)) (λ i. absurd (omega (arith, a .endingBefore r y i, ap (λ (z : ℕ × Answer Value). z .0) (h .1)))) (ending-cases r y f))
+        (λ h. ⊎-elim (λ i. absurd (omega (arith, a .endingBefore q x h, ap (λ (z : ℕ × Answer Value). z .0) (i .1)))) (λ i. a .endingOnce q r x y h i same-place) (ending-cases r y f))
+        (ending-cases q x e)
+
     pub log-ended : GoodLog S k′ after (now + 1)
     log-ended =
         record {
@@ -93,6 +100,7 @@ module _ (S : Setting) where
               ⊎-elim (λ h. subst (λ (y : ℕ × Answer Value). y .0 < now + 1) (h .1) (omega arith)) (λ h. omega (arith, a .endingBefore r x h)) (ending-cases r x e);
           endingHow = λ r x e d b f.
               ⊎-elim (λ h. how-now r x h d b f) (λ h. how-after r b (x .1) (a .endingHow r x h d b f)) (ending-cases r x e);
+          endingOnce = once;
           endingQuorum = λ r x t e f.
               ⊎-elim (λ h. high-up S up (key t) (end .quorum t (ap (g .chosen) (sym (h .0)) ∙ f))) (λ h. high-up S up (key t) (a .endingQuorum r x t h f)) (ending-cases r x e);
           startBytes = same (key startingTag) ∙ a .startBytes;

@@ -2,7 +2,7 @@
 use Prim.Native.Nat.{ℕ, _≤_}
 use mathlib.Core.Path.{_≡_, sym, _∙_}
 use native.Mathlib.Omega.{arith}
-use Rattle.protocol.specs.Tags.{startingTag}
+use Rattle.tag.specs.Tag.{start as startingTag}
 use Rattle.protocol.proofs.World.{Setting, Ghost, Knowledge, GoodLog}
 use Rattle.protocol.proofs.Monotone.{Below, known-up, high-up}
 
@@ -24,6 +24,7 @@ module _ (S : Setting) where
         endingAfter = a .endingAfter;
         endingBefore = λ p x e. omega (arith, a .endingBefore p x e);
         endingHow = a .endingHow;
+        endingOnce = a .endingOnce;
         endingQuorum = λ p x t e f. high-up S up (key t) (a .endingQuorum p x t e f);
         startBytes = same (key startingTag) ∙ a .startBytes;
         boards = λ n v e. a .boards n v (sym (same n) ∙ e);

@@ -1,7 +1,7 @@
 -- The order: ended operations, and unended writes that have a tag, by tag, a write before the reads of its tag, and then by begin. It fits.
 use Prim.Native.Nat.{ℕ, _+_, _≤_, _<_}
 use mathlib.Core.Path.{_≡_, refl, sym, _∙_, ap, subst}
-use mathlib.Core.Bool.{Bool, true, false, cond, false≢true}
+use mathlib.Core.Bool.{Bool, true, false, false≢true}
 use mathlib.Core.Logic.{_⊎_, inl, inr, ⊎-elim}
 use mathlib.Core.Option.{Option, none, some}
 use mathlib.Core.List.{List, List·Memᴰ}
@@ -10,8 +10,8 @@ use lib.ListN.{length}
 use borrow.Author.Tests.{leb-true, leb-false}
 use native.Mathlib.Omega.{arith}
 use Rattle.tag.specs.declared.Tag.{Tag}
-use Rattle.protocol.specs.Tags.{startingTag}
-use Rattle.protocol.specs.Board.{Answer, Event, Operation, refused, nothingEnded, writtenBy, spentBy, readBy, unendedWrite, wrote, showed, leftOut, isSpent, bytesShown, writeOf, readOf, endAt, history, MayStand, MustStand, EndedBefore, Fits, answerTag, tagOf, TagsRise}
+use Rattle.tag.specs.Tag.{start as startingTag}
+use Rattle.protocol.specs.Board.{Answer, Event, Operation, refused, nothingEnded, writtenBy, spentBy, readBy, unendedWrite, wrote, showed, endedWrite, endedRead, writeOf, readOf, endAt, history, MayStand, MustStand, EndedBefore, Fits, answerTag, tagOf, TagsRise}
 use Rattle.protocol.proofs.Basics.{either, none≢some, some-injective}
 use Rattle.protocol.proofs.World.{Setting, Ghost, Knowledge, Wrote, How, GoodLog}
 use Rattle.protocol.proofs.Recorded.{Recorded, history-blank, end-recorded, history-write, history-read}
@@ -110,29 +110,30 @@ module _ (S : Setting) where
 
     -- an ended write that has a tag is written; an ended read shows the board of its tag
     write-ended : (p : ℕ) (v : Value) (t : Tag) (w : Wrote S g p v t) (y : ℕ × Answer Value) → g .ending p ≡ some y → (history h p ≡ wrote v (y .0)) × (answerTag (y .1) ≡ some t)
+    unfolding writeOf endedWrite answerTag
     write-ended p v t w y e =
         let d = go (y .1) (a .endingHow p y e (w .client) (some v) (w .begun)) in
-        (history-write S recorded p (w .client) v (w .begun) ∙ ap (writeOf v) e ∙ (unfold writeOf in rw (d .0)), d .1)
+        (history-write S recorded p (w .client) v (w .begun) ∙ ap (writeOf v) e ∙ d .0, d .1)
       where
-        go : (answer : Answer Value) → How S g p (some v) answer → (isSpent answer ≡ false) × (answerTag answer ≡ some t)
+        go : (answer : Answer Value) → How S g p (some v) answer → (endedWrite v (y .0) answer ≡ wrote v (y .0)) × (answerTag answer ≡ some t)
         go (refused n) how = absurd how
         go nothingEnded how = absurd how
-        go (writtenBy d u) how = unfold isSpent answerTag in (refl, sym (how .0) ∙ w .chosen)
-        go (spentBy d) how = absurd (none≢some (sym how ∙ w .chosen))
+        go (writtenBy d u) how = (refl, sym (how .0) ∙ w .chosen)
+        go (spentBy d) how = absurd (none≢some (sym (how .0) ∙ w .chosen))
         go (readBy d u z) how = absurd (none≢some (sym (how .1)))
 
-    read-ended : (p c : ℕ) (t : Tag) (y : ℕ × Answer Value) → g .chosen p ≡ some t → g .begun p ≡ some (c, none) → g .ending p ≡ some y → (v : Value) × (history h p ≡ showed (some v) (y .0)) × (g .bytes (key t) ≡ some v)
+    read-ended : (p c : ℕ) (t : Tag) (y : ℕ × Answer Value) → g .chosen p ≡ some t → g .begun p ≡ some (c, none) → g .ending p ≡ some y → (v : Value) × (history h p ≡ showed v (y .0)) × (g .bytes (key t) ≡ some v)
+    unfolding readOf endedRead
     read-ended p c t y e f i =
         let d = go (y .1) (a .endingHow p y i c none f) in
-        (d .0, history-read S recorded p c f ∙ ap readOf i ∙ (unfold readOf in rw (d .1, d .2)), d .3)
+        (d .0, history-read S recorded p c f ∙ ap readOf i ∙ d .1, d .2)
       where
-        go : (answer : Answer Value) → How S g p none answer → (v : Value) × (isSpent answer ≡ false) × (bytesShown answer ≡ some v) × (g .bytes (key t) ≡ some v)
+        go : (answer : Answer Value) → How S g p none answer → (v : Value) × (endedRead (y .0) answer ≡ showed v (y .0)) × (g .bytes (key t) ≡ some v)
         go (refused n) how = absurd how
         go nothingEnded how = absurd how
         go (writtenBy d u) how = absurd (none≢some (how .1 .1))
-        go (spentBy d) how = absurd (none≢some (sym how ∙ e))
-        go (readBy d u z) how =
-            (z, unfold isSpent in refl, unfold bytesShown in refl, ap (λ (x : Tag). g .bytes (key x)) (some-injective (sym e ∙ how .0)) ∙ how .2)
+        go (spentBy d) how = absurd (none≢some (how .1 .1))
+        go (readBy d u z) how = (z, refl, ap (λ (x : Tag). g .bytes (key x)) (some-injective (sym e ∙ how .0)) ∙ how .2)
 
     write-open : (p : ℕ) (v : Value) (t : Tag) (w : Wrote S g p v t) → g .ending p ≡ none → history h p ≡ unendedWrite v
     unfolding writeOf
@@ -151,26 +152,26 @@ module _ (S : Setting) where
 
     -- an operation that must stand is listed
     must-write : (p c : ℕ) (v : Value) → g .begun p ≡ some (c, some v) → (o : Option (ℕ × Answer Value)) → g .ending p ≡ o → MustStand (writeOf v o) → Listed g p
-    unfolding writeOf MustStand isSpent
+    unfolding writeOf endedWrite MustStand
     must-write p c v e none f m = absurd m
     must-write p c v e (some y) f m = go (y .1) (a .endingHow p y f c (some v) e) m
       where
-        go : (answer : Answer Value) → How S g p (some v) answer → MustStand (cond (isSpent answer) leftOut (wrote v (y .0))) → Listed g p
+        go : (answer : Answer Value) → How S g p (some v) answer → MustStand (endedWrite v (y .0) answer) → Listed g p
         go (refused n) how i = absurd how
         go nothingEnded how i = absurd how
         go (writtenBy d u) how i = aWrite u v (record { client = c; begun = e; chosen = how .0 })
         go (spentBy d) how i = absurd i
-        go (readBy d u z) how i = aWrite u v (record { client = c; begun = e; chosen = how .0 })
+        go (readBy d u z) how i = absurd (none≢some (sym (how .1)))
 
     must-read : (p c : ℕ) → g .begun p ≡ some (c, none) → (o : Option (ℕ × Answer Value)) → g .ending p ≡ o → MustStand (readOf o) → Listed g p
-    unfolding readOf MustStand isSpent
+    unfolding readOf endedRead MustStand
     must-read p c e none f m = absurd m
     must-read p c e (some y) f m = go (y .1) (a .endingHow p y f c none e) m
       where
-        go : (answer : Answer Value) → How S g p none answer → MustStand (cond (isSpent answer) leftOut (showed (bytesShown answer) (y .0))) → Listed g p
+        go : (answer : Answer Value) → How S g p none answer → MustStand (endedRead (y .0) answer) → Listed g p
         go (refused n) how i = absurd how
         go nothingEnded how i = absurd how
-        go (writtenBy d u) how i = aRead u c y (how .0) e f
+        go (writtenBy d u) how i = absurd (none≢some (how .1 .1))
         go (spentBy d) how i = absurd i
         go (readBy d u z) how i = aRead u c y (how .0) e f
 

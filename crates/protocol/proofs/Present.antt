@@ -19,12 +19,12 @@ module _ {Element : Type 0} where
   rising-more low n (x ∷ xs) o h a =
       (a .0, omega (arith, a .1), rising-more (x .0) n xs o (a .1) (a .2))
 
-  present-rising : (n : ℕ) (es : ℕ → Option Element) → Rising 0 n (present n es)
+  pub present-rising : (n : ℕ) (es : ℕ → Option Element) → Rising 0 n (present n es)
   unfolding present Rising
   present-rising zero es = tt
   present-rising (suc n) es = rising-more 0 n (present n es) (es (suc n)) (omega arith) (present-rising n es)
 
-  rising-take : (k low n : ℕ) (xs : List (ℕ × Element)) → Rising low n xs → Rising low n (take k xs)
+  pub rising-take : (k low n : ℕ) (xs : List (ℕ × Element)) → Rising low n xs → Rising low n (take k xs)
   unfolding Rising
   rising-take zero low n xs a = tt
   rising-take (suc k) low n [] a = tt

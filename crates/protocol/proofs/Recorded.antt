@@ -45,6 +45,7 @@ module _ (S : Setting) where
   pub record Recorded (h : List (Event Value)) (g : Ghost S) : Type 0 where
     pub blank : (p : ℕ) (x : Event Value) → getElem? h p ≡ some x → g .begun p ≡ none → NoBegin x
     pub begun : (p c : ℕ) (board : Option Value) → g .begun p ≡ some (c, board) → Tells h g p c board
+    pub named : (c q : ℕ) (x : Event Value) → getElem? h q ≡ some x → names c (x .answer) ≡ true → (p : ℕ) × (board : Option Value) × (g .begun p ≡ some (c, board)) × (g .ending p ≡ some (q, x .answer))
 
   -- what is the first to name a client, once there is one more event
   first-next : (h : List (Event Value)) (x : Event Value) (c p : ℕ) (o : Option (ℕ × Answer Value)) → p < length h → firstNaming c (p + 1) (drop (p + 1) h) ≡ o → firstNaming c (p + 1) (drop (p + 1) (h ++ (x ∷ []))) ≡ mathlib.Core.Option.rec (λ z. Option (ℕ × Answer Value)) (cond (names c (x .answer)) (some (length h, x .answer)) none) some o
@@ -57,14 +58,14 @@ module _ (S : Setting) where
       ap (firstNaming c (p + 1)) (drop-append-le (p + 1) h (x ∷ []) (omega arith)) ∙ first-stays c (p + 1) (drop (p + 1) h) x z e
 
   module _ {h : List (Event Value)} {g : Ghost S} (a : Recorded h g) (x : Event Value) where
-    -- an event that begins nothing: each operation's end is that of before, or this event where it names the client
-    pub next : (g′ : Ghost S) → NoBegin x → g′ .begun ≡ g .begun → ((p c : ℕ) (board : Option Value) → g .begun p ≡ some (c, board) → (o : Option (ℕ × Answer Value)) → g .ending p ≡ o → mathlib.Core.Option.rec (λ z. Option (ℕ × Answer Value)) (cond (names c (x .answer)) (some (length h, x .answer)) none) some o ≡ g′ .ending p) → Recorded (h ++ (x ∷ [])) g′
-    next g′ quiet same ending =
+    -- an event that begins nothing: each operation's end is that of before, or this event where it names the client, which had one
+    pub next : (g′ : Ghost S) → NoBegin x → g′ .begun ≡ g .begun → ((c : ℕ) → names c (x .answer) ≡ true → (p : ℕ) × (board : Option Value) × (g .begun p ≡ some (c, board)) × (g .ending p ≡ none)) → ((p c : ℕ) (board : Option Value) → g .begun p ≡ some (c, board) → (o : Option (ℕ × Answer Value)) → g .ending p ≡ o → mathlib.Core.Option.rec (λ z. Option (ℕ × Answer Value)) (cond (names c (x .answer)) (some (length h, x .answer)) none) some o ≡ g′ .ending p) → Recorded (h ++ (x ∷ [])) g′
+    unfolding mathlib.Core.Option.rec
+    next g′ quiet same had ending =
         record {
-          blank = λ p y e f.
-              ⊎-elim (λ i. a .blank p y i (sym (ap (λ (b : ℕ → Option (ℕ × Option Value)). b p) same) ∙ f)) (λ i. subst NoBegin (i .1) quiet) (at-cases h x p y e);
+          blank = λ p y e f. ⊎-elim (λ i. a .blank p y i (sym (at p) ∙ f)) (λ i. subst NoBegin (i .1) quiet) (at-cases h x p y e);
           begun = λ p c board e.
-              let old : g .begun p ≡ some (c, board) = sym (ap (λ (b : ℕ → Option (ℕ × Option Value)). b p) same) ∙ e in
+              let old : g .begun p ≡ some (c, board) = sym (at p) ∙ e in
               let t = a .begun p c board old in
               record {
                 event = t .event;
@@ -72,12 +73,32 @@ module _ (S : Setting) where
                 opens = t .opens;
                 first = first-next h x c p (g .ending p) (at-within h p (t .event) (t .is)) (t .first) ∙ ending p c board old (g .ending p) refl;
               };
+          named = λ c q y e n.
+              ⊎-elim (before c q y n) (λ i. subst (λ (z : ℕ). Named z y) (sym (i .0)) (subst (Named (length h)) (i .1) here) c n) (at-cases h x q y e);
         }
+      where
+        at : (p : ℕ) → g′ .begun p ≡ g .begun p
+        at p = ap (λ (b : ℕ → Option (ℕ × Option Value)). b p) same
+
+        -- what the event at place q ends, for whomever it names
+        Named : ℕ → Event Value → Type 0
+        Named q y =
+            (c : ℕ) → names c (y .answer) ≡ true → (p : ℕ) × (board : Option Value) × (g′ .begun p ≡ some (c, board)) × (g′ .ending p ≡ some (q, y .answer))
+
+        before : (c q : ℕ) (y : Event Value) → names c (y .answer) ≡ true → getElem? h q ≡ some y → (p : ℕ) × (board : Option Value) × (g′ .begun p ≡ some (c, board)) × (g′ .ending p ≡ some (q, y .answer))
+        before c q y n i =
+            let o = a .named c q y i n in
+            (o .0, o .1, at (o .0) ∙ o .2, sym (ending (o .0) c (o .1) (o .2) (some (q, y .answer)) (o .3)))
+
+        here : Named (length h) x
+        here c n =
+            let o = had c n in
+            (o .0, o .1, at (o .0) ∙ o .2, sym (ending (o .0) c (o .1) (o .2) none (o .3)) ∙ rw n)
 
     -- it names nobody
     pub next-still : (g′ : Ghost S) → NoBegin x → g′ .begun ≡ g .begun → g′ .ending ≡ g .ending → ((c : ℕ) → names c (x .answer) ≡ false) → Recorded (h ++ (x ∷ [])) g′
     unfolding mathlib.Core.Option.rec
-    next-still g′ quiet same ends nobody = next g′ quiet same go
+    next-still g′ quiet same ends nobody = next g′ quiet same (λ c n. absurd (false≢true (sym (nobody c) ∙ n))) go
       where
         go : (p c : ℕ) (board : Option Value) → g .begun p ≡ some (c, board) → (o : Option (ℕ × Answer Value)) → g .ending p ≡ o → mathlib.Core.Option.rec (λ z. Option (ℕ × Answer Value)) (cond (names c (x .answer)) (some (length h, x .answer)) none) some o ≡ g′ .ending p
         go p c board e none f = rw (nobody c) (sym f ∙ sym (ap (λ (b : ℕ → Option (ℕ × Answer Value)). b p) ends))
@@ -86,7 +107,8 @@ module _ (S : Setting) where
     -- it names client c, whose latest operation was not ended
     pub next-closes : {k : Knowledge S} {now : ℕ} → GoodLog S k g now → (g′ : Ghost S) → NoBegin x → g′ .begun ≡ g .begun → (c : ℕ) (board : Option Value) → g .begun (g .latest c) ≡ some (c, board) → g .ending (g .latest c) ≡ none → g′ .ending ≡ upd (g .ending) (g .latest c) (some (length h, x .answer)) → Naming S c (x .answer) → Recorded (h ++ (x ∷ [])) g′
     unfolding mathlib.Core.Option.rec
-    next-closes log g′ quiet same c board open-is unended ends naming = next g′ quiet same go
+    next-closes log g′ quiet same c board open-is unended ends naming =
+        next g′ quiet same (λ d n. (g .latest c, board, open-is ∙ ap (λ (z : ℕ). some (z, board)) (sym (naming .1 d n)), unended)) go
       where
         at : (p : ℕ) → g′ .ending p ≡ upd (g .ending) (g .latest c) (some (length h, x .answer)) p
         at p = ap (λ (b : ℕ → Option (ℕ × Answer Value)). b p) ends
@@ -125,6 +147,13 @@ module _ (S : Setting) where
               (λ i j. subst (λ (y : ℕ × Option Value). Tells (h ++ (x ∷ [])) g′ p (y .0) (y .1)) (some-injective j) (subst (λ (y : ℕ). Tells (h ++ (x ∷ [])) g′ y c board) (sym i) this))
               (λ i j. older p d b j)
               (sym (at p) ∙ e);
+          named = λ d q y e n.
+              ⊎-elim
+              (λ i.
+              let o = a .named d q y i n in
+              (o .0, o .1, at (o .0) ∙ upd-other (g .begun) (length h) (some (c, board)) (o .0) (λ j. omega (arith, log .begunBefore (o .0) (d, o .1) (o .2), j)) ∙ o .2, end-at (o .0) ∙ o .3))
+              (λ i. absurd (false≢true (sym (nobody d) ∙ subst (λ (z : Event Value). names d (z .answer) ≡ true) (sym (i .1)) n)))
+              (at-cases h x q y e);
         }
       where
         at : (p : ℕ) → g′ .begun p ≡ upd (g .begun) (length h) (some (c, board)) p

@@ -28,9 +28,10 @@ first-one p r (x ∷ xs) once (inr h) (inl i) = once .0 (subst (λ (z : ℕ). Li
 first-one p r (x ∷ xs) once (inr h) (inr i) = first-one p r xs (once .1) h i
 
 module _ {Value : Type 0} (operations : ℕ → Operation Value) where
-  -- What holds of the state behind an operation w, and is kept by all that stand behind w, holds of what a read behind w shows.
+  -- What holds of the state at first, and is kept by all that stand in an order, holds of what a read in it shows; what holds of the state
+  -- behind an operation w, and is kept by all that stand behind w, holds of what a read behind w shows.
   module _ (Q : Value → Type 0) where
-    held : (xs : List ℕ) (s : Value) → Q s → ((p : ℕ) → List·Memᴰ p xs → (z : Value) → Q z → Q (after (operations p) z)) → Shown operations s xs → (r : ℕ) → List·Memᴰ r xs → (z : Value) × Q z × ShowsState (operations r) z
+    pub held : (xs : List ℕ) (s : Value) → Q s → ((p : ℕ) → List·Memᴰ p xs → (z : Value) → Q z → Q (after (operations p) z)) → Shown operations s xs → (r : ℕ) → List·Memᴰ r xs → (z : Value) × Q z × ShowsState (operations r) z
     unfolding Shown
     held [] s q kept shown r i = absurd (List·Memᴰ·not-nil i)
     held (x ∷ xs) s q kept shown r i =

@@ -14,7 +14,7 @@ module _ {Value : Type 0} (operations : ℕ → Operation Value) (level : ℕ �
   -- a write has the board of its level, and twice its level for a rank; a read shows it, and ranks next
   pub data Op (x : ℕ) : Type 0 where
     writes : (v : Value) → (operations x ≡ unendedWrite v) ⊎ ((e : ℕ) × (operations x ≡ wrote v e)) → bytes (level x) ≡ some v → rank x ≡ level x + level x → Op x
-    reads : (v : Value) (e : ℕ) → operations x ≡ showed (some v) e → bytes (level x) ≡ some v → rank x ≡ level x + level x + 1 → Op x
+    reads : (v : Value) (e : ℕ) → operations x ≡ showed v e → bytes (level x) ≡ some v → rank x ≡ level x + level x + 1 → Op x
 
   op-rank : (x : ℕ) → Op x → (rank x ≡ level x + level x) ⊎ (rank x ≡ level x + level x + 1)
   op-rank x (writes v d b r) = inl r
@@ -34,9 +34,9 @@ module _ {Value : Type 0} (operations : ℕ → Operation Value) (level : ℕ �
   write-shows d v s (inl h) = rw h (tt, refl)
   write-shows d v s (inr h) = rw (h .1) (tt, refl)
 
-  read-shows : (d : Operation Value) (v s : Value) (e : ℕ) → d ≡ showed (some v) e → v ≡ s → ShowsState d s × (after d s ≡ s)
+  read-shows : (d : Operation Value) (v s : Value) (e : ℕ) → d ≡ showed v e → v ≡ s → ShowsState d s × (after d s ≡ s)
   unfolding ShowsState after
-  read-shows d v s e h f = rw h (ap (λ (x : Value). some x) f, refl)
+  read-shows d v s e h f = rw h (f, refl)
 
   -- the source of a read: the board as it stands, or a write that is still to come
   abbrev Source : List ℕ → ℕ → ℕ → Type 0

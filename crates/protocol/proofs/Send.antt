@@ -8,7 +8,7 @@ use Rattle.tag.specs.declared.Tag.{Tag}
 use Rattle.record.specs.declared.Kind.{Kind}
 use Rattle.record.specs.Message.{Message}
 use Rattle.protocol.specs.Number.{toEach}
-use Rattle.protocol.specs.Tags.{kindNumber}
+use Rattle.record.specs.Record.{kindNumber}
 use Rattle.protocol.specs.Client.{sendEach}
 use Rattle.protocol.proofs.World.{Setting, Knowledge, Known, GoodMessage}
 

@@ -4,20 +4,20 @@ use mathlib.Core.Path.{_≡_, refl, sym, _∙_, ap, subst}
 use mathlib.Core.Bool.{Bool, true, false≢true}
 use mathlib.Core.Logic.{⊎-elim}
 use mathlib.Core.Option.{Option, none, some}
-use mathlib.Core.List.{[], List·Memᴰ·not-nil}
+use mathlib.Core.List.{List, [], _++_, List·Memᴰ·not-nil}
 use lib.Dec.{eqb, leb, ltb}
 use lib.ListN.{length, take}
 use borrow.Author.Tests.{leb-true, eq-eqb, eqb-true}
 use native.Mathlib.Nat.{le-refl}
 use native.Mathlib.Omega.{arith}
+use Rattle.config.specs.Config.{quorumOf}
 use Rattle.tag.specs.declared.Tag.{Tag}
 use Rattle.record.specs.declared.Kind.the-variants.{WriteFinalise}
 use Rattle.record.specs.Message.{Message}
 use Rattle.protocol.specs.Number.{upd, count, present, nobody, nothingYet}
-use Rattle.protocol.specs.Tags.{kindNumber}
-use Rattle.protocol.specs.Client.{Phase, Moved, Ended, idle, asking, preWriting, finalisingWrite, finalisingRead, down, quorum, sendEach, enough, enoughToRead, highestNumber, nextTag, stays, ends, asked, endRead, sendPreWrites, sendReadFinalises, sendWriteFinalises, settling, settle, counting, counted, awaited, awaits, clientStep}
+use Rattle.protocol.specs.Client.{Phase, Moved, Ended, idle, asking, preWriting, finalisingWrite, finalisingRead, down, sendEach, enough, enoughToRead, highestNumber, nextTag, stays, ends, asked, endRead, sendPreWrites, sendReadFinalises, sendWriteFinalises, settling, settle, counting, counted, awaited, awaits, clientStep}
 use Rattle.protocol.specs.Board.{Answer, nothingEnded, names}
-use Rattle.protocol.specs.Rig.{Rig, withClient, answerOf}
+use Rattle.protocol.specs.Parties.{Parties, withClient, answerOf}
 use Rattle.protocol.proofs.Basics.{cond-elim, and-true, upd-elim, none≢some, some-injective}
 use Rattle.protocol.proofs.Quorum.{Quorum}
 use Rattle.protocol.proofs.World.{Setting, Ghost, know, Current, Idle, Asking, GoodMessage, GoodPhase, Good}
@@ -40,17 +40,17 @@ module _ (S : Setting) where
     still : g′ .begun ≡ g .begun → g′ .ending ≡ g .ending → answer ≡ nothingEnded → Outcome g g′ now answer
     closes : (c : ℕ) (board : Option Value) → g .begun (g .latest c) ≡ some (c, board) → g .ending (g .latest c) ≡ none → g′ .begun ≡ g .begun → g′ .ending ≡ upd (g .ending) (g .latest c) (some (now, answer)) → Naming c answer → Outcome g g′ now answer
 
-  module _ {r : Rig Value Element} {g : Ghost S} {now : ℕ} (a : Good S r g now) (c : ℕ) where
+  module _ {ps : Parties Value Element} {ms : List (Message Element)} {g : Ghost S} {now : ℕ} (a : Good S ps ms g now) (c : ℕ) where
     abbrev o : ℕ
-    o = r .clients c .operation
+    o = ps .clients c .operation
 
     -- client c moves, the invariant holds of what it leaves, and the answer says so
     abbrev pub Result : Moved Value Element → Type 0
     Result m =
-        (g′ : Ghost S) × Good S (withClient r c (m .client) (m .sends)) g′ (now + 1) × Outcome g g′ now (answerOf c (m .ended))
+        (g′ : Ghost S) × Good S (withClient ps c (m .client)) (ms ++ m .sends) g′ (now + 1) × Outcome g g′ now (answerOf c (m .ended))
 
     -- nothing happens
-    stays-good : (ph : Phase Value Element) → GoodPhase S (know S r g) g c ph → Result (stays (record { operation = o; phase = ph }))
+    stays-good : (ph : Phase Value Element) → GoodPhase S (know S ps g) g c ph → Result (stays (record { operation = o; phase = ph }))
     unfolding stays answerOf
     stays-good ph h =
         (g, client-moved S a c (record { operation = o; phase = ph }) [] refl h (λ m i. absurd (List·Memᴰ·not-nil i)), still refl refl refl)
@@ -66,7 +66,7 @@ module _ (S : Setting) where
         }
 
     -- the operation ends
-    ends-good : (board : Option Value) (tag : Option Tag) (how : Ended Value) → Current S g c board tag → End S (know S r g) g (g .latest c) c board (answerOf c how) → Naming c (answerOf c how) → Result (ends o how)
+    ends-good : (board : Option Value) (tag : Option Tag) (how : Ended Value) → Current S g c board tag → End S (know S ps g) g (g .latest c) c board (answerOf c how) → Naming c (answerOf c how) → Result (ends o how)
     unfolding ends
     ends-good board tag how current end naming =
         (ended S g (g .latest c) (now, answerOf c how), client-ended S a c (record { operation = o; phase = idle }) [] (answerOf c how) refl end (λ m i. absurd (List·Memᴰ·not-nil i)) (idle-after (answerOf c how)), closes c board (current .begun) (current .ending) refl refl naming)
@@ -74,26 +74,26 @@ module _ (S : Setting) where
     naming-one : (d : ℕ) → eqb c d ≡ true → d ≡ c
     naming-one d e = sym (eqb-true c d e)
 
-    spent-good : (board : Option Value) → Current S g c board none → Result (ends o Ended.spent)
+    spent-good : (board : Value) → Current S g c (some board) none → Result (ends o Ended.spent)
     unfolding answerOf names
     spent-good board current =
-        ends-good board none Ended.spent current
+        ends-good (some board) none Ended.spent current
         (record {
           begun = current .begun;
           unended = current .ending;
-          how = current .chosen;
+          how = (current .chosen, (board, refl));
           quorum = λ t e. absurd (none≢some (sym (current .chosen) ∙ e));
         })
         (eq-eqb c c refl, naming-one)
 
     -- the counted servers are a quorum with the tag
-    finalised : (board : Option Value) (t : Tag) (cs : ℕ → Bool) → Current S g c board (some t) → ((s : ℕ) → cs s ≡ true → key t ≤ know S r g .high s) → enough cfg cs ≡ true → (u : Tag) → g .chosen (g .latest c) ≡ some u → Quorum cfg (λ s. key u ≤ know S r g .high s)
+    finalised : (board : Option Value) (t : Tag) (cs : ℕ → Bool) → Current S g c board (some t) → ((s : ℕ) → cs s ≡ true → key t ≤ know S ps g .high s) → enough cfg cs ≡ true → (u : Tag) → g .chosen (g .latest c) ≡ some u → Quorum cfg (λ s. key u ≤ know S ps g .high s)
     unfolding enough
     finalised board t cs current answers q u e =
-        subst (λ (y : Tag). Quorum cfg (λ s. key y ≤ know S r g .high s)) (some-injective (sym (current .chosen) ∙ e))
-        (record { members = cs; enough = leb-true (quorum cfg) (count cs (cfg .n)) q; each = answers })
+        subst (λ (y : Tag). Quorum cfg (λ s. key y ≤ know S ps g .high s)) (some-injective (sym (current .chosen) ∙ e))
+        (record { members = cs; enough = leb-true (quorumOf cfg) (count cs (cfg .n)) q; each = answers })
 
-    written-good : (board : Value) (t : Tag) (cs : ℕ → Bool) → Current S g c (some board) (some t) → ((s : ℕ) → cs s ≡ true → key t ≤ know S r g .high s) → enough cfg cs ≡ true → Result (ends o (Ended.written t))
+    written-good : (board : Value) (t : Tag) (cs : ℕ → Bool) → Current S g c (some board) (some t) → ((s : ℕ) → cs s ≡ true → key t ≤ know S ps g .high s) → enough cfg cs ≡ true → Result (ends o (Ended.written t))
     unfolding answerOf names
     written-good board t cs current answers q =
         ends-good (some board) (some t) (Ended.written t) current
@@ -105,7 +105,7 @@ module _ (S : Setting) where
         })
         (eq-eqb c c refl, naming-one)
 
-    read-good : (t : Tag) (cs : ℕ → Bool) (es : ℕ → Option Element) → GoodPhase S (know S r g) g c (finalisingRead t cs es) → enoughToRead cfg cs es ≡ true → Result (endRead decode cfg o t es)
+    read-good : (t : Tag) (cs : ℕ → Bool) (es : ℕ → Option Element) → GoodPhase S (know S ps g) g c (finalisingRead t cs es) → enoughToRead cfg cs es ≡ true → Result (endRead decode cfg o t es)
     unfolding endRead answerOf names enoughToRead know
     read-good t cs es h q =
         let parts = and-true (enough cfg cs) (leb (cfg .k) (length (present (cfg .n) es))) q in
@@ -120,15 +120,15 @@ module _ (S : Setting) where
         })
         (eq-eqb c c refl, naming-one)
 
-    asked-good : (board : Option Value) (t : Tag) (cs : ℕ → Bool) → Asking S (know S r g) g c board t cs → enough cfg cs ≡ true → Result (asked encode cfg c o board t)
+    asked-good : (board : Option Value) (t : Tag) (cs : ℕ → Bool) → Asking S (know S ps g) g c board t cs → enough cfg cs ≡ true → Result (asked encode cfg c o board t)
     unfolding asked
     asked-good none t cs h q = (afterRead S a c t cs q h, read-chose S a c t cs q h, unfold sendReadFinalises answerOf in still refl refl refl)
     asked-good (some v) t cs h q =
         cond-elim Result (ltb (t .number) highestNumber) (sendPreWrites encode cfg c o v (nextTag t c)) (ends o Ended.spent)
         (λ e. (afterWrite S a c t cs q v h, write-chose S a c t cs q v h, unfold sendPreWrites answerOf in still refl refl refl))
-        (λ e. spent-good (some v) (h .current))
+        (λ e. spent-good v (h .current))
 
-    finalise-good : (t : Tag) (cs : ℕ → Bool) → GoodPhase S (know S r g) g c (preWriting t cs) → Result (sendWriteFinalises cfg c o t)
+    finalise-good : (t : Tag) (cs : ℕ → Bool) → GoodPhase S (know S ps g) g c (preWriting t cs) → Result (sendWriteFinalises cfg c o t)
     unfolding sendWriteFinalises answerOf know
     finalise-good t cs h = (
       g,
@@ -138,7 +138,7 @@ module _ (S : Setting) where
       still refl refl refl,
     )
 
-    settle-good : (ph : Phase Value Element) → GoodPhase S (know S r g) g c ph → Result (settling encode decode cfg c o ph)
+    settle-good : (ph : Phase Value Element) → GoodPhase S (know S ps g) g c ph → Result (settling encode decode cfg c o ph)
     unfolding settling
     settle-good idle h = stays-good idle h
     settle-good (asking b t cs) h =
@@ -152,10 +152,10 @@ module _ (S : Setting) where
     settle-good down h = stays-good down h
 
   -- client c is handed a good message
-  pub client-good : {r : Rig Value Element} {g : Ghost S} {now : ℕ} (a : Good S r g now) (m : Message Element) → GoodMessage S (know S r g) m → Result a (m .client) (clientStep key encode decode cfg (m .client) (r .clients (m .client)) m)
+  pub client-good : {ps : Parties Value Element} {ms : List (Message Element)} {g : Ghost S} {now : ℕ} (a : Good S ps ms g now) (m : Message Element) → GoodMessage S (know S ps g) m → Result a (m .client) (clientStep key encode decode cfg (m .client) (ps .clients (m .client)) m)
   unfolding clientStep awaited counted settle know
-  client-good {r} {g} a m good =
-      let x = r .clients (m .client) in
+  client-good {ps} {g = g} a m good =
+      let x = ps .clients (m .client) in
       cond-elim (Result a (m .client)) (awaited key x m) (settle encode decode cfg (m .client) (counted key x m)) (stays x)
       (λ e.
       let parts = and-true (eqb (m .operation) (x .operation)) (awaits key (x .phase) m) e in

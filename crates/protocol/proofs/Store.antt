@@ -11,7 +11,7 @@ use borrow.Author.Tests.{ltb-true, ltb-false, eqb-true}
 use native.Mathlib.Nat.{le-refl}
 use native.Mathlib.Omega.{arith}
 use Rattle.tag.specs.declared.Tag.{Tag}
-use Rattle.protocol.specs.Tags.{same, higher}
+use Rattle.protocol.specs.Tags.{sameKey, higher}
 use Rattle.protocol.specs.Server.{Server, Stored, isStored, elementOf, atOrBelowFloor, smallest, inPlaceOf, others, dropSmallest, addLast, store}
 use Rattle.protocol.proofs.Basics.{cond-elim, none≢some, some-injective}
 
@@ -35,7 +35,7 @@ module _ {Element : Type 0} (key : Tag → ℕ) where
   unfolding inPlaceOf
   inPlace-mem u y x [] i = inr i
   inPlace-mem u y x (z ∷ zs) i =
-      cond-elim (λ (l : List (Stored Element)). List·Memᴰ x l → (x ≡ y) ⊎ List·Memᴰ x (z ∷ zs)) (same key (z .tag) u) (y ∷ zs) (z ∷ inPlaceOf key u y zs)
+      cond-elim (λ (l : List (Stored Element)). List·Memᴰ x l → (x ≡ y) ⊎ List·Memᴰ x (z ∷ zs)) (sameKey key (z .tag) u) (y ∷ zs) (z ∷ inPlaceOf key u y zs)
       (λ e j. ⊎-map (λ h. h) List·Memᴰ·tail (List·Memᴰ·cases-cons j))
       (λ e j. ⊎-elim (λ h. inr (List·Memᴰ·head h)) (λ h. ⊎-map (λ l. l) List·Memᴰ·tail (inPlace-mem u y x zs h)) (List·Memᴰ·cases-cons j))
       i
@@ -43,7 +43,7 @@ module _ {Element : Type 0} (key : Tag → ℕ) where
   others-mem : (u : Tag) (y x : Stored Element) (xs : List (Stored Element)) → List·Memᴰ x (others key u y xs) → (x ≡ y) ⊎ List·Memᴰ x xs
   unfolding others
   others-mem u y x xs =
-      cond-elim (λ (l : List (Stored Element)). List·Memᴰ x l → (x ≡ y) ⊎ List·Memᴰ x xs) (same key u (y .tag)) xs (inPlaceOf key u y xs) (λ e j. inr j) (λ e. inPlace-mem u y x xs)
+      cond-elim (λ (l : List (Stored Element)). List·Memᴰ x l → (x ≡ y) ⊎ List·Memᴰ x xs) (sameKey key u (y .tag)) xs (inPlaceOf key u y xs) (λ e j. inr j) (λ e. inPlace-mem u y x xs)
 
   -- the server after a pre-write of y
   pub store-mem : (d : ℕ) (v : Server Element) (y x : Stored Element) → List·Memᴰ x (store key d v y .stored) → (x ≡ y) ⊎ List·Memᴰ x (v .stored)
@@ -69,7 +69,7 @@ module _ {Element : Type 0} (key : Tag → ℕ) where
   unfolding elementOf
   found t e [] h = absurd (none≢some h)
   found t e (x ∷ xs) h =
-      cond-elim (λ (o : Option Element). o ≡ some e → (y : Stored Element) × List·Memᴰ y (x ∷ xs) × (key (y .tag) ≡ key t) × (y .element ≡ e)) (same key (x .tag) t) (some (x .element)) (elementOf key t xs)
+      cond-elim (λ (o : Option Element). o ≡ some e → (y : Stored Element) × List·Memᴰ y (x ∷ xs) × (key (y .tag) ≡ key t) × (y .element ≡ e)) (sameKey key (x .tag) t) (some (x .element)) (elementOf key t xs)
       (λ i j. (x, List·Memᴰ·head refl, eqb-true (key (x .tag)) (key t) i, some-injective j))
       (λ i j.
       let y = found t e xs j in

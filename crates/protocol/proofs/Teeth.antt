@@ -2,13 +2,12 @@
 use Prim.Native.Nat.{ℕ, zero, suc, _<_}
 use mathlib.Core.Path.{_≡_, refl, sym}
 use mathlib.Core.Logic.{_⊎_, inl, inr}
-use mathlib.Core.List.{List, [], _∷_}
+use mathlib.Core.List.{List, [], _∷_, List·Memᴰ}
 use native.Mathlib.Omega.{arith}
 use Rattle.tag.specs.declared.Tag.{Tag}
-use Rattle.protocol.specs.Board
-use Rattle.protocol.specs.Board.{Answer, Event, Operation, refused, nothingEnded, writtenBy, spentBy, readBy, history, after, ShowsState, Shown, MayStand, MustStand, EndedBefore, StandsFirst, Fits}
-use Rattle.protocol.proofs.Basics.{some-injective}
-use Rattle.protocol.proofs.Refute.{first-one, carried, fits-one, fits-two}
+use Rattle.protocol.specs.Board.{Answer, Event, refused, nothingEnded, writtenBy, spentBy, readBy, history, after, Shown, MustStand, StandsFirst, Fits}
+use Rattle.protocol.proofs.Evaluate.{computed}
+use Rattle.protocol.proofs.Refute.{first-one, held, carried, fits-one, fits-two}
 
 abbrev tag : ℕ → ℕ → Tag
 tag z c = record { number = z; client = c }
@@ -34,11 +33,6 @@ NoOrder events = (order : List ℕ) → Fits (history events) 0 order → ⊥
 abbrev pub SomeOrder : List (Event ℕ) → Type 0
 SomeOrder events = (order : List ℕ) × Fits (history events) 0 order
 
--- the history of events that are written out computes
-unfoldable computed : List (Event ℕ) → ℕ → Operation ℕ
-unfolding history Board.operationOf Board.endOf Board.endAt Board.begunBy Board.firstNaming Board.names Board.isAccepted Board.writeOf Board.readOf Board.isSpent Board.bytesShown MustStand MayStand EndedBefore ShowsState after
-computed = history
-
 -- A stale read: 5 is written, and then 0 is read.
 abbrev pub stale : List (Event ℕ)
 stale =
@@ -49,7 +43,7 @@ unfolding computed
 stale-has-none order fits =
     let first = fits .inTime 0 2 (fits .ended 0 tt) (fits .ended 2 tt) (omega arith) in
     let z = carried (history stale) (λ (s : ℕ). s ≡ 5) order 0 0 2 (λ s h. refl) kept first (fits .shown) in
-    omega (arith, z .1, some-injective (z .2))
+    omega (arith, z .1, z .2)
   where
     kept : (p : ℕ) → StandsFirst 0 p order → (s : ℕ) → s ≡ 5 → after (history stale p) s ≡ 5
     kept zero h s e = refl
@@ -72,7 +66,7 @@ unfolding computed
 stuck-has-none order fits =
     let first = fits .inTime 4 6 (fits .ended 4 tt) (fits .ended 6 tt) (omega arith) in
     let z = carried (history stuck) (λ (s : ℕ). 0 < s) order 0 4 6 (λ s h. omega arith) kept first (fits .shown) in
-    omega (arith, z .1, some-injective (z .2))
+    omega (arith, z .1, z .2)
   where
     kept : (p : ℕ) → StandsFirst 4 p order → (s : ℕ) → 0 < s → 0 < after (history stuck p) s
     kept zero h s e = omega arith
@@ -99,7 +93,7 @@ unfolding computed
 repeating-has-none order fits =
     let first = fits .inTime 4 6 (fits .ended 4 tt) (fits .ended 6 tt) (omega arith) in
     let z = carried (history repeating) (λ (s : ℕ). s ≡ 6) order 0 4 6 (λ s h. refl) kept first (fits .shown) in
-    omega (arith, z .1, some-injective (z .2))
+    omega (arith, z .1, z .2)
   where
     kept : (p : ℕ) → StandsFirst 4 p order → (s : ℕ) → s ≡ 6 → after (history repeating p) s ≡ 6
     kept zero h s e = absurd (first-one 4 0 order (fits .once) h (fits .inTime 0 4 (fits .ended 0 tt) (fits .ended 4 tt) (omega arith)))
@@ -122,8 +116,8 @@ pub backwards-has-none : NoOrder backwards
 unfolding computed
 backwards-has-none order fits =
     let first = fits .inTime 1 3 (fits .ended 1 tt) (fits .ended 3 tt) (omega arith) in
-    let z = carried (history backwards) (λ (s : ℕ). s ≡ 5) order 0 1 3 (λ s h. sym (some-injective h)) kept first (fits .shown) in
-    omega (arith, z .1, some-injective (z .2))
+    let z = carried (history backwards) (λ (s : ℕ). s ≡ 5) order 0 1 3 (λ s h. sym h) kept first (fits .shown) in
+    omega (arith, z .1, z .2)
   where
     kept : (p : ℕ) → StandsFirst 1 p order → (s : ℕ) → s ≡ 5 → after (history backwards p) s ≡ 5
     kept zero h s e = refl
@@ -132,6 +126,56 @@ backwards-has-none order fits =
     kept (suc (suc (suc zero))) h s e = e
     kept (suc (suc (suc (suc zero)))) h s e = e
     kept (suc (suc (suc (suc (suc p))))) h s e = e
+
+-- A read that shows the bytes of a spent write: 5 is not written, and is read.
+abbrev pub spentShown : List (Event ℕ)
+spentShown =
+    beginsWrite 1 5 ∷ handsOver (spentBy 1) ∷ beginsRead 2 ∷ handsOver (readBy 2 (tag 1 1) 5) ∷ []
+
+pub spentShown-has-none : NoOrder spentShown
+unfolding computed
+spentShown-has-none order fits =
+    let z = held (history spentShown) (λ (s : ℕ). s ≡ 0) order 0 refl kept (fits .shown) 2 (fits .ended 2 tt) in
+    omega (arith, z .1, z .2)
+  where
+    kept : (p : ℕ) → List·Memᴰ p order → (s : ℕ) → s ≡ 0 → after (history spentShown p) s ≡ 0
+    kept zero h s e = e
+    kept (suc zero) h s e = e
+    kept (suc (suc zero)) h s e = e
+    kept (suc (suc (suc zero))) h s e = e
+    kept (suc (suc (suc (suc p)))) h s e = e
+
+-- A read that shows the bytes of a refused write: 7 is not begun, and is read.
+abbrev pub refusedShown : List (Event ℕ)
+refusedShown = event 1 1 7 (refused 10) ∷ beginsRead 2 ∷ handsOver (readBy 2 (tag 1 1) 7) ∷ []
+
+pub refusedShown-has-none : NoOrder refusedShown
+unfolding computed
+refusedShown-has-none order fits =
+    let z = held (history refusedShown) (λ (s : ℕ). s ≡ 0) order 0 refl kept (fits .shown) 1 (fits .ended 1 tt) in
+    omega (arith, z .1, z .2)
+  where
+    kept : (p : ℕ) → List·Memᴰ p order → (s : ℕ) → s ≡ 0 → after (history refusedShown p) s ≡ 0
+    kept zero h s e = e
+    kept (suc zero) h s e = e
+    kept (suc (suc zero)) h s e = e
+    kept (suc (suc (suc p))) h s e = e
+
+-- A write that ends as a read, of the very bytes that it writes.
+abbrev pub writeAsRead : List (Event ℕ)
+writeAsRead = beginsWrite 1 5 ∷ handsOver (readBy 1 (tag 1 1) 5) ∷ []
+
+pub writeAsRead-has-none : NoOrder writeAsRead
+unfolding computed
+writeAsRead-has-none order fits = fits .nothingElse 0 (fits .ended 0 tt)
+
+-- A read that ends as a write.
+abbrev pub readAsWrite : List (Event ℕ)
+readAsWrite = beginsRead 1 ∷ handsOver (writtenBy 1 (tag 1 1)) ∷ []
+
+pub readAsWrite-has-none : NoOrder readAsWrite
+unfolding computed
+readAsWrite-has-none order fits = fits .nothingElse 0 (fits .ended 0 tt)
 
 -- A write, and then a read of what was written.
 abbrev pub plain : List (Event ℕ)

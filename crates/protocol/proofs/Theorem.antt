@@ -6,11 +6,13 @@ use mathlib.Core.List.{List, [], List·Memᴰ}
 use Rattle.config.specs.declared.Config.{Config}
 use Rattle.tag.specs.declared.Tag.{Tag}
 use Rattle.protocol.specs.Board.{Call, Event, Atomic}
+use Rattle.protocol.specs.Endings.{EndsOne}
 use Rattle.protocol.specs.Rig.{Rig, freshRig, run, Execution, fresh}
 use Rattle.protocol.specs.Laws.{TagOrder, Coding}
 use Rattle.protocol.proofs.World.{Setting, know}
 use Rattle.protocol.proofs.Move.{invariant}
 use Rattle.protocol.proofs.Order.{ordered}
+use Rattle.protocol.proofs.Endings as endings
 use Rattle.protocol.proofs.Calls.{calls-run}
 
 -- Values and elements of any types; a key that orders tags; a code; a configuration with k at least 1; a starting board.
@@ -18,13 +20,9 @@ module _ {Value Element : Type 0} (cfg : Config) (key : Tag → ℕ) (tags : Tag
     (IsBoard : Value → Type 0) (encode : Value → ℕ → Element) (decode : List (ℕ × Element) → Value) (coding : Coding cfg IsBoard encode decode)
     (positive : 1 ≤ cfg .k) (start : Value) (startIsBoard : IsBoard start)
   where
-    -- The events of every run from the fresh rig, in which any event may have been refused for any reason, have a history with an order that
-    -- fits.
-    pub atomic : {r : Rig Value Element} {events : List (Event Value)} → Execution key encode decode cfg IsBoard start r events
-        → Atomic key start events
-    unfolding know
-    atomic runs =
-        let S : Setting = record {
+    abbrev setting : Setting
+    setting =
+        record {
           Value = Value;
           Element = Element;
           cfg = cfg;
@@ -37,14 +35,26 @@ module _ {Value Element : Type 0} (cfg : Config) (key : Tag → ℕ) (tags : Tag
           positive = positive;
           start = start;
           startIsBoard = startIsBoard;
-        } in
-        let a = invariant S runs in
-        let found = ordered S (a .good .log) (a .recorded) (λ n. refl) in
+        }
+
+    -- The events of every execution, in which any event may have been refused for any reason, have a history with an order that fits.
+    pub atomic : {r : Rig Value Element} {events : List (Event Value)} → Execution key encode decode cfg IsBoard start r events
+        → Atomic key start events
+    unfolding know
+    atomic runs =
+        let a = invariant setting runs in
+        let found = ordered setting (a .good .log) (a .recorded) (λ n. refl) in
         record { order = found .0; fits = found .1; tagsRise = found .2 }
+
+    -- Each answer that names a client ends exactly one operation of that client, begun before: written or spent a write, read a read.
+    pub ends-one : {r : Rig Value Element} {events : List (Event Value)} → Execution key encode decode cfg IsBoard start r events → EndsOne events
+    ends-one runs =
+        let a = invariant setting runs in
+        endings.ends-one setting (a .good .log) (a .recorded)
 
     -- The same of every list of calls, with M the most that may be in flight: refused ones included, the events that the model answers to
     -- them have a history with an order that fits.
     pub atomic-calls : (most : ℕ) (calls : List (Call Value)) → ((a : Call Value) → List·Memᴰ a calls → a .code ≡ 1 → IsBoard (a .board))
-        → Atomic key start (run key encode decode cfg most (freshRig encode start) calls)
+        → Atomic key start (run key encode decode cfg most (freshRig cfg encode start) calls)
     atomic-calls most calls boards =
-        atomic (calls-run key encode decode cfg IsBoard start most calls boards (freshRig encode start) [] fresh .1)
+        atomic (calls-run key encode decode cfg IsBoard start most calls boards (freshRig cfg encode start) [] fresh .1)

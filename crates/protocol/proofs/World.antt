@@ -9,11 +9,12 @@ use mathlib.Core.List.{List, List·Memᴰ}
 use Rattle.config.specs.declared.Config.{Config}
 use Rattle.tag.specs.declared.Tag.{Tag}
 use Rattle.record.specs.Message.{Message}
-use Rattle.protocol.specs.Tags.{startingTag, kindNumber}
+use Rattle.tag.specs.Tag.{start as startingTag}
+use Rattle.record.specs.Record.{kindNumber}
 use Rattle.protocol.specs.Server.{Server, Stored}
 use Rattle.protocol.specs.Client.{Phase, idle, asking, preWriting, finalisingWrite, finalisingRead, down}
 use Rattle.protocol.specs.Board.{Answer, refused, nothingEnded, writtenBy, spentBy, readBy}
-use Rattle.protocol.specs.Rig.{Rig}
+use Rattle.protocol.specs.Parties.{Parties}
 use Rattle.protocol.specs.Laws.{TagOrder, Coding}
 use Rattle.protocol.proofs.Quorum.{Quorum}
 
@@ -57,11 +58,11 @@ module _ (S : Setting) where
     pub base : ℕ → ℕ → ℕ
     pub bytes : ℕ → Option Value
 
-  unfoldable pub know : Rig Value Element → Ghost → Knowledge
-  know r g =
+  unfoldable pub know : Parties Value Element → Ghost → Knowledge
+  know ps g =
       record {
-        high = λ s. key (r .servers s .highest);
-        number = λ c. r .clients c .operation;
+        high = λ s. key (ps .servers s .highest);
+        number = λ c. ps .clients c .operation;
         base = g .base;
         bytes = g .bytes;
       }
@@ -148,7 +149,7 @@ module _ (S : Setting) where
   How g p board (refused n) = ⊥
   How g p board nothingEnded = ⊥
   How g p board (writtenBy c t) = (g .chosen p ≡ some t) × ((v : Value) × (board ≡ some v))
-  How g p board (spentBy c) = g .chosen p ≡ none
+  How g p board (spentBy c) = (g .chosen p ≡ none) × ((v : Value) × (board ≡ some v))
   How g p board (readBy c t v) = (g .chosen p ≡ some t) × (board ≡ none) × (g .bytes (key t) ≡ some v)
 
   -- what is so of the operations, with as many events so far as `now` says
@@ -166,6 +167,8 @@ module _ (S : Setting) where
     pub endingAfter : (p : ℕ) (x : ℕ × Answer Value) → g .ending p ≡ some x → p < x .0
     pub endingBefore : (p : ℕ) (x : ℕ × Answer Value) → g .ending p ≡ some x → x .0 < now
     pub endingHow : (p : ℕ) (x : ℕ × Answer Value) → g .ending p ≡ some x → (c : ℕ) (board : Option Value) → g .begun p ≡ some (c, board) → How g p board (x .1)
+    -- no two end with one event
+    pub endingOnce : (p r : ℕ) (x y : ℕ × Answer Value) → g .ending p ≡ some x → g .ending r ≡ some y → x .0 ≡ y .0 → p ≡ r
     -- an ended operation's tag is a quorum's
     pub endingQuorum : (p : ℕ) (x : ℕ × Answer Value) (t : Tag) → g .ending p ≡ some x → g .chosen p ≡ some t → Quorum cfg (λ s. key t ≤ k .high s)
     pub startBytes : k .bytes (key startingTag) ≡ some start
@@ -176,10 +179,10 @@ module _ (S : Setting) where
     pub inTime : (p r : ℕ) (x : ℕ × Answer Value) (t u : Tag) → g .ending p ≡ some x → g .chosen p ≡ some t → x .0 < r → g .chosen r ≡ some u → key t ≤ key u
     pub inTimeWrite : (p r : ℕ) (x : ℕ × Answer Value) (t u : Tag) (v : Value) → g .ending p ≡ some x → g .chosen p ≡ some t → x .0 < r → Wrote g r v u → key t < key u
 
-  -- the rig with its record, after `now` events
-  pub record Good (r : Rig Value Element) (g : Ghost) (now : ℕ) : Type 0 where
-    pub messages : (m : Message Element) → List·Memᴰ m (r .inFlight) → GoodMessage (know r g) m
-    pub servers : (s : ℕ) → GoodServer (know r g) s (r .servers s)
-    pub base : (c s : ℕ) → g .base c s ≤ key (r .servers s .highest)
-    pub clients : (c : ℕ) → GoodPhase (know r g) g c (r .clients c .phase)
-    pub log : GoodLog (know r g) g now
+  -- the parties and the messages in flight with the record, after `now` events
+  pub record Good (ps : Parties Value Element) (ms : List (Message Element)) (g : Ghost) (now : ℕ) : Type 0 where
+    pub messages : (m : Message Element) → List·Memᴰ m ms → GoodMessage (know ps g) m
+    pub servers : (s : ℕ) → GoodServer (know ps g) s (ps .servers s)
+    pub base : (c s : ℕ) → g .base c s ≤ key (ps .servers s .highest)
+    pub clients : (c : ℕ) → GoodPhase (know ps g) g c (ps .clients c .phase)
+    pub log : GoodLog (know ps g) g now

@@ -40,10 +40,12 @@ pub data Operation (Value : Type 0) : Type 0 where
   unendedRead : Operation Value
   -- a write of these bytes that the event at that place ends
   wrote : Value → ℕ → Operation Value
-  -- a read that the event at that place ends, with these bytes; without, if that event shows none
-  showed : Option Value → ℕ → Operation Value
+  -- a read of these bytes that the event at that place ends
+  showed : Value → ℕ → Operation Value
   -- "A spent one is left out."
   leftOut : Operation Value
+  -- a write that the answer of a read ends, or a read that the answer of a write ends: no order has a place for it
+  mismatched : Operation Value
 
 module _ {Value : Type 0} where
   -- "A refused event begins and ends nothing."
@@ -62,37 +64,37 @@ module _ {Value : Type 0} where
   names c (spentBy c′) = eqb c′ c
   names c (readBy c′ t v) = eqb c′ c
 
-  -- the answer is spent
-  unfoldable pub isSpent : Answer Value → Bool
-  isSpent (refused n) = false
-  isSpent nothingEnded = false
-  isSpent (writtenBy c t) = false
-  isSpent (spentBy c) = true
-  isSpent (readBy c t v) = false
-
-  -- "a read's are those in the lent buffer when its ending event returns"
-  unfoldable pub bytesShown : Answer Value → Option Value
-  bytesShown (refused n) = none
-  bytesShown nothingEnded = none
-  bytesShown (writtenBy c t) = none
-  bytesShown (spentBy c) = none
-  bytesShown (readBy c t v) = some v
-
   -- the first of the events given whose answer names that client: its place, where the first of them stands at place p, and its
   -- answer
   unfoldable pub firstNaming : ℕ → ℕ → List (Event Value) → Option (ℕ × Answer Value)
   firstNaming c p [] = none
   firstNaming c p (x ∷ xs) = cond (names c (x .answer)) (some (p, x .answer)) (firstNaming c (p + 1) xs)
 
-  -- a write, given what ends it: "A write's bytes are those handed in at its begin"
+  -- a write of these bytes that the event at place p ends, by its answer
+  unfoldable pub endedWrite : Value → ℕ → Answer Value → Operation Value
+  endedWrite v p (refused n) = mismatched
+  endedWrite v p nothingEnded = mismatched
+  endedWrite v p (writtenBy c t) = wrote v p
+  endedWrite v p (spentBy c) = leftOut
+  endedWrite v p (readBy c t w) = mismatched
+
+  -- a read that the event at place p ends: its bytes "are those in the lent buffer when its ending event returns"
+  unfoldable pub endedRead : ℕ → Answer Value → Operation Value
+  endedRead p (refused n) = mismatched
+  endedRead p nothingEnded = mismatched
+  endedRead p (writtenBy c t) = mismatched
+  endedRead p (spentBy c) = leftOut
+  endedRead p (readBy c t v) = showed v p
+
+  -- a write, given what ends it, if anything does: "A write's bytes are those handed in at its begin"
   unfoldable pub writeOf : Value → Option (ℕ × Answer Value) → Operation Value
   writeOf v none = unendedWrite v
-  writeOf v (some e) = cond (isSpent (e .1)) leftOut (wrote v (e .0))
+  writeOf v (some e) = endedWrite v (e .0) (e .1)
 
-  -- a read, given what ends it
+  -- a read, given what ends it, if anything does
   unfoldable pub readOf : Option (ℕ × Answer Value) → Operation Value
   readOf none = unendedRead
-  readOf (some e) = cond (isSpent (e .1)) leftOut (showed (bytesShown (e .1)) (e .0))
+  readOf (some e) = endedRead (e .0) (e .1)
 
   -- "An accepted event 1 or 2 begins an operation of its client": what one event begins, given what ends that client's operation
   unfoldable pub begunBy : Event Value → Option (ℕ × Answer Value) → Operation Value
@@ -126,6 +128,7 @@ module _ {Value : Type 0} where
   after (wrote v e) state = v
   after (showed v e) state = state
   after leftOut state = state
+  after mismatched state = state
 
   -- "every read's bytes are those shown"
   unfoldable pub ShowsState : Operation Value → Value → Type 0
@@ -133,8 +136,9 @@ module _ {Value : Type 0} where
   ShowsState (unendedWrite v) state = Unit {0}
   ShowsState unendedRead state = Unit {0}
   ShowsState (wrote v e) state = Unit {0}
-  ShowsState (showed v e) state = v ≡ some state
+  ShowsState (showed v e) state = v ≡ state
   ShowsState leftOut state = Unit {0}
+  ShowsState mismatched state = Unit {0}
 
   -- The single board is fed the operations in an order: "Its state is V bytes, at first the starting board."
   unfoldable pub Shown : (ℕ → Operation Value) → Value → List ℕ → Type 0
@@ -149,8 +153,9 @@ module _ {Value : Type 0} where
   MayStand (wrote v e) = Unit {0}
   MayStand (showed v e) = Unit {0}
   MayStand leftOut = ⊥
+  MayStand mismatched = ⊥
 
-  -- "each ended read and each ended write": these must stand in it
+  -- "each ended read and each ended write": these must stand in it, and so must an operation with an end that is none of its own
   unfoldable pub MustStand : Operation Value → Type 0
   MustStand noOperation = ⊥
   MustStand (unendedWrite v) = ⊥
@@ -158,6 +163,7 @@ module _ {Value : Type 0} where
   MustStand (wrote v e) = Unit {0}
   MustStand (showed v e) = Unit {0}
   MustStand leftOut = ⊥
+  MustStand mismatched = Unit {0}
 
   -- the operation ended before the one begun at place r began
   unfoldable pub EndedBefore : Operation Value → ℕ → Type 0
@@ -167,6 +173,7 @@ module _ {Value : Type 0} where
   EndedBefore (wrote v e) r = e < r
   EndedBefore (showed v e) r = e < r
   EndedBefore leftOut r = ⊥
+  EndedBefore mismatched r = ⊥
 
 -- no place stands twice
 unfoldable pub Once : List ℕ → Type 0

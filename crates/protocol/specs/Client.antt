@@ -1,6 +1,6 @@
 -- The client of document 01, as the protocol sees it: what it keeps, its begin and its step on a message. Boards and elements are of
 -- any types; encoding, decoding and the tags' key are parameters.
-use Prim.Native.Nat.{ℕ, _+_, _/_}
+use Prim.Native.Nat.{ℕ, _+_}
 use mathlib.Core.Bool.{Bool, true, false, cond, not, _&&_}
 use mathlib.Core.Option.{Option, none, some}
 use mathlib.Core.List.{List, [], _∷_}
@@ -8,17 +8,16 @@ use lib.Dec.{eqb, leb, ltb}
 use lib.ListN.{length, take}
 use Rattle.config.specs.declared.Config.{Config}
 use Rattle.config.specs.Config.{quorumOf}
+use Rattle.config.specs.Questions.{Question, ask}
 use Rattle.tag.specs.declared.Tag.{Tag}
+use Rattle.tag.specs.Tag.{start}
 use Rattle.record.specs.declared.Kind.{Kind}
 use Rattle.record.specs.declared.Kind.the-variants.{Query, PreWrite, WriteFinalise, ReadFinalise}
 use Rattle.record.specs.Message.{Message}
+use Rattle.record.specs.Record.{kindNumber}
 pub use Rattle.record.specs.Record.{highestNumber}
 use Rattle.protocol.specs.Number.{upd, count, toEach, present, nobody, nothingYet}
-use Rattle.protocol.specs.Tags.{startingTag, same, higher, kindNumber}
-
--- "A quorum is q = (N + k) / 2 rounded up, so two quorums share at least k servers."
-unfoldable pub quorum : Config → ℕ
-quorum cfg = quorumOf cfg
+use Rattle.protocol.specs.Tags.{sameKey, higher}
 
 -- "Its state is idle, asking, pre-writing, finalising a write, finalising a read, or down."
 pub data Phase (Value Element : Type 0) : Type 0 where
@@ -63,7 +62,7 @@ isFirst kind cs m = eqb (kindNumber (m .kind)) kind && not (cs (m .server))
 
 -- at least q answers
 unfoldable pub enough : Config → (ℕ → Bool) → Bool
-enough cfg cs = leb (quorum cfg) (count cs (cfg .n))
+enough cfg cs = leb (quorumOf cfg) (count cs (cfg .n))
 
 -- "at least q answers and at least k elements"
 unfoldable pub enoughToRead : {Element : Type 0} → Config → (ℕ → Bool) → (ℕ → Option Element) → Bool
@@ -87,28 +86,28 @@ module _ {Value Element : Type 0} where
   isIdle (finalisingRead t cs es) = false
   isIdle down = false
 
-  -- the client is down
-  unfoldable pub isDown : Phase Value Element → Bool
-  isDown idle = false
-  isDown (asking b t cs) = false
-  isDown (preWriting t cs) = false
-  isDown (finalisingWrite t cs) = false
-  isDown (finalisingRead t cs es) = false
-  isDown down = true
+  -- the client is up
+  unfoldable pub isUp : Phase Value Element → Bool
+  isUp idle = true
+  isUp (asking b t cs) = true
+  isUp (preWriting t cs) = true
+  isUp (finalisingWrite t cs) = true
+  isUp (finalisingRead t cs es) = true
+  isUp down = false
 
   -- The questions of a client that is to begin, each with its number, in order: "9. Is the party to begin or crash up? 10. Is the
   -- beginning client idle? 11. Is its operation number below 4,294,967,295?"
-  unfoldable pub beginQuestions : Client Value Element → List (ℕ × Bool)
+  unfoldable pub beginQuestions : Client Value Element → List Question
   beginQuestions x =
-      (9, not (isDown (x .phase))) ∷ (10, isIdle (x .phase)) ∷ (11, ltb (x .operation) highestNumber) ∷ []
+      ask 9 (isUp (x .phase)) ∷ ask 10 (isIdle (x .phase)) ∷ ask 11 (ltb (x .operation) highestNumber) ∷ []
 
   -- "Beginning adds 1 to its operation number (0 when fresh) and sends a query to each server, 1 to N." The board to write, or
   -- none for a read, is kept while asking.
   unfoldable pub beginClient : Config → ℕ → Client Value Element → Option Value → Moved Value Element
   beginClient cfg c x board =
       record {
-        client = record { operation = x .operation + 1; phase = asking board startingTag nobody };
-        sends = sendEach cfg Query c (x .operation + 1) startingTag nothingYet;
+        client = record { operation = x .operation + 1; phase = asking board start nobody };
+        sends = sendEach cfg Query c (x .operation + 1) start nothingYet;
         ended = nothing;
       }
 
@@ -116,9 +115,9 @@ module _ {Value Element : Type 0} where
   unfoldable pub awaits : (Tag → ℕ) → Phase Value Element → Message Element → Bool
   awaits key idle m = false
   awaits key (asking b t cs) m = isFirst 2 cs m
-  awaits key (preWriting t cs) m = isFirst 4 cs m && same key (m .tag) t
-  awaits key (finalisingWrite t cs) m = isFirst 6 cs m && same key (m .tag) t
-  awaits key (finalisingRead t cs es) m = isFirst 8 cs m && same key (m .tag) t
+  awaits key (preWriting t cs) m = isFirst 4 cs m && sameKey key (m .tag) t
+  awaits key (finalisingWrite t cs) m = isFirst 6 cs m && sameKey key (m .tag) t
+  awaits key (finalisingRead t cs es) m = isFirst 8 cs m && sameKey key (m .tag) t
   awaits key down m = false
 
   -- Question 14, "is the answer awaited?": not one with "wrong operation number, kind or phase, a server already counted, or, for
@@ -207,8 +206,3 @@ module _ {Value Element : Type 0} where
   -- counted, and then the client settles.
   unfoldable pub clientStep : (Tag → ℕ) → (Value → ℕ → Element) → (List (ℕ × Element) → Value) → Config → ℕ → Client Value Element → Message Element → Moved Value Element
   clientStep key encode decode cfg c x m = cond (awaited key x m) (settle encode decode cfg c (counted key x m)) (stays x)
-
--- "The first "no" is returned": the number of the first question whose answer is no, and 0 where there is none
-unfoldable pub firstNo : List (ℕ × Bool) → ℕ
-firstNo [] = 0
-firstNo (x ∷ xs) = cond (x .1) (firstNo xs) (x .0)

@@ -3,6 +3,8 @@ pub mod Tags
 pub mod Server
 pub mod Client
 pub mod Board
+pub mod Endings
+pub mod Parties
 pub mod Rig
 pub mod Laws
 pub mod Boards

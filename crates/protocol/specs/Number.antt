@@ -4,6 +4,7 @@ use mathlib.Core.Bool.{Bool, false, cond}
 use mathlib.Core.List.{List, [], _∷_, _++_}
 use mathlib.Core.Option.{Option, none, some}
 use lib.Dec.{eqb}
+unfoldable pub use Rattle.laws.specs.Lists.{toList}
 unfoldable pub use Rattle.laws.specs.Servers.{count}
 
 -- the same function, but for what it gives at n

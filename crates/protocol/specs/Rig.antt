@@ -1,28 +1,25 @@
--- The rig of document 01, over the models of server and client: servers, clients and the messages in flight, its seven events, their
--- questions and their answers.
+-- The rig of document 01: its parties and the messages in flight, its seven events, their questions and their answers.
 use Prim.Native.Nat.{ℕ, _+_}
 use mathlib.Core.Path.{_≡_}
-use mathlib.Core.Bool.{Bool, true, false, cond, not, _&&_}
+use mathlib.Core.Bool.{Bool, true, false, cond}
 use mathlib.Core.Option.{Option, none, some}
 use mathlib.Core.List.{List, [], _∷_, _++_}
 use lib.Dec.{eqb, leb, ltb}
 use lib.ListN.{length, take, drop, getElem?}
 use Rattle.config.specs.declared.Config.{Config}
+use Rattle.config.specs.Questions.{Question, ask, firstNo}
 use Rattle.tag.specs.declared.Tag.{Tag}
-use Rattle.record.specs.declared.Kind.{Kind}
-use Rattle.record.specs.declared.Kind.the-variants.{Query, QueryAnswer, PreWrite, PreWriteAnswer, WriteFinalise, WriteFinaliseAnswer, ReadFinalise, ReadFinaliseAnswer}
 use Rattle.record.specs.Message.{Message}
-use Rattle.protocol.specs.Number.{upd}
-use Rattle.protocol.specs.Server.{Server, Served, freshServer, serverStep}
-use Rattle.protocol.specs.Client.{Client, Moved, Ended, down, freshClient, isDown, beginQuestions, beginClient, clientStep, firstNo}
-use Rattle.protocol.specs.Board.{Call, Answer, Event, refused, nothingEnded, writtenBy, spentBy, readBy}
+unfoldable pub use Rattle.laws.specs.Lists.{without}
+use Rattle.protocol.specs.Number.{toList}
+use Rattle.protocol.specs.Parties as parties
+use Rattle.protocol.specs.Parties.{Parties, Acted, freshParties, quiet, begin, deliver, questionsToBegin, questionsToCrashServer, questionsToCrashClient}
+use Rattle.protocol.specs.Board.{Call, Answer, Event, refused, nothingEnded}
 
--- "It holds fresh servers and clients, a starting board, and the messages in flight .. in order of sending." Which servers are up
--- is kept beside them; a client that is down says so itself. The starting board is in the fresh servers' elements.
+-- "It holds fresh servers and clients, a starting board, and the messages in flight .. in order of sending." The starting board is in
+-- the fresh servers' elements.
 pub record Rig (Value Element : Type 0) : Type 0 where
-  pub servers : ℕ → Server Element
-  pub up : ℕ → Bool
-  pub clients : ℕ → Client Value Element
+  pub parties : Parties Value Element
   pub inFlight : List (Message Element)
 
 -- what an event leaves: the rig and the answer
@@ -44,94 +41,36 @@ codeOf n =
     (cond (eqb n 4) (some lose)
     (cond (eqb n 5) (some double) (cond (eqb n 6) (some crashServer) (cond (eqb n 7) (some crashClient) none))))))
 
--- the kinds that a server receives; a client receives the others
-unfoldable pub isForServer : Kind → Bool
-isForServer Query = true
-isForServer QueryAnswer = false
-isForServer PreWrite = true
-isForServer PreWriteAnswer = false
-isForServer WriteFinalise = true
-isForServer WriteFinaliseAnswer = false
-isForServer ReadFinalise = true
-isForServer ReadFinaliseAnswer = false
+module _ {A : Type 0} where
+  -- "double it (a copy goes to the end)"
+  unfoldable pub doubled : ℕ → List A → List A
+  doubled i xs = xs ++ toList (getElem? xs i)
 
--- a number from 1 to n
-unfoldable pub isWithin : ℕ → ℕ → Bool
-isWithin p n = leb 1 p && leb p n
-
--- "An event's answer is nothing ended or, each naming the client whose operation ended, .."
-unfoldable pub answerOf : {Value : Type 0} → ℕ → Ended Value → Answer Value
-answerOf c Ended.nothing = nothingEnded
-answerOf c (Ended.written t) = writtenBy c t
-answerOf c Ended.spent = spentBy c
-answerOf c (Ended.read t v) = readBy c t v
-
--- the messages sent are none or one
-unfoldable pub listOf : {A : Type 0} → Option A → List A
-listOf none = []
-listOf (some a) = a ∷ []
-
--- the list without what stands at a position
-unfoldable pub without : {A : Type 0} → ℕ → List A → List A
-without i xs = take i xs ++ drop (i + 1) xs
+  -- "8. Does the named .. position exist?"
+  unfoldable pub positionQuestions : List A → ℕ → List Question
+  positionQuestions xs i = ask 8 (ltb i (length xs)) ∷ []
 
 module _ {Value Element : Type 0} where
   -- "all parties up, clients idle, nothing in flight"
-  unfoldable pub freshRig : (Value → ℕ → Element) → Value → Rig Value Element
-  freshRig encode start =
-      record {
-        servers = λ s. freshServer (encode start s);
-        up = λ s. true;
-        clients = λ c. freshClient;
-        inFlight = [];
-      }
+  unfoldable pub freshRig : Config → (Value → ℕ → Element) → Value → Rig Value Element
+  freshRig cfg encode start = record { parties = freshParties cfg encode start; inFlight = [] }
 
-  -- the rig with server s changed and messages added at the end
-  unfoldable pub withServer : Rig Value Element → ℕ → Server Element → List (Message Element) → Rig Value Element
-  withServer r s v sends =
-      record { servers = upd (r .servers) s v; up = r .up; clients = r .clients; inFlight = r .inFlight ++ sends }
+  -- what an event leaves, given what it leaves in flight and what the parties do: "what it causes is added at the end"
+  unfoldable pub leaves : List (Message Element) → Acted Value Element → Turn Value Element
+  leaves ms x = record { rig = record { parties = x .parties; inFlight = ms ++ x .sends }; answer = x .answer }
 
-  -- the rig with client c changed and messages added at the end
-  unfoldable pub withClient : Rig Value Element → ℕ → Client Value Element → List (Message Element) → Rig Value Element
-  withClient r c x sends =
-      record { servers = r .servers; up = r .up; clients = upd (r .clients) c x; inFlight = r .inFlight ++ sends }
+  -- The questions 8 to 11, as far as they concern an event: "8. Does the named client, server or position exist? 9. Is the party to begin
+  -- or crash up? 10. Is the beginning client idle? 11. Is its operation number below 4,294,967,295?"
+  unfoldable pub questionsTo11 : Config → Rig Value Element → Call Value → Code → List Question
+  questionsTo11 cfg r a beginWrite = questionsToBegin cfg (r .parties) (a .party)
+  questionsTo11 cfg r a beginRead = questionsToBegin cfg (r .parties) (a .party)
+  questionsTo11 cfg r a handOver = positionQuestions (r .inFlight) (a .position)
+  questionsTo11 cfg r a lose = positionQuestions (r .inFlight) (a .position)
+  questionsTo11 cfg r a double = positionQuestions (r .inFlight) (a .position)
+  questionsTo11 cfg r a crashServer = questionsToCrashServer cfg (r .parties) (a .party)
+  questionsTo11 cfg r a crashClient = questionsToCrashClient cfg (r .parties) (a .party)
 
-  -- the rig with other messages in flight
-  unfoldable pub withFlight : Rig Value Element → List (Message Element) → Rig Value Element
-  withFlight r ms = record { servers = r .servers; up = r .up; clients = r .clients; inFlight = ms }
-
-  -- events 1 and 2: client c begins, with the board to write or none
-  unfoldable pub begun : Config → Rig Value Element → ℕ → Option Value → Turn Value Element
-  begun cfg r c board =
-      let m = beginClient cfg c (r .clients c) board in
-      record { rig = withClient r c (m .client) (m .sends); answer = nothingEnded }
-
-  -- a message handed to server s, which is up; 15 inside it counts as accepted
-  unfoldable pub served : Rig Value Element → ℕ → Served Element → Turn Value Element
-  served r s o = record { rig = withServer r s (o .server) (listOf (o .answer)); answer = nothingEnded }
-
-  -- a message handed to client c; 14 inside it counts as accepted
-  unfoldable pub answered : Rig Value Element → ℕ → Moved Value Element → Turn Value Element
-  answered r c o = record { rig = withClient r c (o .client) (o .sends); answer = answerOf c (o .ended) }
-
-  -- nothing happens but that the rig is this
-  unfoldable pub only : Rig Value Element → Turn Value Element
-  only r = record { rig = r; answer = nothingEnded }
-
-  -- The questions 8 to 11 that concern an event, each with its number, in order: "8. Does the named client, server or position exist?
-  -- 9. Is the party to begin or crash up? 10. Is the beginning client idle? 11. Is its operation number below 4,294,967,295?"
-  unfoldable pub partyQuestions : Config → Rig Value Element → Call Value → Code → List (ℕ × Bool)
-  partyQuestions cfg r a beginWrite = (8, isWithin (a .party) (cfg .c)) ∷ beginQuestions (r .clients (a .party))
-  partyQuestions cfg r a beginRead = (8, isWithin (a .party) (cfg .c)) ∷ beginQuestions (r .clients (a .party))
-  partyQuestions cfg r a handOver = (8, ltb (a .position) (length (r .inFlight))) ∷ []
-  partyQuestions cfg r a lose = (8, ltb (a .position) (length (r .inFlight))) ∷ []
-  partyQuestions cfg r a double = (8, ltb (a .position) (length (r .inFlight))) ∷ []
-  partyQuestions cfg r a crashServer = (8, isWithin (a .party) (cfg .n)) ∷ (9, r .up (a .party)) ∷ []
-  partyQuestions cfg r a crashClient =
-      (8, isWithin (a .party) (cfg .c)) ∷ (9, not (isDown (r .clients (a .party) .phase))) ∷ []
-
-  -- "13. Would at most M be in flight afterwards?" of what the event would leave. (12 is asked of a record's
-  -- bytes, and 1 to 6 of numbers and buffers: a model has none of these.)
+  -- "13. Would at most M be in flight afterwards?" of what the event would leave
   unfoldable pub hasRoom : ℕ → Turn Value Element → Bool
   hasRoom most t = leb (length (t .rig .inFlight)) most
 
@@ -140,46 +79,38 @@ module _ {Value Element : Type 0} where
   unlessNo r t number = cond (eqb number 0) t (record { rig = r; answer = refused number })
 
 module _ {Value Element : Type 0} (key : Tag → ℕ) (encode : Value → ℕ → Element) (decode : List (ℕ × Element) → Value) (cfg : Config) where
-  -- Event 3, once the message has left the list: it is for a server or for a client. "Handed to a crashed party it is gone": a client
-  -- that is down awaits nothing.
-  unfoldable pub handed : Rig Value Element → Message Element → Turn Value Element
-  handed r m =
-      cond (isForServer (m .kind))
-      (cond (r .up (m .server)) (served r (m .server) (serverStep key (cfg .d) (m .server) (r .servers (m .server)) m)) (only r))
-      (answered r (m .client) (clientStep key encode decode cfg (m .client) (r .clients (m .client)) m))
+  -- the message at a position is handed over; where there is none, nothing happens
+  unfoldable pub deliverAt : Parties Value Element → Option (Message Element) → Acted Value Element
+  deliverAt p none = quiet p
+  deliverAt p (some m) = deliver key encode decode cfg p m
 
-  -- "A message handed over leaves the list first; what it causes is added at the end."
-  unfoldable pub handedAt : Rig Value Element → ℕ → Option (Message Element) → Turn Value Element
-  handedAt r i none = only r
-  handedAt r i (some m) = handed (withFlight r (without i (r .inFlight))) m
-
-  -- what an event does, once its questions are answered
+  -- What an event does, once its questions are answered. "A message handed over leaves the list first; what it causes is added at the
+  -- end."
   unfoldable pub move : Rig Value Element → Call Value → Code → Turn Value Element
-  move r a beginWrite = begun cfg r (a .party) (some (a .board))
-  move r a beginRead = begun cfg r (a .party) none
-  move r a handOver = handedAt r (a .position) (getElem? (r .inFlight) (a .position))
-  move r a lose = only (withFlight r (without (a .position) (r .inFlight)))
-  move r a double =
-      only (withFlight r (r .inFlight ++ listOf (getElem? (r .inFlight) (a .position))))
-  move r a crashServer =
-      only (record { servers = r .servers; up = upd (r .up) (a .party) false; clients = r .clients; inFlight = r .inFlight })
-  move r a crashClient =
-      only (withClient r (a .party) (record { operation = r .clients (a .party) .operation; phase = down }) [])
+  move r a beginWrite = leaves (r .inFlight) (begin cfg (r .parties) (a .party) (some (a .board)))
+  move r a beginRead = leaves (r .inFlight) (begin cfg (r .parties) (a .party) none)
+  move r a handOver = leaves (without (a .position) (r .inFlight)) (deliverAt (r .parties) (getElem? (r .inFlight) (a .position)))
+  move r a lose = leaves (without (a .position) (r .inFlight)) (quiet (r .parties))
+  move r a double = leaves (doubled (a .position) (r .inFlight)) (quiet (r .parties))
+  move r a crashServer = leaves (r .inFlight) (parties.crashServer (r .parties) (a .party))
+  move r a crashClient = leaves (r .inFlight) (parties.crashClient (r .parties) (a .party))
 
   -- nothing, where there is no such event
   unfoldable pub moveOf : Rig Value Element → Call Value → Option Code → Turn Value Element
-  moveOf r a none = only r
+  moveOf r a none = record { rig = r; answer = nothingEnded }
   moveOf r a (some w) = move r a w
 
-  -- The questions of an event, each with its number, in order: "7. Is the event 1 to 7?", then 8 to 11 as far as they concern it, then
-  -- 13, where M is the most that may be in flight.
-  unfoldable pub questions : ℕ → Rig Value Element → Call Value → Option Code → List (ℕ × Bool)
-  questions most r a none = (7, false) ∷ []
-  questions most r a (some w) = (7, true) ∷ (partyQuestions cfg r a w ++ ((13, hasRoom most (move r a w)) ∷ []))
+  -- The questions of an event, in order: "7. Is the event 1 to 7?"; 8 to 11; "12. Is the record handed over well formed?", whose answer is
+  -- handed in, since a model has no bytes (1 to 6 are of numbers and buffers, and of these it has none either); and 13, where M is the
+  -- most that may be in flight.
+  unfoldable pub questions : ℕ → Rig Value Element → Call Value → Bool → Option Code → List Question
+  questions most r a formed none = ask 7 false ∷ []
+  questions most r a formed (some w) =
+      ask 7 true ∷ questionsTo11 cfg r a w ++ ask 12 formed ∷ ask 13 (hasRoom most (move r a w)) ∷ []
 
-  -- an event of the rig
+  -- an event of the rig; its messages are well formed
   unfoldable pub event : ℕ → Rig Value Element → Call Value → Turn Value Element
-  event most r a = unlessNo r (moveOf r a (codeOf (a .code))) (firstNo (questions most r a (codeOf (a .code))))
+  event most r a = unlessNo r (moveOf r a (codeOf (a .code))) (firstNo (questions most r a true (codeOf (a .code))))
 
   -- "Each event gets the rig as the one before left it": the events of a list of calls
   unfoldable pub run : ℕ → Rig Value Element → List (Call Value) → List (Event Value)
@@ -188,16 +119,16 @@ module _ {Value Element : Type 0} (key : Tag → ℕ) (encode : Value → ℕ �
       let t = event most r a in
       record { call = a; answer = t .answer } ∷ run most (t .rig) later
 
--- A run of the rig, and its events. Any event may be refused, for any reason, want of room among them, and then nothing changes; an
+-- An execution: the rig that it comes to, and its events. Any event may be refused, for any reason, want of room among them, and then nothing changes; an
 -- accepted one is the model's move, once the questions 7 to 11 are answered, and a board that it writes is a board.
 pub data Execution {Value Element : Type 0} (key : Tag → ℕ) (encode : Value → ℕ → Element) (decode : List (ℕ × Element) → Value) (cfg : Config)
     (IsBoard : Value → Type 0) (start : Value) : Rig Value Element → List (Event Value) → Type 0 where
-  fresh : Execution key encode decode cfg IsBoard start (freshRig encode start) []
+  fresh : Execution key encode decode cfg IsBoard start (freshRig cfg encode start) []
   refuses : {r : Rig Value Element} {events : List (Event Value)} → Execution key encode decode cfg IsBoard start r events
       → (a : Call Value) (number : ℕ)
       → Execution key encode decode cfg IsBoard start r (events ++ (record { call = a; answer = refused number } ∷ []))
   moves : {r : Rig Value Element} {events : List (Event Value)} → Execution key encode decode cfg IsBoard start r events
-      → (a : Call Value) (w : Code) → codeOf (a .code) ≡ some w → firstNo (partyQuestions cfg r a w) ≡ 0
+      → (a : Call Value) (w : Code) → codeOf (a .code) ≡ some w → firstNo (questionsTo11 cfg r a w) ≡ 0
       → (w ≡ beginWrite → IsBoard (a .board))
       → Execution key encode decode cfg IsBoard start (move key encode decode cfg r a w .rig)
       (events ++ (record { call = a; answer = move key encode decode cfg r a w .answer } ∷ []))

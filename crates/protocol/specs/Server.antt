@@ -4,13 +4,14 @@ use Prim.Native.Nat.{ℕ, _+_}
 use mathlib.Core.Bool.{Bool, false, cond, _||_}
 use mathlib.Core.Option.{Option, none, some}
 use mathlib.Core.List.{List, [], _∷_, _++_}
-use lib.Dec.{ltb}
+use lib.Dec.{leb, ltb}
 use lib.ListN.{length}
 use Rattle.tag.specs.declared.Tag.{Tag}
+use Rattle.tag.specs.Tag.{start}
 use Rattle.record.specs.declared.Kind.{Kind}
 use Rattle.record.specs.declared.Kind.the-variants.{Query, QueryAnswer, PreWrite, PreWriteAnswer, WriteFinalise, WriteFinaliseAnswer, ReadFinalise, ReadFinaliseAnswer}
 use Rattle.record.specs.Message.{Message}
-use Rattle.protocol.specs.Tags.{startingTag, same, atOrBelow, higher, lower}
+use Rattle.protocol.specs.Tags.{sameKey, higher, lower}
 
 -- a stored tag with its element
 pub record Stored (Element : Type 0) : Type 0 where
@@ -31,22 +32,26 @@ pub record Served (Element : Type 0) : Type 0 where
 -- t is at or below the floor; without a floor it is not
 unfoldable pub atOrBelowFloor : (Tag → ℕ) → Tag → Option Tag → Bool
 atOrBelowFloor key t none = false
-atOrBelowFloor key t (some f) = atOrBelow key t f
+atOrBelowFloor key t (some f) = leb (key t) (key f)
 
 module _ {Element : Type 0} where
   -- "Fresh: H = (0, 0), with the starting board's element stored at (0, 0)."
   unfoldable pub freshServer : Element → Server Element
-  freshServer e = record { highest = startingTag; floor = none; stored = record { tag = startingTag; element = e } ∷ [] }
+  freshServer e = record { highest = start; floor = none; stored = record { tag = start; element = e } ∷ [] }
+
+  -- where there is no server nothing is stored
+  unfoldable pub noServer : Server Element
+  noServer = record { highest = start; floor = none; stored = [] }
 
   -- t is stored
   unfoldable pub isStored : (Tag → ℕ) → Tag → List (Stored Element) → Bool
   isStored key t [] = false
-  isStored key t (x ∷ xs) = same key (x .tag) t || isStored key t xs
+  isStored key t (x ∷ xs) = sameKey key (x .tag) t || isStored key t xs
 
   -- the stored element of t, at the first place that holds it
   unfoldable pub elementOf : (Tag → ℕ) → Tag → List (Stored Element) → Option Element
   elementOf key t [] = none
-  elementOf key t (x ∷ xs) = cond (same key (x .tag) t) (some (x .element)) (elementOf key t xs)
+  elementOf key t (x ∷ xs) = cond (sameKey key (x .tag) t) (some (x .element)) (elementOf key t xs)
 
   -- "of the stored tags and t, the smallest"
   unfoldable pub smallest : (Tag → ℕ) → Tag → List (Stored Element) → Tag
@@ -56,11 +61,11 @@ module _ {Element : Type 0} where
   -- the stored tags with the place of the tag u taken by another
   unfoldable pub inPlaceOf : (Tag → ℕ) → Tag → Stored Element → List (Stored Element) → List (Stored Element)
   inPlaceOf key u y [] = []
-  inPlaceOf key u y (x ∷ xs) = cond (same key (x .tag) u) (y ∷ xs) (x ∷ inPlaceOf key u y xs)
+  inPlaceOf key u y (x ∷ xs) = cond (sameKey key (x .tag) u) (y ∷ xs) (x ∷ inPlaceOf key u y xs)
 
   -- the others are stored: where t itself is the smallest, those that were; else t has the place of the one dropped
   unfoldable pub others : (Tag → ℕ) → Tag → Stored Element → List (Stored Element) → List (Stored Element)
-  others key u y xs = cond (same key u (y .tag)) xs (inPlaceOf key u y xs)
+  others key u y xs = cond (sameKey key u (y .tag)) xs (inPlaceOf key u y xs)
 
   -- "Else, of the stored tags and t, the smallest is dropped and becomes the floor; the others are stored."
   unfoldable pub dropSmallest : (Tag → ℕ) → Server Element → Stored Element → Server Element

@@ -1,7 +1,7 @@
 -- The answers of reading and of writing, by the question that decides. Assumes nothing.
-use mathlib.Core.Path.{_≡_, refl, sym, _∙_, ap}
+use mathlib.Core.Path.{_≡_, sym, _∙_, ap}
 use mathlib.Core.Bool.{Bool, true, false, cond}
-use mathlib.Core.List.{List, [], _∷_, _++_}
+use mathlib.Core.List.{List, _++_}
 use mathlib.Core.Option.{Option, none, some}
 use Prim.Native.Nat.{ℕ}
 use native.Mathlib.Omega.{arith}
@@ -12,16 +12,17 @@ use Rattle.config.specs.declared.Config.{Config}
 use Rattle.config.specs.declared.Refusal.{Refusal}
 use Rattle.config.specs.declared.Verdict.{Verdict}
 use Rattle.config.specs.Config.{questions}
-use Rattle.config.specs.Questions.{Question, ask, firstNo, numbered}
-use Rattle.config.specs.Refusal.{clamped, numberOf, verdictNumber}
+use Rattle.config.specs.Questions.{Question, firstNo, numbered}
+use Rattle.config.specs.Refusal.{clamped, refusalNumber, verdictNumber}
 use Rattle.config.proofs.Questions.{firstNo-high, firstNo-pass, firstNo-stop, questions-numbered}
 use Rattle.record.specs.declared.Header.{Header}
 use Rattle.record.specs.declared.Reading.{Reading}
 use Rattle.record.specs.Calls.{ReadPost, WritePost, limits, readQuestions, withElement, writeQuestions}
-use Rattle.record.specs.Inner.{ParsePost}
+use Rattle.record.specs.inner.Parse.{ParsePost}
 use Rattle.record.specs.Message.{Message}
 use Rattle.record.specs.Record.{messageOf, ofConfig, recordOf, wellFormed}
-use Rattle.record.proofs.Clauses.{Says, says-message}
+use Rattle.record.proofs.Clauses.{Says, not-so, says-message}
+use Rattle.record.proofs.Written.{message-limits}
 
 module _ (cfg : Config) (bs : List ℕ) where
   pub refused : wellFormed cfg bs ≡ false → ParsePost cfg bs (Reading.No Refusal.IllFormed)
@@ -38,7 +39,7 @@ first-stops first rest asked number known e refuses c =
 
 module _ (cfg : Config) (bs : List ℕ) where
   -- reading: by the number of the first question that is answered no
-  pub not-read : (n : ℕ) (why : Refusal) → firstNo (readQuestions cfg bs) ≡ n → (n ≡ 0 → ⊥) → numberOf why ≡ n → ReadPost cfg bs (Reading.No why)
+  pub not-read : (n : ℕ) (why : Refusal) → firstNo (readQuestions cfg bs) ≡ n → (n ≡ 0 → ⊥) → refusalNumber why ≡ n → ReadPost cfg bs (Reading.No why)
   not-read n why e refuses h =
       record {
         number = h ∙ sym e;
@@ -82,11 +83,15 @@ module _ (cfg : Config) (h : Header) (bs : List ℕ) where
     unfolding writeQuestions firstNo
     write-shape e = firstNo-pass (questions cfg) _ (questions-numbered cfg) passed ∙ rw (ne-eqb (length bs) 80 e)
 
+    -- 12, by the limits of the header's numbers and by the other rules
     module _ (e : length bs ≡ 80) where
-      pub write-limits : limits cfg h ≡ false → firstNo (writeQuestions cfg h bs) ≡ 6
+      by-rules : firstNo (writeQuestions cfg h bs) ≡ cond (ofConfig cfg (withElement cfg h bs)) 0 12
       unfolding writeQuestions firstNo
-      write-limits l = firstNo-pass (questions cfg) _ (questions-numbered cfg) passed ∙ rw (eq-eqb (length bs) 80 e, l)
+      by-rules = firstNo-pass (questions cfg) _ (questions-numbered cfg) passed ∙ rw (eq-eqb (length bs) 80 e)
+
+      pub write-limits : limits cfg h ≡ false → firstNo (writeQuestions cfg h bs) ≡ 12
+      write-limits l =
+          by-rules ∙ ap (λ (b : Bool). cond b 0 12) (not-so (ofConfig cfg (withElement cfg h bs)) (limits cfg h) (message-limits cfg h bs) l)
 
       pub write-last : limits cfg h ≡ true → firstNo (writeQuestions cfg h bs) ≡ cond (ofConfig cfg (withElement cfg h bs)) 0 12
-      unfolding writeQuestions firstNo
-      write-last l = firstNo-pass (questions cfg) _ (questions-numbered cfg) passed ∙ rw (eq-eqb (length bs) 80 e, l)
+      write-last l = by-rules

@@ -1,35 +1,26 @@
 -- What a caller of reading and of writing learns. Assumes nothing.
 use mathlib.Core.Path.{_≡_, refl, sym, _∙_, ap}
-use mathlib.Core.Bool.{Bool, true, false, cond, _&&_}
-use mathlib.Core.List.{List, [], _∷_, _++_}
-use mathlib.Core.Option.{Option, none, some}
-use Prim.Native.Nat.{ℕ, _≤_}
+use mathlib.Core.Bool.{Bool, true, false, cond}
+use mathlib.Core.List.{List}
+use mathlib.Core.Option.{Option·some-injective}
+use Prim.Native.Nat.{ℕ}
 use native.Mathlib.Omega.{arith}
-use borrow.Author.Tests.{eq-eqb, eqb-true}
-use lib.Dec.{eqb}
+use borrow.Author.Tests.{eq-eqb}
 use lib.ListN.{length}
 use Rattle.config.specs.declared.Config.{Config}
 use Rattle.config.specs.declared.Refusal.{Refusal}
 use Rattle.config.specs.declared.Verdict.{Verdict}
-use Rattle.config.specs.Config.{Valid, questions}
-use Rattle.config.specs.Number.{clientNumber, serverNumber}
-use Rattle.config.specs.Questions.{Question, ask, firstNo, within}
-use Rattle.config.specs.Refusal.{numberOf, verdictNumber}
-use Rattle.config.proofs.Questions.{last-all, questions-numbered}
-use Rattle.config.proofs.Valid.{valid, valid-asked}
-use Rattle.tag.specs.Tag.{allowed}
+use Rattle.config.specs.Config.{Valid}
+use Rattle.config.specs.Questions.{firstNo}
+use Rattle.config.specs.Refusal.{refusalNumber, verdictNumber}
+use Rattle.config.proofs.Valid.{valid-asked}
 use Rattle.record.specs.declared.Header.{Header}
 use Rattle.record.specs.declared.Reading.{Reading}
-use Rattle.record.specs.Calls.{ReadPost, WritePost, limits, messageRead, readNumber, readQuestions, withElement, writeQuestions}
+use Rattle.record.specs.Calls.{ReadPost, WritePost, messageRead, readNumber, readQuestions, withElement, writeQuestions}
 use Rattle.record.specs.Message.{Message}
-use Rattle.record.specs.Record.{messageClauses, messageOf, ofConfig, recordOf, wellFormed}
+use Rattle.record.specs.Record.{messageOf, ofConfig, recordOf, wellFormed}
 use Rattle.record.proofs.Answers.{read-last, write-last}
-use Rattle.record.proofs.Clauses.{all-at}
-use Rattle.record.proofs.Parties.{number-low}
-
--- what stands under some is one thing
-pub some-one : {A : Type 0} (a b : A) → some a ≡ some b → a ≡ b
-some-one a b e = cc
+use Rattle.record.proofs.Written.{message-limits}
 
 module _ (cfg : Config) (bs : List ℕ) (r : Reading) (post : ReadPost cfg bs r) where
   -- a message was read: no question was answered no, and the header with the element in the bytes is the record's message
@@ -38,11 +29,11 @@ module _ (cfg : Config) (bs : List ℕ) (r : Reading) (post : ReadPost cfg bs r)
 
   pub its-message : (h : Header) → r ≡ Reading.Message h → withElement cfg h bs ≡ messageOf cfg bs
   its-message h e =
-      some-one (withElement cfg h bs) (messageOf cfg bs)
+      Option·some-injective (withElement cfg h bs) (messageOf cfg bs)
       (ap (messageRead cfg bs) (sym e) ∙ post .message ∙ rw (eq-eqb (firstNo (readQuestions cfg bs)) 0 (was-read h e)))
 
   -- it was refused, by the first question that is answered no
-  pub was-refused : (why : Refusal) → r ≡ Reading.No why → numberOf why ≡ firstNo (readQuestions cfg bs)
+  pub was-refused : (why : Refusal) → r ≡ Reading.No why → refusalNumber why ≡ firstNo (readQuestions cfg bs)
   was-refused why e = ap readNumber (sym e) ∙ post .number
 
 -- in a valid configuration a record of 80 bytes is refused exactly if it is ill formed
@@ -58,14 +49,8 @@ read-well-formed cfg bs v e h = twelve (wellFormed cfg bs) (sym (read-12 cfg bs 
 
 -- a message of the configuration is written, whatever the record held
 module _ (cfg : Config) (h : Header) (bs : List ℕ) (v : Valid cfg) (e : length bs ≡ 80) (m : ofConfig cfg (withElement cfg h bs) ≡ true) where
-  within-limits : limits cfg h ≡ true
-  unfolding ofConfig messageClauses withElement
-  within-limits =
-      let cs = messageClauses cfg (withElement cfg h bs) in
-      rw (all-at cs m 6, all-at cs m 7, all-at cs m 8)
-
   pub write-asked : firstNo (writeQuestions cfg h bs) ≡ 0
-  write-asked = write-last cfg h bs (valid-asked cfg v) e within-limits ∙ rw m
+  write-asked = write-last cfg h bs (valid-asked cfg v) e (message-limits cfg h bs m) ∙ rw m
 
   pub was-written : (after : List ℕ) (r : Verdict) → WritePost cfg h bs after r
       → (verdictNumber r ≡ 0) × (after ≡ recordOf cfg (withElement cfg h bs))

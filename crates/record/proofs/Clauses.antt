@@ -1,13 +1,12 @@
 -- A record's clauses: each follows from well formed, and all together give it. Assumes nothing.
-use mathlib.Core.Path.{_≡_, refl, sym, _∙_, ap}
-use mathlib.Core.Bool.{Bool, true, false, cond, _&&_}
+use mathlib.Core.Path.{_≡_, refl, sym, _∙_}
+use mathlib.Core.Bool.{Bool, true, false, cond}
 use mathlib.Core.List.{List, [], _∷_}
 use mathlib.Core.Option.{none, some}
-use Prim.Native.Nat.{ℕ, zero, suc, _<_, _≤_}
+use Prim.Native.Nat.{ℕ, zero, suc, _≤_}
 use native.Mathlib.Omega.{arith}
 use borrow.Author.Tests.{eq-eqb, eqb-true}
-use lib.Dec.{eqb, leb}
-use lib.ListN.{length, getD, take, drop}
+use lib.ListN.{length, getD}
 use Rattle.laws.proofs.Bools.{and-left, and-right}
 use Rattle.config.specs.declared.Config.{Config}
 use Rattle.config.specs.Number.{clientNumber, serverNumber}
@@ -15,9 +14,9 @@ use Rattle.config.specs.Questions.{within}
 use Rattle.config.proofs.Questions.{within-low, within-high}
 use Rattle.tag.specs.Tag.{allowed}
 use Rattle.record.specs.declared.Header.{Header}
-use Rattle.record.specs.Calls.{withElement}
-use Rattle.record.specs.Inner.{isSound, laidOut, layoutClauses, soundClauses}
-use Rattle.record.specs.Record.{all, allZero, clauses, clientAt, elementAt, elementEnd, kindAt, kindNumber, kindOf, messageOf, operationAt, ownTag, presence, presentAt, queryTag, serverAt, tagAt, wellFormed}
+use Rattle.record.specs.Calls.{isSound, soundClauses, withElement}
+use Rattle.record.specs.inner.Parse.{laidOut, layoutClauses}
+use Rattle.record.specs.Record.{all, clauses, clientAt, elementIn, kindAt, kindNumber, kindOf, messageOf, operationAt, presentAt, serverAt, tagAt, wellFormed}
 
 -- of clauses that all hold each holds
 pub all-at : (bs : List Bool) → all bs ≡ true → (i : ℕ) → getD bs i true ≡ true
@@ -25,10 +24,6 @@ unfolding all
 all-at [] h i = refl
 all-at (b ∷ bs) h zero = and-left b (all bs) h
 all-at (b ∷ bs) h (suc i) = all-at bs (and-right b (all bs) h) i
-
-pub and-true : (b : Bool) → b && true ≡ b
-and-true true = refl
-and-true false = refl
 
 -- where one implies another and the other does not hold
 pub not-so : (a b : Bool) → (a ≡ true → b ≡ true) → b ≡ false → a ≡ false
@@ -105,7 +100,7 @@ module _ (cfg : Config) (bs : List ℕ) where
         server = s .server i;
         operation = s .operation i;
         tag = s .tag i;
-        element = cond (s .present i) (some (elementAt cfg bs)) none;
+        element = cond (s .present i) (some (elementIn cfg bs)) none;
       }
 
   module _ (h : Header) (s : Says h) where

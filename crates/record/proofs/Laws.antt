@@ -1,59 +1,50 @@
 -- The record's theorems: what is written reads back as the same message; a record is well formed exactly if it is what writing some
 -- message of the configuration gives; it is zero past E, and where no element is present. Assumes nothing.
 use mathlib.Core.Path.{_≡_, refl, sym, _∙_, ap, ap₂, subst}
-use mathlib.Core.Bool.{Bool, true, false, cond, _&&_}
-use mathlib.Core.List.{List, [], _∷_, _++_, append-nil}
+use mathlib.Core.Bool.{Bool, true, false, cond}
+use mathlib.Core.List.{List, [], _∷_, _++_}
 use mathlib.Core.Logic.{_↔_}
 use mathlib.Core.Option.{Option, none, some}
 use Prim.Native.Nat.{ℕ, zero, suc, _+_, _-_, _*_, _/_, _%_, _≤_, _<_}
-use native.Mathlib.Nat.{add-zero, add-suc, div-add-mod', div-div-eq-div-mul, mod-eq-of-lt}
+use native.Mathlib.Nat.{div-add-mod', div-div-eq-div-mul, mod-eq-of-lt}
 use native.Mathlib.Omega.{arith}
 use borrow.Author.Tests.{eq-eqb, eqb-true, le-leb, leb-true}
 use lib.Arith.{digits-div, digits-mod}
 use lib.Dec.{eqb, leb}
-use lib.ListN.{length, getD, take, drop, replicate, length-append, length-drop, length-replicate, length-take, getD-replicate, take-append-drop}
-use lib.Seq.{drop-cons, drop-drop, getD-drop, getD-take, take-at, drop-at, take-length}
+use lib.ListN.{length, getD, take, drop, replicate, length-append, length-drop, length-replicate, take-append-drop}
+use lib.Seq.{drop-cons, drop-drop, getD-drop, getD-take, take-at, drop-at}
 use Rattle.config.specs.declared.Config.{Config}
 use Rattle.config.specs.Questions.{within}
-use Rattle.config.proofs.Questions.{within-low, within-high, within-true}
+use Rattle.config.proofs.Questions.{within-high}
+use Rattle.laws.specs.Bytes.{Bytes}
 use Rattle.laws.proofs.Bools.{and-left, and-right}
-use Rattle.tag.specs.declared.Tag.{Tag}
 use Rattle.record.specs.declared.Kind.{Kind}
 use Rattle.record.specs.declared.Kind.the-variants.{Query, QueryAnswer, PreWrite, PreWriteAnswer, WriteFinalise, WriteFinaliseAnswer, ReadFinalise, ReadFinaliseAnswer}
 use Rattle.record.specs.Message.{Message}
-use Rattle.record.specs.Record.{all, allZero, clauses, clientAt, elementAt, elementBytes, elementEnd, fourBytes, headerBytes, highestNumber, isPresent, kindAt, kindNumber, kindOf, messageClauses, messageOf, numberAt, numberOf, ofConfig, operationAt, presentAt, recordOf, serverAt, sized, tagAt, wellFormed}
+use Rattle.record.specs.Record.{all, allZero, clauses, clientAt, elementIn, elementBytes, elementEnd, fourBytes, headerBytes, highestNumber, isPresent, kindAt, kindNumber, kindOf, messageClauses, messageOf, numberAt, littleEndian, ofConfig, operationAt, presentAt, recordOf, serverAt, sized, tagAt, wellFormed}
 use Rattle.record.proofs.Clauses.{all-at, clause, its-length, kind-number}
+use Rattle.record.proofs.Written.{present-is, sized-is}
 
--- the number of a kind names it
-pub kind-of : (k : Kind) → kindOf (kindNumber k) ≡ k
+-- the number of a kind names it, and is 1 to 8
+kind-is : (k : Kind) → (kindOf (kindNumber k) ≡ k) × (within 1 8 (kindNumber k) ≡ true)
 unfolding kindOf
-kind-of Query = refl
-kind-of QueryAnswer = refl
-kind-of PreWrite = refl
-kind-of PreWriteAnswer = refl
-kind-of WriteFinalise = refl
-kind-of WriteFinaliseAnswer = refl
-kind-of ReadFinalise = refl
-kind-of ReadFinaliseAnswer = refl
-
-kind-within : (k : Kind) → within 1 8 (kindNumber k) ≡ true
-kind-within Query = refl
-kind-within QueryAnswer = refl
-kind-within PreWrite = refl
-kind-within PreWriteAnswer = refl
-kind-within WriteFinalise = refl
-kind-within WriteFinaliseAnswer = refl
-kind-within ReadFinalise = refl
-kind-within ReadFinaliseAnswer = refl
+kind-is Query = (refl, refl)
+kind-is QueryAnswer = (refl, refl)
+kind-is PreWrite = (refl, refl)
+kind-is PreWriteAnswer = (refl, refl)
+kind-is WriteFinalise = (refl, refl)
+kind-is WriteFinaliseAnswer = (refl, refl)
+kind-is ReadFinalise = (refl, refl)
+kind-is ReadFinaliseAnswer = (refl, refl)
 
 -- a number's four bytes give it back, and four bytes are those of their number
-joined : (n p q r a b c d : ℕ) → p * 256 + a ≡ n → q * 256 + b ≡ p → r * 256 + c ≡ q → d ≡ r → numberOf a b c d ≡ n
+joined : (n p q r a b c d : ℕ) → p * 256 + a ≡ n → q * 256 + b ≡ p → r * 256 + c ≡ q → d ≡ r → littleEndian a b c d ≡ n
 joined n p q r a b c d e f g h = omega arith
 
 low-digit : (q r x : ℕ) → r < 256 → x ≡ q * 256 + r → (x % 256 ≡ r) × (x / 256 ≡ q)
 low-digit q r x h e = (ap (λ (y : ℕ). y % 256) e ∙ digits-mod q h, ap (λ (y : ℕ). y / 256) e ∙ digits-div q h)
 
-four-number : (n : ℕ) → n ≤ highestNumber → numberOf (n % 256) (n / 256 % 256) (n / 65536 % 256) (n / 16777216 % 256) ≡ n
+four-number : (n : ℕ) → n ≤ highestNumber → littleEndian (n % 256) (n / 256 % 256) (n / 65536 % 256) (n / 16777216 % 256) ≡ n
 four-number n h =
     let p = n / 256 in
     let q = n / 65536 in
@@ -66,10 +57,10 @@ four-number n h =
     (ap (λ (x : ℕ). x * 256 + q % 256) (sym er) ∙ div-add-mod' q 256)
     (mod-eq-of-lt high)
 
-number-four : (a b c d : ℕ) → a < 256 → b < 256 → c < 256 → d < 256 → fourBytes (numberOf a b c d) ≡ a ∷ b ∷ c ∷ d ∷ []
+number-four : (a b c d : ℕ) → a < 256 → b < 256 → c < 256 → d < 256 → fourBytes (littleEndian a b c d) ≡ a ∷ b ∷ c ∷ d ∷ []
 unfolding fourBytes
 number-four a b c d ha hb hc hd =
-    let n = numberOf a b c d in
+    let n = littleEndian a b c d in
     let p = low-digit (b + 256 * c + 65536 * d) a n ha (omega arith) in
     let q = low-digit (c + 256 * d) b (n / 256) hb (p .1 ∙ omega arith) in
     let eq : n / 65536 ≡ c + 256 * d = sym (div-div-eq-div-mul n 256 256) ∙ q .1 in
@@ -78,7 +69,7 @@ number-four a b c d ha hb hc hd =
     let e3 : n / 16777216 % 256 ≡ d = ap (λ (x : ℕ). x % 256) er ∙ mod-eq-of-lt hd in
     λ i. p .0 i ∷ q .0 i ∷ r .0 i ∷ e3 i ∷ []
 
-number-high : (a b c d : ℕ) → a < 256 → b < 256 → c < 256 → d < 256 → numberOf a b c d ≤ highestNumber
+number-high : (a b c d : ℕ) → a < 256 → b < 256 → c < 256 → d < 256 → littleEndian a b c d ≤ highestNumber
 number-high a b c d ha hb hc hd = omega arith
 
 -- zeros
@@ -198,9 +189,9 @@ module _ (cfg : Config) (high : cfg .e ≤ 64) (m : Message (List ℕ)) (h : ofC
   pub reads-back : messageOf cfg (recordOf cfg m) ≡ m
   unfolding messageOf
   reads-back =
-      let e : cond (presentAt (recordOf cfg m)) (some (elementAt cfg (recordOf cfg m))) none ≡ m .element =
+      let e : cond (presentAt (recordOf cfg m)) (some (elementIn cfg (recordOf cfg m))) none ≡ m .element =
       rw (present-back, body-back) (element-back cfg high (m .element) element-sized) in
-      let k : kindOf (kindAt (recordOf cfg m)) ≡ m .kind = rw kind-back (kind-of (m .kind)) in
+      let k : kindOf (kindAt (recordOf cfg m)) ≡ m .kind = rw kind-back (kind-is (m .kind) .0) in
       λ i.
       record {
         kind = k i;
@@ -217,7 +208,7 @@ module _ (cfg : Config) (high : cfg .e ≤ 64) (m : Message (List ℕ)) (h : ofC
       rw (
         eq-eqb (length (recordOf cfg m)) 80 record-long,
         kind-back,
-        kind-within (m .kind),
+        kind-is (m .kind) .1,
         present-back,
         three-back,
         flag-low (isPresent (m .element)),
@@ -250,10 +241,6 @@ from-split (suc n) j bs h =
     drop-cons bs j 0 (omega arith)
     ∙ ap {B = List ℕ} (λ l. getD bs j 0 ∷ l) (from-split n (suc j) bs (omega arith) ∙ ap (λ (i : ℕ). from n (suc j) bs ++ drop i bs) e)
 
--- every one is a byte
-abbrev pub Bytes : List ℕ → Type 0
-Bytes bs = (i : ℕ) → getD bs i 0 < 256
-
 -- a well-formed record is what its message writes, and its message is one of the configuration
 module _ (cfg : Config) (high : cfg .e ≤ 64) (bs : List ℕ) (bytes : Bytes bs) (w : wellFormed cfg bs ≡ true) where
   long : length bs ≡ 80
@@ -284,7 +271,7 @@ module _ (cfg : Config) (high : cfg .e ≤ 64) (bs : List ℕ) (bytes : Bytes bs
   body-long : length (drop 16 bs) ≡ 64
   body-long = length-drop 16 bs ∙ omega (arith, long)
 
-  body-by : (b : Bool) → allZero (drop (elementEnd cfg b) bs) ≡ true → elementBytes cfg (cond b (some (elementAt cfg bs)) none) ≡ drop 16 bs
+  body-by : (b : Bool) → allZero (drop (elementEnd cfg b) bs) ≡ true → elementBytes cfg (cond b (some (elementIn cfg bs)) none) ≡ drop 16 bs
   unfolding elementBytes
   body-by true z =
       let l : length (drop (16 + cfg .e) bs) ≡ 64 - cfg .e = omega (arith, long, length-drop (16 + cfg .e) bs) in
@@ -293,36 +280,27 @@ module _ (cfg : Config) (high : cfg .e ≤ 64) (bs : List ℕ) (bytes : Bytes bs
       rw (← d) (take-append-drop (cfg .e) (drop 16 bs))
   body-by false z = sym (zero-list (drop 16 bs) z ∙ ap (λ (n : ℕ). replicate n 0) body-long)
 
-  body-again : elementBytes cfg (cond (presentAt bs) (some (elementAt cfg bs)) none) ≡ drop 16 bs
+  body-again : elementBytes cfg (cond (presentAt bs) (some (elementIn cfg bs)) none) ≡ drop 16 bs
   unfolding clauses
   body-again = body-by (presentAt bs) (clause cfg bs 5 w)
-
-  present-again : (b : Bool) → isPresent (cond b (some (elementAt cfg bs)) none) ≡ b
-  present-again true = refl
-  present-again false = refl
 
   pub writes-again : recordOf cfg (messageOf cfg bs) ≡ bs
   unfolding recordOf messageOf
   writes-again =
-      rw (present-again (presentAt bs), head-again, body-again) (sym (from-split 16 0 bs (omega (arith, long))))
+      rw (present-is (presentAt bs) (elementIn cfg bs), head-again, body-again) (sym (from-split 16 0 bs (omega (arith, long))))
 
-  element-sized-again : (b : Bool) → sized cfg (cond b (some (elementAt cfg bs)) none) ≡ true
-  element-sized-again true =
-      eq-eqb (length (elementAt cfg bs)) (cfg .e) (length-take (cfg .e) (drop 16 bs) ∙ omega (arith, body-long))
-  element-sized-again false = refl
-
-  number-low : (i : ℕ) → numberAt i bs ≤ highestNumber
-  number-low i = number-high (getD bs i 0) (getD bs (i + 1) 0) (getD bs (i + 2) 0) (getD bs (i + 3) 0) (bytes i) (bytes (i + 1)) (bytes (i + 2)) (bytes (i + 3))
+  number-fits : (i : ℕ) → numberAt i bs ≤ highestNumber
+  number-fits i = number-high (getD bs i 0) (getD bs (i + 1) 0) (getD bs (i + 2) 0) (getD bs (i + 3) 0) (bytes i) (bytes (i + 1)) (bytes (i + 2)) (bytes (i + 3))
 
   pub message-of-config : ofConfig cfg (messageOf cfg bs) ≡ true
   unfolding ofConfig messageClauses messageOf clauses all
   message-of-config =
       rw (
         clause cfg bs 3 w,
-        le-leb (operationAt bs) highestNumber (number-low 4),
-        le-leb (numberAt 8 bs) highestNumber (number-low 8),
-        element-sized-again (presentAt bs),
-        present-again (presentAt bs),
+        le-leb (operationAt bs) highestNumber (number-fits 4),
+        le-leb (numberAt 8 bs) highestNumber (number-fits 8),
+        sized-is cfg (presentAt bs) bs long high,
+        present-is (presentAt bs) (elementIn cfg bs),
         kind-again,
         clause cfg bs 6 w,
         clause cfg bs 7 w,

@@ -1,5 +1,5 @@
 pub mod Answers
-pub mod Bytes
+mod Bytes
 pub mod Callers
 pub mod Clauses
 pub mod Laws

@@ -13,34 +13,17 @@ use Rattle.config.specs.declared.Server.{Server}
 use Rattle.config.specs.declared.NewClient.{NewClient}
 use Rattle.config.specs.declared.NewServer.{NewServer}
 use Rattle.config.specs.declared.Refusal.{Refusal}
-use Rattle.config.specs.declared.Refusal.the-variants.{Servers, Threshold, Depth, Width, Clients, Shape, Event, Missing, Down, Busy, Exhausted, IllFormed, Full, NotAwaited, Cleared, Misdirected, NotRising, TooFew}
 use Rattle.config.specs.Config.{Valid, questions}
 use Rattle.config.specs.Number.{NewClientPost, NewServerPost, clientMade, clientNumber, clientQuestions, newClientNumber, newServerNumber, serverMade, serverNumber, serverQuestions}
 use Rattle.config.specs.Questions.{Question, ask, firstNo, numbered, within}
-use Rattle.config.specs.Refusal.{numberOf}
+use Rattle.config.specs.Refusal.{refusalNumber}
 use Rattle.config.proofs.Questions.{last-all, last-yes, questions-numbered}
+use Rattle.config.proofs.Refusals.{refusal-low}
 use Rattle.config.proofs.Valid.{valid-asked}
 
--- a refusal has a number of document 01's
-pub number-low : (why : Refusal) → 1 ≤ numberOf why
-number-low Servers = omega arith
-number-low Threshold = omega arith
-number-low Depth = omega arith
-number-low Width = omega arith
-number-low Clients = omega arith
-number-low Shape = omega arith
-number-low Event = omega arith
-number-low Missing = omega arith
-number-low Down = omega arith
-number-low Busy = omega arith
-number-low Exhausted = omega arith
-number-low IllFormed = omega arith
-number-low Full = omega arith
-number-low NotAwaited = omega arith
-number-low Cleared = omega arith
-number-low Misdirected = omega arith
-number-low NotRising = omega arith
-number-low TooFew = omega arith
+-- a refusal has a question's number
+pub number-low : (why : Refusal) → 1 ≤ refusalNumber why
+number-low = refusal-low
 
 -- questions that are all answered yes but for the last
 module _ (first : List Question) (known : numbered first ≡ true) (none : firstNo first ≡ 0) (holds : Bool) where
@@ -61,13 +44,13 @@ module _ (cfg : Config) (x : ℕ) where
   pub no-client : Valid cfg → (r : NewClient) (why : Refusal) → NewClientPost cfg x r → r ≡ NewClient.No why → within 1 (cfg .c) x ≡ false
   unfolding clientQuestions
   no-client v r why p e =
-      last-false (questions cfg) (questions-numbered cfg) (valid-asked cfg v) (within 1 (cfg .c) x) (numberOf why) (number-low why)
+      last-false (questions cfg) (questions-numbered cfg) (valid-asked cfg v) (within 1 (cfg .c) x) (refusalNumber why) (number-low why)
       (ap newClientNumber (sym e) ∙ p .number)
 
   pub no-server : Valid cfg → (r : NewServer) (why : Refusal) → NewServerPost cfg x r → r ≡ NewServer.No why → within 1 (cfg .n) x ≡ false
   unfolding serverQuestions
   no-server v r why p e =
-      last-false (questions cfg) (questions-numbered cfg) (valid-asked cfg v) (within 1 (cfg .n) x) (numberOf why) (number-low why)
+      last-false (questions cfg) (questions-numbered cfg) (valid-asked cfg v) (within 1 (cfg .n) x) (refusalNumber why) (number-low why)
       (ap newServerNumber (sym e) ∙ p .number)
 
   pub some-client : (r : NewClient) (c : Client) → NewClientPost cfg x r → r ≡ NewClient.Made c

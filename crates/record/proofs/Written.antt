@@ -1,25 +1,23 @@
 -- What writing leaves: the header, the element as it stood, zeros. Assumes nothing.
 use mathlib.Core.Path.{_≡_, refl, sym, _∙_, ap}
-use mathlib.Core.Bool.{Bool, true, false, cond, _&&_}
+use mathlib.Core.Bool.{Bool, true, false, cond, _&&_, and-true}
 use mathlib.Core.List.{List, [], _∷_, _++_, append-assoc, append-nil}
-use mathlib.Core.Option.{Option, none, some}
-use Prim.Native.Nat.{ℕ, zero, suc, _+_, _-_, _≤_}
+use mathlib.Core.Option.{none, some}
+use Prim.Native.Nat.{ℕ, _+_, _-_, _≤_}
 use native.Mathlib.Omega.{arith}
-use native.Mathlib.Nat.{add-zero}
 use borrow.Author.Tests.{eq-eqb, le-leb}
 use lib.Dec.{leb}
 use lib.ListN.{length, getD, take, drop, replicate, length-append, length-drop, length-take, drop-of-length-le}
-use lib.Seq.{take-all, take-append-add}
+use lib.Seq.{take-append-add}
 use Rattle.config.specs.declared.Config.{Config}
 use Rattle.config.specs.Questions.{within}
 use Rattle.tag.specs.Tag.{allowed}
 use Rattle.laws.proofs.Bools.{and-left, and-right}
 use Rattle.config.specs.Number.{clientNumber, serverNumber}
 use Rattle.record.specs.declared.Header.{Header}
-use Rattle.record.specs.Calls.{limits, withElement}
-use Rattle.record.specs.Inner.{isSound}
-use Rattle.record.specs.Record.{all, elementAt, elementBytes, elementEnd, fourBytes, headerBytes, highestNumber, isPresent, kindNumber, messageClauses, ofConfig, recordOf, sized}
-use Rattle.record.proofs.Clauses.{and-true}
+use Rattle.record.specs.Calls.{isSound, limits, withElement}
+use Rattle.record.specs.Record.{all, elementIn, elementBytes, elementEnd, fourBytes, headerBytes, highestNumber, isPresent, kindNumber, messageClauses, ofConfig, recordOf, sized}
+use Rattle.record.proofs.Clauses.{all-at}
 
 module _ (cfg : Config) (bs head : List ℕ) (sixteen : length head ≡ 16) (eighty : length bs ≡ 80) where
   -- the header over the first 16 bytes
@@ -43,27 +41,34 @@ module _ (cfg : Config) (bs head : List ℕ) (sixteen : length head ≡ 16) (eig
 
   pub record-bytes : (p : Bool) → cfg .e ≤ 64 → (end : ℕ) → end ≡ elementEnd cfg p
       → take end headed ++ (replicate (length (take (length headed - end) (drop end headed))) 0 ++ drop (length headed - end) (drop end headed))
-      ≡ head ++ elementBytes cfg (cond p (some (elementAt cfg bs)) none)
+      ≡ head ++ elementBytes cfg (cond p (some (elementIn cfg bs)) none)
   unfolding elementBytes
   record-bytes true high end e =
       let n : 80 - (16 + cfg .e) ≡ 64 - cfg .e = omega arith in
-      rw (zeros-from end (omega arith), e, taken (cfg .e), n) (append-assoc head (elementAt cfg bs) (replicate (64 - cfg .e) 0))
+      rw (zeros-from end (omega arith), e, taken (cfg .e), n) (append-assoc head (elementIn cfg bs) (replicate (64 - cfg .e) 0))
   record-bytes false high end e =
       rw (zeros-from end (omega arith), e, taken 0) (append-assoc head [] (replicate 64 0))
 
   pub put-bytes : (p : Bool) → cfg .e ≤ 64 → (l z : List ℕ) (end : ℕ) → l ≡ headed → z ≡ replicate (length (take (length l - end) (drop end l))) 0
-      → end ≡ elementEnd cfg p → take end l ++ (z ++ drop (length l - end) (drop end l)) ≡ head ++ elementBytes cfg (cond p (some (elementAt cfg bs)) none)
+      → end ≡ elementEnd cfg p → take end l ++ (z ++ drop (length l - end) (drop end l)) ≡ head ++ elementBytes cfg (cond p (some (elementIn cfg bs)) none)
   put-bytes p high l z end el ez ee = rw (ez, el) (record-bytes p high end ee)
 
--- what is asked of a header whose numbers are within their limits is what is asked of its message
-present-is : (b : Bool) (e : List ℕ) → isPresent (cond b (some e) none) ≡ b
+-- of a message made of a header: whether an element is present, and its length
+pub present-is : (b : Bool) (e : List ℕ) → isPresent (cond b (some e) none) ≡ b
 present-is true e = refl
 present-is false e = refl
 
-sized-is : (cfg : Config) (b : Bool) (bs : List ℕ) → length bs ≡ 80 → cfg .e ≤ 64 → sized cfg (cond b (some (elementAt cfg bs)) none) ≡ true
+pub sized-is : (cfg : Config) (b : Bool) (bs : List ℕ) → length bs ≡ 80 → cfg .e ≤ 64 → sized cfg (cond b (some (elementIn cfg bs)) none) ≡ true
 sized-is cfg true bs e high =
-    eq-eqb (length (elementAt cfg bs)) (cfg .e) (length-take (cfg .e) (drop 16 bs) ∙ omega (arith, length-drop 16 bs))
+    eq-eqb (length (elementIn cfg bs)) (cfg .e) (length-take (cfg .e) (drop 16 bs) ∙ omega (arith, length-drop 16 bs))
 sized-is cfg false bs e high = refl
+
+-- the numbers of a message that breaks no rule are within their limits; where a header's are, the other rules decide
+pub message-limits : (cfg : Config) (h : Header) (bs : List ℕ) → ofConfig cfg (withElement cfg h bs) ≡ true → limits cfg h ≡ true
+unfolding ofConfig messageClauses withElement
+message-limits cfg h bs m =
+    let cs = messageClauses cfg (withElement cfg h bs) in
+    rw (all-at cs m 6, all-at cs m 7, all-at cs m 8)
 
 pub header-message : (cfg : Config) (h : Header) (bs : List ℕ) → length bs ≡ 80 → cfg .e ≤ 64 → limits cfg h ≡ true → h .operation ≤ highestNumber
     → h .tag .number ≤ highestNumber → ofConfig cfg (withElement cfg h bs) ≡ isSound h
@@ -77,7 +82,7 @@ header-message cfg h bs e high l o n =
       and-true (leb 1 (h .operation)),
       le-leb (h .tag .number) highestNumber n,
       sized-is cfg (h .present) bs e high,
-      present-is (h .present) (elementAt cfg bs),
+      present-is (h .present) (elementIn cfg bs),
       and-left client server parties,
       and-right client server parties,
       and-right (client && server) (allowed (cfg .c) (h .tag)) l,
@@ -124,5 +129,5 @@ module _ (cfg : Config) (h : Header) (bs : List ℕ) (k c s p : ℕ) (o t : List
   unfolding recordOf withElement
   put-record q eighty high l z end el ez ee =
       put-bytes cfg bs (headOf k c s p o t (h .tag .client)) refl eighty (h .present) high l z end el ez ee
-      ∙ ap (λ (head : List ℕ). head ++ elementBytes cfg (cond (h .present) (some (elementAt cfg bs)) none)) (head-is q)
-      ∙ rw (present-is (h .present) (elementAt cfg bs))
+      ∙ ap (λ (head : List ℕ). head ++ elementBytes cfg (cond (h .present) (some (elementIn cfg bs)) none)) (head-is q)
+      ∙ rw (present-is (h .present) (elementIn cfg bs))

@@ -6,6 +6,7 @@ use mathlib.Core.List.{List, [], _∷_, _++_}
 use lib.Dec.{eqb, leb}
 use lib.ListN.{length, getD, take, drop, replicate}
 use Rattle.config.specs.declared.Config.{Config}
+use Rattle.config.specs.Config.{mostWidth, recordLength}
 use Rattle.config.specs.Questions.{within}
 use Rattle.tag.specs.declared.Tag.{Tag}
 use Rattle.tag.specs.Tag.{allowed, same, start}
@@ -24,11 +25,11 @@ allZero [] = true
 allZero (b ∷ bs) = eqb b 0 && allZero bs
 
 -- a number of four bytes, "records are little-endian"
-abbrev pub numberOf : ℕ → ℕ → ℕ → ℕ → ℕ
-numberOf a b c d = a + 256 * b + 65536 * c + 16777216 * d
+abbrev pub littleEndian : ℕ → ℕ → ℕ → ℕ → ℕ
+littleEndian a b c d = a + 256 * b + 65536 * c + 16777216 * d
 
 abbrev pub numberAt : ℕ → List ℕ → ℕ
-numberAt i bs = numberOf (getD bs i 0) (getD bs (i + 1) 0) (getD bs (i + 2) 0) (getD bs (i + 3) 0)
+numberAt i bs = littleEndian (getD bs i 0) (getD bs (i + 1) 0) (getD bs (i + 2) 0) (getD bs (i + 3) 0)
 
 unfoldable pub fourBytes : ℕ → List ℕ
 fourBytes n = n % 256 ∷ n / 256 % 256 ∷ n / 65536 % 256 ∷ n / 16777216 % 256 ∷ []
@@ -81,8 +82,8 @@ abbrev pub tagAt : List ℕ → Tag
 tagAt bs = record { number = numberAt 8 bs; client = getD bs 12 0 }
 
 -- the E bytes from 16
-abbrev pub elementAt : Config → List ℕ → List ℕ
-elementAt cfg bs = take (cfg .e) (drop 16 bs)
+abbrev pub elementIn : Config → List ℕ → List ℕ
+elementIn cfg bs = take (cfg .e) (drop 16 bs)
 
 -- where the element ends, if one is present, and the zeros begin
 abbrev pub elementEnd : Config → Bool → ℕ
@@ -103,7 +104,7 @@ presence kind present = cond (eqb kind 3) present (cond (eqb kind 8) true (not p
 -- The section, clause by clause.
 unfoldable pub clauses : Config → List ℕ → List Bool
 clauses cfg bs =
-    eqb (length bs) 80
+    eqb (length bs) recordLength
     ∷ within 1 8 (kindAt bs)
     ∷ leb (getD bs 3 0) 1
     ∷ leb 1 (operationAt bs)
@@ -131,7 +132,7 @@ messageOf cfg bs =
       server = serverAt bs;
       operation = operationAt bs;
       tag = tagAt bs;
-      element = cond (presentAt bs) (some (elementAt cfg bs)) none;
+      element = cond (presentAt bs) (some (elementIn cfg bs)) none;
     }
 
 module _ {Element : Type 0} where
@@ -147,8 +148,8 @@ sized cfg (some e) = eqb (length e) (cfg .e)
 
 -- the 64 bytes from 16: "zero past E and zero when absent"
 unfoldable pub elementBytes : Config → Option (List ℕ) → List ℕ
-elementBytes cfg none = replicate 64 0
-elementBytes cfg (some e) = e ++ replicate (64 - cfg .e) 0
+elementBytes cfg none = replicate mostWidth 0
+elementBytes cfg (some e) = e ++ replicate (mostWidth - cfg .e) 0
 
 -- the first 16 bytes
 unfoldable pub headerBytes : Kind → ℕ → ℕ → Bool → ℕ → Tag → List ℕ

@@ -3,14 +3,14 @@ use config::Config;
 ghost use mathlib.Core.Path.{_≡_};
 ghost use Prim.Native.Nat.{_+_, _≤_};
 ghost use lib.ListN.{length, replicate};
-ghost use Rattle.record.specs.Inner.{Eighty, laidOut};
-ghost use Rattle.record.specs.Record.{allZero, elementEnd, fourBytes, numberAt, numberOf};
+ghost use Rattle.record.specs.inner.Parse.{RecordPre, laidOut};
+ghost use Rattle.record.specs.Record.{allZero, elementEnd, fourBytes, numberAt, littleEndian};
 ghost use mathlib.Core.Bool.{cond};
 ghost use Rattle.config.specs.Config.{Valid};
 
 // A number of four bytes, the lowest first.
 fn number(a: u8, b: u8, c: u8, d: u8) -> u32
-    ensures { λ r. ⌜ r ≡ numberOf a b c d ⌝ }
+    ensures { λ r. ⌜ r ≡ littleEndian a b c d ⌝ }
 {
     a as u32 + b as u32 * 256 + c as u32 * 65536 + d as u32 * 16777216
 }
@@ -81,8 +81,8 @@ pub(crate) fn clear(part: &mut [u8])
 }
 
 // Whether offsets 0 and 3 hold numbers that they may hold, and zeros stand where they are due.
-pub(crate) fn kept(cfg: Config, buf: &[u8]) -> bool
-    requires { ⌜ Eighty cfg (now buf) ⌝ }
+pub(crate) fn laid_out(cfg: Config, buf: &[u8]) -> bool
+    requires { ⌜ RecordPre cfg (now buf) ⌝ }
     ensures { λ r. ⌜ r ≡ laidOut cfg (now (buf .entry)) ⌝ }
 {
     if buf[0] == 0 {
@@ -98,7 +98,7 @@ pub(crate) fn kept(cfg: Config, buf: &[u8]) -> bool
         return false;
     }
     if buf[3] == 0 {
-        return zero(&buf[16..80]);
+        return zero(&buf[16..config::RECORD]);
     }
     let end = element_end(cfg, buf[3] == 1);
     zero(&buf[end..])

@@ -14,7 +14,8 @@ use config::Verdict;
 use tag::Tag;
 ghost use mathlib.Core.Path.{_≡_};
 ghost use Rattle.record.specs.Calls.{ReadPost, WritePost, withElement};
-ghost use Rattle.record.specs.Inner.{Eighty, ParsePost};
+ghost use Rattle.record.specs.Kinds.{isForServer};
+ghost use Rattle.record.specs.inner.Parse.{ParsePost, RecordPre};
 ghost use Rattle.record.specs.Record.{kindNumber, kindOf, recordOf};
 
 // The eight kinds of message, in document 01's order: their numbers are 1 to 8.
@@ -61,8 +62,24 @@ impl Kind {
         }
     }
 
+    // Whether a server receives it; a client receives the other kinds.
+    pub fn is_for_server(self) -> bool
+        ensures { λ r. ⌜ r ≡ isForServer self ⌝ }
+    {
+        match self {
+            Kind::Query => true,
+            Kind::QueryAnswer => false,
+            Kind::PreWrite => true,
+            Kind::PreWriteAnswer => false,
+            Kind::WriteFinalise => true,
+            Kind::WriteFinaliseAnswer => false,
+            Kind::ReadFinalise => true,
+            Kind::ReadFinaliseAnswer => false,
+        }
+    }
+
     // The kind of a number; one that is no kind's is taken for 8.
-    pub(crate) fn of(number: u8) -> Kind
+    pub fn of(number: u8) -> Kind
         ensures { λ r. ⌜ r ≡ kindOf number ⌝ }
     {
         match number {
@@ -86,7 +103,7 @@ pub fn read(cfg: Config, buf: &[u8]) -> Reading
     if no != 0 {
         return Reading::No(Refusal::of(no));
     }
-    if buf.len() != 80 {
+    if buf.len() != config::RECORD {
         return Reading::No(Refusal::Shape);
     }
     parse(cfg, buf)
@@ -94,10 +111,10 @@ pub fn read(cfg: Config, buf: &[u8]) -> Reading
 
 // The header of a record of 80 bytes, or 12.
 fn parse(cfg: Config, buf: &[u8]) -> Reading
-    requires { ⌜ Eighty cfg (now buf) ⌝ }
+    requires { ⌜ RecordPre cfg (now buf) ⌝ }
     ensures { λ r. ⌜ ParsePost cfg (now (buf .entry)) r ⌝ }
 {
-    if !layout::kept(cfg, buf) {
+    if !layout::laid_out(cfg, buf) {
         return Reading::No(Refusal::IllFormed);
     }
     let NewClient::Made(client) = Client::new(cfg, buf[1]) else {
@@ -131,8 +148,8 @@ fn parse(cfg: Config, buf: &[u8]) -> Reading
     Reading::Message(h)
 }
 
-// The record of a message: questions 1 to 5, 6 and 12. Where an element is present, the E bytes at 16 are it and stay; all past it
-// is made zero. On a refusal the record holds what it held.
+// The record of a message: questions 1 to 5; 6, the buffer's length; 12, a header that breaks a rule of the record. Where an
+// element is present, the E bytes at 16 are it and stay; all past it is made zero. On a refusal the record holds what it held.
 pub fn write(cfg: Config, h: Header, buf: &mut [u8]) -> Verdict
     ensures { λ r. ⌜ WritePost cfg h (now (buf .entry)) (now (buf .exit)) r ⌝ }
 {
@@ -140,11 +157,11 @@ pub fn write(cfg: Config, h: Header, buf: &mut [u8]) -> Verdict
     if no != 0 {
         return Verdict::of(no);
     }
-    if buf.len() != 80 {
+    if buf.len() != config::RECORD {
         return Verdict::No(Refusal::Shape);
     }
     if !rules::limits(cfg, h) {
-        return Verdict::No(Refusal::Shape);
+        return Verdict::No(Refusal::IllFormed);
     }
     if !rules::sound(h) {
         return Verdict::No(Refusal::IllFormed);
@@ -155,7 +172,7 @@ pub fn write(cfg: Config, h: Header, buf: &mut [u8]) -> Verdict
 
 // Writes the first 16 bytes, and zeros past the element.
 fn put(cfg: Config, h: Header, buf: &mut [u8])
-    requires { ⌜ Eighty cfg (now buf) ⌝ }
+    requires { ⌜ RecordPre cfg (now buf) ⌝ }
     ensures { λ _. ⌜ now (buf .exit) ≡ recordOf cfg (withElement cfg h (now (buf .entry))) ⌝ }
 {
     let kind = h.kind;

@@ -3,8 +3,7 @@ use crate::Header;
 use config::Config;
 use tag::Tag;
 ghost use mathlib.Core.Path.{_≡_};
-ghost use Rattle.record.specs.Calls.{limits as inLimits};
-ghost use Rattle.record.specs.Inner.{isSound};
+ghost use Rattle.record.specs.Calls.{isSound, limits as inLimits};
 ghost use Rattle.record.specs.Record.{ownTag, presence as presentIn, queryTag};
 
 // "Kind 1 has tag (0, 0)."
@@ -71,19 +70,13 @@ pub(crate) fn limits(cfg: Config, h: Header) -> bool
     ensures { λ r. ⌜ r ≡ inLimits cfg h ⌝ }
 {
     let client = h.client;
-    let c = client.number();
-    if c == 0 {
-        return false;
-    }
-    if cfg.c < c as usize {
+    let c = client.number() as usize;
+    if !cfg.client_exists(c) {
         return false;
     }
     let server = h.server;
-    let s = server.number();
-    if s == 0 {
-        return false;
-    }
-    if cfg.n < s as usize {
+    let s = server.number() as usize;
+    if !cfg.server_exists(s) {
         return false;
     }
     let tag = h.tag;

@@ -1,30 +1,86 @@
--- A fresh rig passes every question about a state and its buffers, and every event keeps that: along a list of events question 6 is
--- never refused but for the board handed in and the buffer lent for a read.
+-- A fresh rig passes every question about a state and its buffers, and every event keeps that: along a list of events 1 to 5 are never
+-- refused, and 6 only for the length of the board handed in or of the buffer lent for a read. Assumes nothing.
 use Prim.Native.Nat.{ℕ}
-use mathlib.Core.Path.{_≡_, sym, ap, subst, _∙_}
-use mathlib.Core.Bool.{true}
-use mathlib.Core.List.{List}
+use mathlib.Core.Path.{_≡_, refl, sym, ap, _∙_}
+use mathlib.Core.Bool.{Bool, true, false, cond, _&&_}
+use mathlib.Core.Option.{Option, none, some}
+use mathlib.Core.List.{List, [], append-nil}
+use native.Mathlib.Omega.{arith}
 use native.Mathlib.Decide.{ℕ-discrete}
+use borrow.Author.Tests.{eq-eqb}
+use lib.Dec.{eqb}
+use lib.ListN.{length}
 use Rattle.config.specs.declared.Config.{Config}
-use Rattle.protocol.specs.Board.{Event}
+use Rattle.config.specs.Config.{boardLength, rigQuestions}
+use Rattle.config.specs.Questions.{firstNo}
+use Rattle.protocol.specs.Boards.{Board, BoardCall, BoardEvent, BoardRig, questions}
+use Rattle.protocol.specs.Client.{beginQuestions}
+use Rattle.protocol.specs.Parties.{questionsToBegin, questionsToCrashClient, questionsToCrashServer}
+use Rattle.protocol.specs.Rig as protocol
+use Rattle.protocol.specs.Rig.{Code, beginWrite, beginRead, handOver, lose, double, crashServer, crashClient, codeOf, positionQuestions, questionsTo11}
 use Rattle.rig.specs.declared.Rig.{Rig}
-use Rattle.rig.specs.View.{Lent}
-use Rattle.rig.specs.Questions.{rigKept, sized}
+use Rattle.rig.specs.View.{Lent, flight, view}
+use Rattle.rig.specs.Questions.{formedFor, laterQuestions, rigWithin, sized}
 use Rattle.rig.specs.Calls.{eventNo}
 use Rattle.rig.specs.Runs.{Runs, made, event}
-use Rattle.rig.proofs.Asked.{make-sized}
+use Rattle.rig.proofs.Asked.{asked-six, lacks, make-five, make-sized, skip}
 
-module _ (cfg : Config) (m : ℕ) (start : List ℕ) where
+module _ (cfg : Config) (m : ℕ) (start : Board) where
+  pub always-five : {r : Rig} {l : Lent} {events : List BoardEvent} → Runs cfg m start r l events → firstNo (rigQuestions cfg m) ≡ 0
+  always-five (made {l = l} b p e) = make-five cfg m start l (sym (p .number) ∙ e)
+  always-five (event runs a b read read′ p) = always-five runs
+
   -- the buffers keep their lengths
-  pub always-sized : {r : Rig} {l : Lent} {events : List (Event (List ℕ))} → Runs cfg m start r l events → sized cfg m l ≡ true
+  pub always-sized : {r : Rig} {l : Lent} {events : List BoardEvent} → Runs cfg m start r l events → sized cfg m l ≡ true
   always-sized (made {l = l} b p e) = p .lengths ∙ make-sized cfg m start l (sym (p .number) ∙ e)
   always-sized (event runs a b read read′ p) = p .lengths ∙ always-sized runs
 
   -- the rig is within its limits
-  pub always-kept : {r : Rig} {l : Lent} {events : List (Event (List ℕ))} → Runs cfg m start r l events → rigKept cfg m r ≡ true
-  always-kept (made b p e) = p .kept (sym (p .number) ∙ e)
-  always-kept (event {r = r} {l = l} {t = t} runs a b read read′ p) =
-      elim (ℕ-discrete (eventNo cfg m start r a read l) 0) as (λ _. rigKept cfg m (t .rig) ≡ true) [
-        | yes z ↦ p .kept z
-        | no n ↦ ap (rigKept cfg m) (p .held n .0) ∙ always-kept runs
+  pub always-within : {r : Rig} {l : Lent} {events : List BoardEvent} → Runs cfg m start r l events → rigWithin cfg m r ≡ true
+  always-within (made b p e) = p .within (sym (p .number) ∙ e)
+  always-within (event {r = r} {l = l} {t = t} runs a b read read′ p) =
+      elim (ℕ-discrete (eventNo cfg m r a read l) 0) as (λ _. rigWithin cfg m (t .rig) ≡ true) [
+        | yes z ↦ p .within z
+        | no n ↦ ap (rigWithin cfg m) (p .held n .0) ∙ always-within runs
       ]
+
+  module _ {r : Rig} {l : Lent} {events : List BoardEvent} (runs : Runs cfg m start r l events) (a : BoardCall) (read : List ℕ) where
+    -- the board handed in and the buffer lent for a read have V bytes
+    abbrev lengths : Bool
+    lengths = eqb (length (a .board)) (boardLength cfg) && eqb (length read) (boardLength cfg)
+
+    -- an event is refused with 6 where one of the two has not, and else by 7 to 13
+    pub always-asks : eventNo cfg m r a read l ≡ cond lengths (firstNo (laterQuestions cfg m r a l)) 6
+    always-asks =
+        asked-six cfg m r a read l (always-five runs)
+        ∙ rw (always-sized runs, always-within runs) (by lengths)
+      where
+        by : (b : Bool) → cond (b && true && true) (firstNo (laterQuestions cfg m r a l)) 6 ≡ cond b (firstNo (laterQuestions cfg m r a l)) 6
+        by true = refl
+        by false = refl
+
+  -- none of 7 to 13 is 6
+  later-others : (v : BoardRig) (a : BoardCall) (formed : Bool) (w : Option Code) → lacks 6 (questions cfg m v a formed w) ≡ true
+  unfolding lacks protocol.questions questionsTo11 questionsToBegin questionsToCrashClient questionsToCrashServer beginQuestions positionQuestions
+  later-others v a formed none = refl
+  later-others v a formed (some beginWrite) = refl
+  later-others v a formed (some beginRead) = refl
+  later-others v a formed (some handOver) = refl
+  later-others v a formed (some lose) = refl
+  later-others v a formed (some double) = refl
+  later-others v a formed (some crashServer) = refl
+  later-others v a formed (some crashClient) = refl
+
+  -- "6. Has each buffer its length (V for boards, ..": along a list of events no other length, and nothing in the state, is a ground for 6
+  pub six-only : {r : Rig} {l : Lent} {events : List BoardEvent} → Runs cfg m start r l events → (a : BoardCall) (read : List ℕ)
+      → length (a .board) ≡ boardLength cfg → length read ≡ boardLength cfg → eventNo cfg m r a read l ≡ 6 → ⊥
+  unfolding firstNo
+  six-only {r = r} {l = l} runs a read board long e =
+      let number : eventNo cfg m r a read l ≡ firstNo (laterQuestions cfg m r a l) =
+      always-asks runs a read ∙ rw (eq-eqb (length (a .board)) (boardLength cfg) board, eq-eqb (length read) (boardLength cfg) long) in
+      omega (
+        arith,
+        skip 6 (laterQuestions cfg m r a l) []
+            (later-others (view cfg r l) a (formedFor cfg (flight r l) (a .position) (codeOf (a .code))) (codeOf (a .code)))
+            (ap firstNo (append-nil (laterQuestions cfg m r a l)) ∙ sym number ∙ e),
+      )

@@ -1,81 +1,80 @@
--- What it shows that no question of an event or a making is answered no.
-use Prim.Native.Nat.{ℕ, _≤_}
-use mathlib.Core.Path.{_≡_, refl, sym, ap, _∙_}
-use mathlib.Core.Bool.{Bool, true, false, cond, _&&_}
-use mathlib.Core.Option.{some}
+-- What it shows that no question of an event or a making is answered no. Assumes nothing.
+use Prim.Native.Nat.{ℕ}
+use mathlib.Core.Path.{_≡_, refl, sym}
+use mathlib.Core.Bool.{Bool, true, false, cond, not, _&&_}
+use mathlib.Core.Option.{none, some}
 use mathlib.Core.List.{List, [], _∷_, _++_}
 use native.Mathlib.Omega.{arith}
-use native.Mathlib.Decide.{ℕ-discrete}
-use borrow.Author.Tests.{eqb-true}
+use borrow.Author.Tests.{eqb-false, eqb-true, not-true}
 use lib.Dec.{eqb}
 use lib.ListN.{length}
 use Rattle.laws.proofs.Bools.{and-left, and-right}
 use Rattle.config.specs.declared.Config.{Config}
-use Rattle.config.specs.Config.{Valid, boardLength, questions, rigQuestions}
+use Rattle.config.specs.Config.{Valid, boardLength, rigQuestions}
 use Rattle.config.specs.Questions.{Question, ask, firstNo}
-use Rattle.config.proofs.Questions.{firstNo-pass, firstNo-stop, rigQuestions-numbered}
-use Rattle.config.proofs.Valid.{rig-stop, valid}
-use Rattle.protocol.specs.Board.{Call}
-use Rattle.protocol.specs.Client as protocol
-use Rattle.protocol.specs.Rig as protocolRig
-use Rattle.protocol.specs.Rig.{Code, codeOf, partyQuestions}
+use Rattle.config.proofs.Questions.{firstNo-no, firstNo-pass, firstNo-yes, none-first, none-rest, rig-later, rigQuestions-numbered, yes-next}
+use Rattle.config.proofs.Valid.{rig-valid}
+use Rattle.protocol.specs.Boards.{Board, BoardCall, BoardRig, questions}
+use Rattle.protocol.specs.Rig as protocol
+use Rattle.protocol.specs.Rig.{Code, questionsTo11}
 use Rattle.rig.specs.declared.Rig.{Rig}
-use Rattle.rig.specs.View.{Lent, flight, view}
-use Rattle.rig.specs.Questions.{asked, codeQuestions, eventQuestions, makeQuestions, rigKept, sized}
+use Rattle.rig.specs.View.{Lent}
+use Rattle.rig.specs.Questions.{eventQuestions, laterQuestions, makeQuestions, rigWithin, sized}
 
-pub none-first : (first rest : List Question) → firstNo (first ++ rest) ≡ 0 → firstNo first ≡ 0
-none-first first rest h = elim (ℕ-discrete (firstNo first) 0) as (λ _. firstNo first ≡ 0) [
-  | yes e ↦ e
-  | no n ↦ absurd (n (sym (firstNo-stop first rest n) ∙ h))
-]
+-- questions 1 to 5 were asked and none is answered no: the refusal is 6, or none
+module _ (cfg : Config) (m : ℕ) {asked : ℕ} (e : asked ≡ firstNo (rigQuestions cfg m)) (none-yet : asked ≡ 0) (holds : Bool) where
+  pub six-no : holds ≡ false → 6 ≡ firstNo (rigQuestions cfg m ++ ask 6 holds ∷ [])
+  six-no h = rig-later cfg m e none-yet (ask 6 holds ∷ []) (sym (firstNo-no 6 holds [] h))
 
--- a question with a number is answered yes, and those behind it show no refusal
-pub yes-next : (number : ℕ) (holds : Bool) (rest : List Question) → 1 ≤ number → firstNo (ask number holds ∷ rest) ≡ 0 → (holds ≡ true) × (firstNo rest ≡ 0)
-unfolding firstNo
-yes-next number true rest l h = (refl, h)
-yes-next number false rest l h = absurd (omega (arith, l, h))
+  pub six-yes : holds ≡ true → 0 ≡ firstNo (rigQuestions cfg m ++ ask 6 holds ∷ [])
+  unfolding firstNo
+  six-yes h = rig-later cfg m e none-yet (ask 6 holds ∷ []) (sym (firstNo-yes 6 holds [] h))
 
-pub asked-first : (qs : List (ℕ × Bool)) → firstNo (asked qs) ≡ protocol.firstNo qs
-unfolding firstNo protocol.firstNo
-asked-first [] = refl
-asked-first (q ∷ qs) = ap (λ z. cond (q .1) z (q .0)) (asked-first qs)
+-- where a number is no question's, it is not the refusal's
+unfoldable pub lacks : ℕ → List Question → Bool
+lacks n [] = true
+lacks n (ask k holds ∷ qs) = not (eqb k n) && lacks n qs
 
--- 1 to 5, and 6 with what is behind it
+pub skip : (n : ℕ) (first rest : List Question) → lacks n first ≡ true → firstNo (first ++ rest) ≡ n → firstNo rest ≡ n
+unfolding lacks firstNo
+skip n [] rest h e = e
+skip n (ask k true ∷ first) rest h e = skip n first rest (and-right (not (eqb k n)) (lacks n first) h) e
+skip n (ask k false ∷ first) rest h e =
+    absurd (eqb-false k n (not-true (eqb k n) (and-left (not (eqb k n)) (lacks n first) h)) e)
+
+-- 1 to 5, and 6 with what is behind it, are all answered yes
 module _ (cfg : Config) (m : ℕ) (holds : Bool) (rest : List Question) (h : firstNo (rigQuestions cfg m ++ ask 6 holds ∷ rest) ≡ 0) where
-  five : firstNo (rigQuestions cfg m) ≡ 0
-  five = none-first (rigQuestions cfg m) (ask 6 holds ∷ rest) h
+  is-valid : Valid cfg
+  is-valid = rig-valid cfg m refl (none-first (rigQuestions cfg m) (ask 6 holds ∷ rest) h)
 
-  pub six : (holds ≡ true) × (firstNo rest ≡ 0)
-  six =
-      yes-next 6 holds rest (omega arith)
-      (sym (firstNo-pass (rigQuestions cfg m) (ask 6 holds ∷ rest) (rigQuestions-numbered cfg m) five) ∙ h)
-
-  pub is-valid : Valid cfg
-  is-valid = valid cfg (elim (ℕ-discrete (firstNo (questions cfg)) 0) as (λ _. firstNo (questions cfg) ≡ 0) [
-    | yes e ↦ e
-    | no n ↦ absurd (n (sym (rig-stop cfg m n) ∙ five))
-  ])
+  six : (holds ≡ true) × (firstNo rest ≡ 0)
+  six = yes-next 6 holds rest (omega arith) (none-rest (rigQuestions cfg m) (ask 6 holds ∷ rest) (rigQuestions-numbered cfg m) h)
 
 -- a making that got no number
-module _ (cfg : Config) (m : ℕ) (start : List ℕ) (l : Lent) (h : firstNo (makeQuestions cfg m start l) ≡ 0) where
-  abbrev board : Bool
-  board = eqb (length start) (boardLength cfg)
+module _ (cfg : Config) (m : ℕ) (start : Board) (l : Lent) (h : firstNo (makeQuestions cfg m start l) ≡ 0) where
+  abbrev startIs : Bool
+  startIs = eqb (length start) (boardLength cfg)
+
+  pub make-five : firstNo (rigQuestions cfg m) ≡ 0
+  unfolding makeQuestions
+  make-five = none-first (rigQuestions cfg m) _ h
 
   pub make-valid : Valid cfg
   unfolding makeQuestions
-  make-valid = is-valid cfg m (board && sized cfg m l) [] h
+  make-valid = is-valid cfg m (startIs && sized cfg m l) [] h
+
+  made-shaped : (startIs && sized cfg m l) ≡ true
+  unfolding makeQuestions
+  made-shaped = six cfg m (startIs && sized cfg m l) [] h .0
 
   pub make-board : length start ≡ boardLength cfg
-  unfolding makeQuestions
-  make-board =
-      eqb-true (length start) (boardLength cfg) (and-left board (sized cfg m l) (six cfg m (board && sized cfg m l) [] h .0))
+  make-board = eqb-true (length start) (boardLength cfg) (and-left startIs (sized cfg m l) made-shaped)
 
   pub make-sized : sized cfg m l ≡ true
-  unfolding makeQuestions
-  make-sized = and-right board (sized cfg m l) (six cfg m (board && sized cfg m l) [] h .0)
+  make-sized = and-right startIs (sized cfg m l) made-shaped
 
--- an event that was not refused
-module _ (cfg : Config) (m : ℕ) (start : List ℕ) (r : Rig) (a : Call (List ℕ)) (read : List ℕ) (l : Lent) (h : firstNo (eventQuestions cfg m start r a read l) ≡ 0) where
+-- an event
+module _ (cfg : Config) (m : ℕ) (r : Rig) (a : BoardCall) (read : List ℕ) (l : Lent) where
   abbrev boardIs : Bool
   boardIs = eqb (length (a .board)) (boardLength cfg)
 
@@ -83,43 +82,51 @@ module _ (cfg : Config) (m : ℕ) (start : List ℕ) (r : Rig) (a : Call (List �
   readIs = eqb (length read) (boardLength cfg)
 
   abbrev shape : Bool
-  shape = boardIs && readIs && sized cfg m l && rigKept cfg m r
+  shape = boardIs && readIs && sized cfg m l && rigWithin cfg m r
 
-  abbrev later : List Question
-  later = codeQuestions cfg m (view cfg start r l) (flight r l) a (codeOf (a .code))
+  -- where 1 to 5 are answered yes, the refusal is 6, or that of 7 to 13
+  pub asked-six : firstNo (rigQuestions cfg m) ≡ 0 → firstNo (eventQuestions cfg m r a read l) ≡ cond shape (firstNo (laterQuestions cfg m r a l)) 6
+  unfolding eventQuestions firstNo
+  asked-six five = firstNo-pass (rigQuestions cfg m) _ (rigQuestions-numbered cfg m) five
 
-  pub event-valid : Valid cfg
-  unfolding eventQuestions
-  event-valid = is-valid cfg m shape later h
+  -- where it was not refused
+  module _ (h : firstNo (eventQuestions cfg m r a read l) ≡ 0) where
+    pub event-valid : Valid cfg
+    unfolding eventQuestions
+    event-valid = is-valid cfg m shape (laterQuestions cfg m r a l) h
 
-  shaped : shape ≡ true
-  unfolding eventQuestions
-  shaped = six cfg m shape later h .0
+    shaped : shape ≡ true
+    unfolding eventQuestions
+    shaped = six cfg m shape (laterQuestions cfg m r a l) h .0
 
-  pub event-later : firstNo later ≡ 0
-  unfolding eventQuestions
-  event-later = six cfg m shape later h .1
+    pub event-later : firstNo (laterQuestions cfg m r a l) ≡ 0
+    unfolding eventQuestions
+    event-later = six cfg m shape (laterQuestions cfg m r a l) h .1
 
-  front : (boardIs && readIs && sized cfg m l) ≡ true
-  front = and-left (boardIs && readIs && sized cfg m l) (rigKept cfg m r) shaped
+    lengths : (boardIs && readIs && sized cfg m l) ≡ true
+    lengths = and-left (boardIs && readIs && sized cfg m l) (rigWithin cfg m r) shaped
 
-  lent : (boardIs && readIs) ≡ true
-  lent = and-left (boardIs && readIs) (sized cfg m l) front
+    handed : (boardIs && readIs) ≡ true
+    handed = and-left (boardIs && readIs) (sized cfg m l) lengths
 
-  pub event-board : length (a .board) ≡ boardLength cfg
-  event-board = eqb-true (length (a .board)) (boardLength cfg) (and-left boardIs readIs lent)
+    pub event-board : length (a .board) ≡ boardLength cfg
+    event-board = eqb-true (length (a .board)) (boardLength cfg) (and-left boardIs readIs handed)
 
-  pub event-read : length read ≡ boardLength cfg
-  event-read = eqb-true (length read) (boardLength cfg) (and-right boardIs readIs lent)
+    pub event-read : length read ≡ boardLength cfg
+    event-read = eqb-true (length read) (boardLength cfg) (and-right boardIs readIs handed)
 
-  pub event-sized : sized cfg m l ≡ true
-  event-sized = and-right (boardIs && readIs) (sized cfg m l) front
+    pub event-sized : sized cfg m l ≡ true
+    event-sized = and-right (boardIs && readIs) (sized cfg m l) lengths
 
-  pub event-kept : rigKept cfg m r ≡ true
-  event-kept = and-right (boardIs && readIs && sized cfg m l) (rigKept cfg m r) shaped
+    pub event-within : rigWithin cfg m r ≡ true
+    event-within = and-right (boardIs && readIs && sized cfg m l) (rigWithin cfg m r) shaped
 
--- 8 to 11 are answered yes
-pub party-asked : (cfg : Config) (m : ℕ) (v : protocolRig.Rig (List ℕ) (List ℕ)) (rs : List (List ℕ)) (a : Call (List ℕ)) (w : Code)
-    → firstNo (codeQuestions cfg m v rs a (some w)) ≡ 0 → protocol.firstNo (partyQuestions cfg v a w) ≡ 0
-unfolding codeQuestions firstNo
-party-asked cfg m v rs a w h = sym (asked-first (partyQuestions cfg v a w)) ∙ none-first (asked (partyQuestions cfg v a w)) _ h
+-- of an event that was not refused there is a code, and 8 to 11 are answered yes
+module _ (cfg : Config) (m : ℕ) (v : BoardRig) (a : BoardCall) (formed : Bool) where
+  pub no-code : firstNo (questions cfg m v a formed none) ≡ 0 → ⊥
+  unfolding protocol.questions firstNo
+  no-code h = omega (arith, h)
+
+  pub to-11 : (w : Code) → firstNo (questions cfg m v a formed (some w)) ≡ 0 → firstNo (questionsTo11 cfg v a w) ≡ 0
+  unfolding protocol.questions firstNo
+  to-11 w h = none-first (questionsTo11 cfg v a w) _ h

@@ -1,34 +1,18 @@
-pub mod Accepted
 pub mod Always
-pub mod Answered
-pub mod Asked
+mod Asked
 pub mod Atomic
-pub mod Beginnings
-pub mod Begun
-pub mod Crashed
-pub mod Downed
-pub mod Flown
-pub mod Formed
-pub mod Handed
-pub mod Hearing
-pub mod Heeded
-pub mod Making
-pub mod Moved
-pub mod Named
+mod Below
+mod Clients
+mod Entry
+mod Making
+pub mod Model
 pub mod Never
-pub mod Numbered
-pub mod Opened
-pub mod Owned
-pub mod Parted
-pub mod Parties
-pub mod Places
-pub mod Quiet
-pub mod Records
-pub mod Scanned
-pub mod Served
-pub mod Shaped
+mod Numbers
+mod Owned
+mod Pairs
+mod Places
+mod Ready
+mod RigWithin
+mod Sends
+mod Six
 pub mod Sizes
-pub mod Standing
-pub mod Starts
-pub mod Taken
-pub mod Turned

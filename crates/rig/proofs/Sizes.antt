@@ -1,109 +1,84 @@
--- The lengths of the buffers lent to a rig.
-use Prim.Native.Nat.{ℕ, _+_, _-_, _*_, _≤_, _<_}
-use mathlib.Core.Path.{_≡_, refl, sym, ap, _∙_}
+-- The lengths of the buffers lent to a rig: how great they are, and what question 6 shows of each. Assumes nothing.
+use Prim.Native.Nat.{ℕ, _*_, _≤_}
+use mathlib.Core.Path.{_≡_, refl, sym, _∙_}
 use mathlib.Core.Bool.{Bool, true, false, _&&_}
-use mathlib.Core.List.{List, [], _∷_, _++_}
-use native.Mathlib.Omega.{arith}
-use native.Mathlib.Nat.{mul-le-mul, mul-le-mul-right}
-use borrow.Author.Tests.{eq-eqb, ne-eqb, eqb-true, leb-true}
+use native.Mathlib.Nat.{mul-le-mul}
+use borrow.Author.Tests.{eq-eqb, eqb-true, ne-eqb}
 use lib.Dec.{eqb, leb}
-use lib.ListN.{length, take, drop, replicate, length-drop, length-replicate}
-use lib.Seq.{length-take-le}
 use Rattle.laws.proofs.Bools.{and-left, and-right}
 use Rattle.config.specs.declared.Config.{Config}
-use Rattle.config.specs.Config.{Valid, boardLength, rigQuestions}
-use Rattle.config.specs.Questions.{Question, ask, firstNo, within}
-use Rattle.server.specs.Calls.{storeLength}
+use Rattle.config.specs.Config.{Valid, boardLength}
+use Rattle.config.proofs.Sizes.{board-small, elements-small, store-small}
+use Rattle.config.specs.Config.{storeLength}
+use Rattle.rig.specs.declared.questions.Sizes.{Sizes}
 use Rattle.rig.specs.Questions.{sizedBy}
+use Rattle.rig.specs.inner.Questions.{sizedToEvent, sizedToMake}
 
 module _ (cfg : Config) (v : Valid cfg) where
-  pub store-small : storeLength cfg ≤ 512
-  store-small =
-      let d : cfg .d + 1 ≤ 8 = omega (arith, v .d-high) in
-      mul-le-mul d (v .e-high)
-
   pub stores-small : cfg .n * storeLength cfg ≤ 8192
-  stores-small = mul-le-mul (v .n-high) store-small
-
-  pub board-small : boardLength cfg ≤ 1024
-  board-small =
-      let k : cfg .k ≤ 16 = omega (arith, v .k-high, v .n-high) in
-      mul-le-mul k (v .e-high)
+  stores-small = mul-le-mul (v .n-high) (store-small cfg v)
 
   pub boards-small : cfg .c * boardLength cfg ≤ 16384
-  boards-small = mul-le-mul (v .c-high) board-small
+  boards-small = mul-le-mul (v .c-high) (board-small cfg v)
 
-  pub received-small : cfg .n * cfg .e ≤ 1024
-  received-small = mul-le-mul (v .n-high) (v .e-high)
+  pub all-elements-small : cfg .c * (cfg .n * cfg .e) ≤ 16384
+  all-elements-small = mul-le-mul (v .c-high) (elements-small cfg v)
 
-  pub elements-small : cfg .c * (cfg .n * cfg .e) ≤ 16384
-  elements-small = mul-le-mul (v .c-high) received-small
+module _ (cfg : Config) (m messages stores boards elements : ℕ) (h : sizedBy cfg m messages stores boards elements ≡ true) where
+  abbrev A : Bool
+  A = eqb messages (80 * m)
 
--- part i of n parts ends within them
-pub part-fits : (i n w : ℕ) → i < n → i * w + w ≤ n * w
-part-fits i n w h = omega (arith, mul-le-mul-right w h)
+  abbrev B : Bool
+  B = eqb stores (cfg .n * storeLength cfg)
 
-pub part-length : (l : List ℕ) (at w : ℕ) → at + w ≤ length l → length (take (at + w - at) (drop at l)) ≡ w
-part-length l at w h =
-    let e : at + w - at ≡ w = omega arith in
-    ap (λ n. length (take n (drop at l))) e ∙ length-take-le w (drop at l) (omega (arith, h, length-drop at l))
+  abbrev C : Bool
+  C = eqb boards (cfg .c * boardLength cfg)
 
-module _ (cfg : Config) (m messages stores boards elements : ℕ) where
-  abbrev all : Bool
-  all = sizedBy cfg m messages stores boards elements
+  abbrev D : Bool
+  D = eqb elements (cfg .c * (cfg .n * cfg .e))
 
-  pub wrong-messages : (messages ≡ 80 * m → ⊥) → false ≡ all
+  first-two : (A && B) ≡ true
   unfolding sizedBy
-  wrong-messages n = rw (ne-eqb messages (80 * m) n)
+  first-two = and-left (A && B) C (and-left (A && B && C) D h)
 
-  module _ (a : messages ≡ 80 * m) where
-    pub wrong-stores : (stores ≡ cfg .n * storeLength cfg → ⊥) → false ≡ all
-    unfolding sizedBy
-    wrong-stores n = rw (eq-eqb messages (80 * m) a, ne-eqb stores (cfg .n * storeLength cfg) n)
+  pub messages-are : messages ≡ 80 * m
+  messages-are = eqb-true messages (80 * m) (and-left A B first-two)
 
-    module _ (b : stores ≡ cfg .n * storeLength cfg) where
-      pub wrong-boards : (boards ≡ cfg .c * boardLength cfg → ⊥) → false ≡ all
-      unfolding sizedBy
-      wrong-boards n =
-          rw (eq-eqb messages (80 * m) a, eq-eqb stores (cfg .n * storeLength cfg) b, ne-eqb boards (cfg .c * boardLength cfg) n)
+  pub stores-are : stores ≡ cfg .n * storeLength cfg
+  stores-are = eqb-true stores (cfg .n * storeLength cfg) (and-right A B first-two)
 
-      pub last-elements : boards ≡ cfg .c * boardLength cfg → eqb elements (cfg .c * (cfg .n * cfg .e)) ≡ all
-      unfolding sizedBy
-      last-elements c =
-          rw (eq-eqb messages (80 * m) a, eq-eqb stores (cfg .n * storeLength cfg) b, eq-eqb boards (cfg .c * boardLength cfg) c)
+  pub boards-are : boards ≡ cfg .c * boardLength cfg
+  unfolding sizedBy
+  boards-are = eqb-true boards (cfg .c * boardLength cfg) (and-right (A && B) C (and-left (A && B && C) D h))
 
-  module _ (h : all ≡ true) where
-    abbrev A : Bool
-    A = eqb messages (80 * m)
+  pub elements-are : elements ≡ cfg .c * (cfg .n * cfg .e)
+  unfolding sizedBy
+  elements-are = eqb-true elements (cfg .c * (cfg .n * cfg .e)) (and-right (A && B && C) D h)
 
-    abbrev B : Bool
-    B = eqb stores (cfg .n * storeLength cfg)
+-- an event's, from those of a making
+module _ (cfg : Config) (m count board read : ℕ) (x : Sizes) where
+  pub event-short : sizedToMake cfg m board x ≡ false → false ≡ sizedToEvent cfg m count board read x
+  event-short =
+      go (eqb board (boardLength cfg)) (sizedBy cfg m (x .messages) (x .stores) (x .boards) (x .elements)) (eqb read (boardLength cfg)) (leb count m)
+    where
+      go : (own lent room few : Bool) → (own && lent) ≡ false → false ≡ (own && room && lent && few)
+      go false lent room few h = refl
+      go true false false few h = refl
+      go true false true few h = refl
+      go true true room few h = cc
 
-    abbrev C : Bool
-    C = eqb boards (cfg .c * boardLength cfg)
+  module _ (h : sizedToMake cfg m board x ≡ true) where
+    abbrev lent : Bool
+    lent = sizedBy cfg m (x .messages) (x .stores) (x .boards) (x .elements)
 
-    abbrev D : Bool
-    D = eqb elements (cfg .c * (cfg .n * cfg .e))
+    own : eqb board (boardLength cfg) ≡ true
+    own = and-left (eqb board (boardLength cfg)) lent h
 
-    pub messages-are : messages ≡ 80 * m
-    unfolding sizedBy
-    messages-are = eqb-true messages (80 * m) (and-left A B (and-left (A && B) C (and-left (A && B && C) D h)))
+    long : board ≡ boardLength cfg
+    long = eqb-true board (boardLength cfg) own
 
-    pub stores-are : stores ≡ cfg .n * storeLength cfg
-    unfolding sizedBy
-    stores-are = eqb-true stores (cfg .n * storeLength cfg) (and-right A B (and-left (A && B) C (and-left (A && B && C) D h)))
+    pub event-read-short : (read ≡ board → ⊥) → false ≡ sizedToEvent cfg m count board read x
+    event-read-short n = rw (own, ne-eqb read (boardLength cfg) (λ e. n (e ∙ sym long)))
 
-    pub boards-are : boards ≡ cfg .c * boardLength cfg
-    unfolding sizedBy
-    boards-are = eqb-true boards (cfg .c * boardLength cfg) (and-right (A && B) C (and-left (A && B && C) D h))
-
-    pub elements-are : elements ≡ cfg .c * (cfg .n * cfg .e)
-    unfolding sizedBy
-    elements-are = eqb-true elements (cfg .c * (cfg .n * cfg .e)) (and-right (A && B && C) D h)
-
--- the front of the code's buffer for sends
-pub zeros-front : (n : ℕ) → n ≤ 16 → length (take (80 * n - 0) (drop 0 (replicate {A = ℕ} 1280 0))) ≡ 80 * n
-zeros-front n h =
-    let e : 80 * n - 0 ≡ 80 * n = omega arith in
-    ap (λ k. length (take k (replicate {A = ℕ} 1280 0))) e
-    ∙ length-take-le (80 * n) (replicate {A = ℕ} 1280 0) (omega (arith, h, length-replicate {A = ℕ} 1280 0))
+    pub event-last : read ≡ board → leb count m ≡ sizedToEvent cfg m count board read x
+    event-last e = rw (own, eq-eqb read (boardLength cfg) (e ∙ long), and-right (eqb board (boardLength cfg)) lent h)

@@ -1,53 +1,35 @@
-// A client begins to write or to read.
-use super::Answer;
-use super::Change;
-use super::Part;
-use client::Moved;
+// Events 1 and 2: a client begins. What it sends is written behind the messages in flight.
+use crate::Call;
+use crate::Change;
+use crate::Part;
+use crate::named;
+use crate::outcome;
 use config::Config;
+use config::RECORD;
 use config::Refusal;
-use config::Verdict;
 ghost use mathlib.Core.Path.{_≡_};
-ghost use Prim.Native.Nat.{_+_, _<_, _≤_};
-ghost use Rattle.config.specs.Config.{Valid};
-ghost use Rattle.client.specs.State.{stateWithin};
-ghost use mathlib.Core.Bool.{true};
-ghost use Rattle.rig.specs.Calls.{placeFor};
-ghost use Rattle.rig.specs.Inner.{BegunPost, Beginning, FullPost, OfRig, ReadPost, WritePost, Writing, OnRig};
+ghost use Prim.Native.Nat.{_*_, _≤_};
+ghost use lib.ListN.{length};
+ghost use Rattle.config.specs.Config.{Valid, boardLength};
+ghost use Rattle.rig.specs.inner.Begin.{BeginPre, ReadPost, WritePost, askedNo};
 
-// The client has moved, or was refused.
-fn begun(mut part: Part, moved: Moved) -> Change
-    requires { ⌜ part .count + moved .sent ≤ 4096 ⌝ }
-    ensures { λ x. ⌜ OnRig part x (λ r t. BegunPost r (part .client) moved t) ⌝ }
+// Question 8 and, where there is no room, 9 to 11 and 13: the number of the first that is answered no, or 0.
+fn asked(cfg: Config, m: usize, part: Part, party: u8) -> u8
+    requires { ⌜ (Valid cfg) × (part .count ≤ 512) ⌝ }
+    ensures { λ r. ⌜ r ≡ askedNo cfg m part party ⌝ }
 {
-    let verdict = moved.verdict;
-    let Verdict::No(why) = verdict else {
-        let state = moved.state;
-        part.state = state;
-        part.count = part.count + moved.sent;
-        return Change {
-            answer: Answer::Nothing,
-            part,
-        };
-    };
-    Change {
-        answer: Answer::No(why),
-        part,
+    if !named::exists(cfg.c, party) {
+        return 8;
     }
-}
-
-// A beginning for which there is no room: questions 9, 10 and 11 come before 13.
-fn full(cfg: Config, x: client::State) -> Refusal
-    requires { ⌜ (Valid cfg) × (stateWithin cfg x ≡ true) ⌝ }
-    ensures { λ r. ⌜ FullPost x r ⌝ }
-{
-    let mut sends = [0u8; 1280];
-    let end = 80 * cfg.n;
-    let moved = client::begin_read(cfg, x, &mut sends[0..end]);
-    let verdict = moved.verdict;
-    let Verdict::No(why) = verdict else {
-        return Refusal::Full;
-    };
-    why
+    if part.count + cfg.n <= m {
+        return 0;
+    }
+    let pair = part.pair;
+    let no = client::ask_begin(cfg, pair.client);
+    if no != 0 {
+        return no;
+    }
+    13
 }
 
 // Event 1: "begin write (client, V bytes)". Questions 8 to 11, and 13.
@@ -55,74 +37,48 @@ pub(crate) fn write(
     cfg: Config,
     m: usize,
     part: Part,
-    party: u8,
+    call: Call,
     board: &[u8],
     messages: &mut [u8],
     boards: &mut [u8],
 ) -> Change
-    requires { ⌜ OfRig part (λ r. Writing cfg m r (now board) (now messages) (now boards)) ⌝ }
-    requires { ⌜ part .client ≡ placeFor (cfg .c) party ⌝ }
-    ensures { λ x. ⌜ OnRig part x (λ r t. WritePost cfg m r party (now (board .entry)) (now (messages .entry)) (now (boards .entry)) t (now (messages .exit)) (now (boards .exit))) ⌝ }
+    requires { ⌜ (BeginPre cfg m part (now messages)) × (length (now boards) ≡ cfg .c * boardLength cfg) ⌝ }
+    ensures { λ x. ⌜ WritePost cfg m part call (now (board .entry)) (now (messages .entry)) (now (boards .entry)) x (now (messages .exit)) (now (boards .exit)) ⌝ }
 {
-    let c = party as usize;
-    if c < 1 {
-        return Change {
-            answer: Answer::No(Refusal::Missing),
-            part,
-        };
+    let no = asked(cfg, m, part, call.party);
+    if no != 0 {
+        return outcome::refused(part, Refusal::of(no));
     }
-    if cfg.c < c {
-        return Change {
-            answer: Answer::No(Refusal::Missing),
-            part,
-        };
-    }
-    let x = part.state;
     let count = part.count;
-    if m < count + cfg.n {
-        return Change {
-            answer: Answer::No(full(cfg, x)),
-            part,
-        };
-    }
-    let from = 80 * count;
-    let end = from + 80 * cfg.n;
+    let from = RECORD * count;
+    let end = from + RECORD * cfg.n;
     let long = cfg.k * cfg.e;
-    let at = (c - 1) * long;
+    let at = part.client * long;
     let to = at + long;
-    let moved = client::begin_write(cfg, x, board, &mut boards[at..to], &mut messages[from..end]);
-    begun(part, moved)
+    let pair = part.pair;
+    let acted = parties::begin::write(
+        cfg,
+        pair,
+        board,
+        &mut boards[at..to],
+        &mut messages[from..end],
+    );
+    outcome::acted(part, acted, count + acted.sent)
 }
 
 // Event 2: "begin read (client)". Questions 8 to 11, and 13.
-pub(crate) fn read(cfg: Config, m: usize, part: Part, party: u8, messages: &mut [u8]) -> Change
-    requires { ⌜ OfRig part (λ r. Beginning cfg m r (now messages)) ⌝ }
-    requires { ⌜ part .client ≡ placeFor (cfg .c) party ⌝ }
-    ensures { λ x. ⌜ OnRig part x (λ r t. ReadPost cfg m r party (now (messages .entry)) t (now (messages .exit))) ⌝ }
+pub(crate) fn read(cfg: Config, m: usize, part: Part, call: Call, messages: &mut [u8]) -> Change
+    requires { ⌜ BeginPre cfg m part (now messages) ⌝ }
+    ensures { λ x. ⌜ ReadPost cfg m part call (now (messages .entry)) x (now (messages .exit)) ⌝ }
 {
-    let c = party as usize;
-    if c < 1 {
-        return Change {
-            answer: Answer::No(Refusal::Missing),
-            part,
-        };
+    let no = asked(cfg, m, part, call.party);
+    if no != 0 {
+        return outcome::refused(part, Refusal::of(no));
     }
-    if cfg.c < c {
-        return Change {
-            answer: Answer::No(Refusal::Missing),
-            part,
-        };
-    }
-    let x = part.state;
     let count = part.count;
-    if m < count + cfg.n {
-        return Change {
-            answer: Answer::No(full(cfg, x)),
-            part,
-        };
-    }
-    let from = 80 * count;
-    let end = from + 80 * cfg.n;
-    let moved = client::begin_read(cfg, x, &mut messages[from..end]);
-    begun(part, moved)
+    let from = RECORD * count;
+    let end = from + RECORD * cfg.n;
+    let pair = part.pair;
+    let acted = parties::begin::read(cfg, pair, &mut messages[from..end]);
+    outcome::acted(part, acted, count + acted.sent)
 }

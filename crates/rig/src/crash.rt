@@ -1,103 +1,33 @@
-// Crashing a party.
-use super::Answer;
-use super::Change;
-use super::Part;
-use client::Phase;
+// Events 6 and 7: a party crashes.
+use crate::Call;
+use crate::Change;
+use crate::Part;
+use crate::named;
+use crate::outcome;
 use config::Config;
 use config::Refusal;
-ghost use mathlib.Core.Path.{_≡_};
-ghost use Rattle.client.specs.Questions.{isUp};
-ghost use Rattle.rig.specs.Calls.{placeFor};
-ghost use Rattle.rig.specs.Inner.{CrashClientPost, CrashServerPost, OnRig};
+ghost use Rattle.rig.specs.inner.Crash.{CrashPost};
 
 // Event 6: "crash a server". Questions 8 and 9.
-pub(crate) fn server(cfg: Config, mut part: Part, party: u8) -> Change
-    requires { ⌜ part .server ≡ placeFor (cfg .n) party ⌝ }
-    ensures { λ x. ⌜ OnRig part x (λ r t. CrashServerPost cfg r party t) ⌝ }
+pub(crate) fn server(cfg: Config, part: Part, call: Call) -> Change
+    ensures { λ x. ⌜ CrashPost 6 cfg part call x ⌝ }
 {
-    let s = party as usize;
-    if s < 1 {
-        return Change {
-            answer: Answer::No(Refusal::Missing),
-            part,
-        };
+    if !named::exists(cfg.n, call.party) {
+        return outcome::refused(part, Refusal::Missing);
     }
-    if cfg.n < s {
-        return Change {
-            answer: Answer::No(Refusal::Missing),
-            part,
-        };
-    }
-    if !part.up {
-        return Change {
-            answer: Answer::No(Refusal::Down),
-            part,
-        };
-    }
-    part.up = false;
-    Change {
-        answer: Answer::Nothing,
-        part,
-    }
+    let pair = part.pair;
+    let acted = parties::crash::server(pair);
+    outcome::acted(part, acted, part.count)
 }
 
 // Event 7: "crash a client". Questions 8 and 9.
-pub(crate) fn client(cfg: Config, mut part: Part, party: u8) -> Change
-    requires { ⌜ part .client ≡ placeFor (cfg .c) party ⌝ }
-    ensures { λ x. ⌜ OnRig part x (λ r t. CrashClientPost cfg r party t) ⌝ }
+pub(crate) fn client(cfg: Config, part: Part, call: Call) -> Change
+    ensures { λ x. ⌜ CrashPost 7 cfg part call x ⌝ }
 {
-    let c = party as usize;
-    if c < 1 {
-        return Change {
-            answer: Answer::No(Refusal::Missing),
-            part,
-        };
+    if !named::exists(cfg.c, call.party) {
+        return outcome::refused(part, Refusal::Missing);
     }
-    if cfg.c < c {
-        return Change {
-            answer: Answer::No(Refusal::Missing),
-            part,
-        };
-    }
-    let x = part.state;
-    let phase = x.phase;
-    if !is_up(phase) {
-        return Change {
-            answer: Answer::No(Refusal::Down),
-            part,
-        };
-    }
-    let me = x.me;
-    let down = client::State {
-        me,
-        operation: x.operation,
-        phase: Phase::Down,
-    };
-    part.state = down;
-    Change {
-        answer: Answer::Nothing,
-        part,
-    }
-}
-
-// Whether a client in that phase is up.
-fn is_up(phase: Phase) -> bool
-    ensures { λ r. ⌜ r ≡ isUp phase ⌝ }
-{
-    match phase {
-        Phase::Idle => true,
-        Phase::Asking {
-            writes: _,
-            best: _,
-            counted: _,
-        } => true,
-        Phase::PreWriting { tag: _, counted: _ } => true,
-        Phase::FinalisingWrite { tag: _, counted: _ } => true,
-        Phase::FinalisingRead {
-            tag: _,
-            counted: _,
-            sent: _,
-        } => true,
-        Phase::Down => false,
-    }
+    let pair = part.pair;
+    let acted = parties::crash::client(pair);
+    outcome::acted(part, acted, part.count)
 }

@@ -2,62 +2,46 @@
 // each call: the messages in flight (80 × M), the servers' stores, the boards that clients keep to write and the elements that
 // they have received, each the parties' parts joined in order of their numbers. Every function is proved, nothing is assumed,
 // and no public function has a `requires`.
-mod accept;
 mod begin;
 mod crash;
-mod flight;
+mod deliver;
+mod dispatch;
 mod fresh;
-mod hand;
-mod hear;
-mod kept;
+mod message;
+mod named;
+mod outcome;
 mod questions;
-mod serve;
-mod whom;
+mod within;
 
-use config::Client;
 use config::Config;
-use config::Refusal;
 use config::Verdict;
-use tag::Tag;
-ghost use Prim.Native.Nat.{ℕ};
-ghost use mathlib.Core.List.{List};
+use parties::Answer;
+use parties::Node;
+use parties::Pair;
 ghost use Rattle.rig.specs.Calls.{ChangePost, EventPost, MakePost, called};
 ghost use Rattle.rig.specs.View.{lent};
-
-// A server in its place: its state, and whether it is up. A crash keeps the state.
-pub struct Seat {
-    pub state: server::State,
-    pub up: bool,
-}
 
 // Server s and client c stand in the places s - 1 and c - 1; the places past N and C are not in use. A client that is down says so
 // itself. `count` records are in flight, the first of the messages.
 pub struct Rig {
-    pub servers: [Seat; 16],
+    pub servers: [Node; 16],
     pub clients: [client::State; 16],
     pub count: usize,
 }
 
-// An event's answer. The bytes of a board that is read stand in the lent buffer.
-pub enum Answer {
-    // No operation ended.
-    Nothing,
-    // The client whose operation ended, and the tag.
-    Written { client: Client, tag: Tag },
-    Spent { client: Client },
-    Read { client: Client, tag: Tag },
-    No(Refusal),
+// An event as it is called: its code, the party's number and a message's position, each of any value.
+pub struct Call {
+    pub code: u8,
+    pub party: u8,
+    pub position: usize,
 }
 
-// What an event can touch of a rig: one server (its state, and whether it is up) and one client, with their places, and how many
-// records are in flight.
+// What an event can touch of a rig: one server and one client, with their places, and how many records are in flight.
 pub struct Part {
     pub server: usize,
-    pub seat: server::State,
     pub client: usize,
+    pub pair: Pair,
     pub count: usize,
-    pub state: client::State,
-    pub up: bool,
 }
 
 // What an event changes: the part that it can touch, as it leaves it. All else of the rig stays.
@@ -91,15 +75,13 @@ pub fn make(
 ) -> Made
     ensures { λ r. ⌜ MakePost cfg m (now (start .entry)) (lent (now (messages .entry)) (now (stores .entry)) (now (boards .entry)) (now (elements .entry))) r (lent (now (messages .exit)) (now (stores .exit)) (now (boards .exit)) (now (elements .exit))) ⌝ }
 {
-    let no = questions::make(
-        cfg,
-        m,
-        start.len(),
-        messages.len(),
-        stores.len(),
-        boards.len(),
-        elements.len(),
-    );
+    let sizes = questions::Sizes {
+        messages: messages.len(),
+        stores: stores.len(),
+        boards: boards.len(),
+        elements: elements.len(),
+    };
+    let no = questions::make(cfg, m, start.len(), sizes);
     if no != 0 {
         return Made {
             verdict: Verdict::of(no),
@@ -118,9 +100,7 @@ pub fn event(
     cfg: Config,
     m: usize,
     mut rig: Rig,
-    code: u8,
-    party: u8,
-    position: usize,
+    call: Call,
     board: &[u8],
     read: &mut [u8],
     messages: &mut [u8],
@@ -128,15 +108,13 @@ pub fn event(
     boards: &mut [u8],
     elements: &mut [u8],
 ) -> Turn
-    ensures { λ r. ⌜ ((start : List ℕ) → EventPost cfg m start rig (called code party position (now (board .entry))) (now (read .entry)) (lent (now (messages .entry)) (now (stores .entry)) (now (boards .entry)) (now (elements .entry))) r (now (read .exit)) (lent (now (messages .exit)) (now (stores .exit)) (now (boards .exit)) (now (elements .exit)))) ⌝ }
+    ensures { λ r. ⌜ EventPost cfg m rig (called call (now (board .entry))) (now (read .entry)) (lent (now (messages .entry)) (now (stores .entry)) (now (boards .entry)) (now (elements .entry))) r (now (read .exit)) (lent (now (messages .exit)) (now (stores .exit)) (now (boards .exit)) (now (elements .exit))) ⌝ }
 {
     let change = changes(
         cfg,
         m,
         rig,
-        code,
-        party,
-        position,
+        call,
         board,
         read,
         messages,
@@ -148,13 +126,10 @@ pub fn event(
     let part = change.part;
     let s = part.server;
     let c = part.client;
-    let kept = part.seat;
-    let state = part.state;
-    let seat = Seat {
-        state: kept,
-        up: part.up,
-    };
-    rig.servers[s] = seat;
+    let pair = part.pair;
+    let node = pair.node;
+    let state = pair.client;
+    rig.servers[s] = node;
     rig.clients[c] = state;
     rig.count = part.count;
     Turn { answer, rig }
@@ -165,9 +140,7 @@ pub fn changes(
     cfg: Config,
     m: usize,
     rig: Rig,
-    code: u8,
-    party: u8,
-    position: usize,
+    call: Call,
     board: &[u8],
     read: &mut [u8],
     messages: &mut [u8],
@@ -175,29 +148,34 @@ pub fn changes(
     boards: &mut [u8],
     elements: &mut [u8],
 ) -> Change
-    ensures { λ r. ⌜ ((start : List ℕ) → ChangePost cfg m start rig (called code party position (now (board .entry))) (now (read .entry)) (lent (now (messages .entry)) (now (stores .entry)) (now (boards .entry)) (now (elements .entry))) r (now (read .exit)) (lent (now (messages .exit)) (now (stores .exit)) (now (boards .exit)) (now (elements .exit)))) ⌝ }
+    ensures { λ x. ⌜ ChangePost cfg m rig (called call (now (board .entry))) (now (read .entry)) (lent (now (messages .entry)) (now (stores .entry)) (now (boards .entry)) (now (elements .entry))) x (now (read .exit)) (lent (now (messages .exit)) (now (stores .exit)) (now (boards .exit)) (now (elements .exit))) ⌝ }
 {
-    let no = questions::event(
-        cfg,
-        m,
-        rig.count,
-        board.len(),
-        read.len(),
-        messages.len(),
-        stores.len(),
-        boards.len(),
-        elements.len(),
-    );
+    let sizes = questions::Sizes {
+        messages: messages.len(),
+        stores: stores.len(),
+        boards: boards.len(),
+        elements: elements.len(),
+    };
+    let no = questions::event(cfg, m, rig.count, board.len(), read.len(), sizes);
     if no != 0 {
-        return accept::refused(rig, no);
+        return outcome::first(rig.servers[0], rig.clients[0], rig.count, no);
     }
-    accept::asked(
+    let end = within::places(cfg);
+    let mut i = 0;
+    while i < end {
+        if !within::place(cfg, i, rig.servers[i], rig.clients[i]) {
+            return outcome::first(rig.servers[0], rig.clients[0], rig.count, 6);
+        }
+        i += 1;
+    }
+    let s = named::server(cfg, rig.count, call, messages);
+    let c = named::client(cfg, rig.count, call, messages);
+    let part = outcome::part(s, c, rig.servers[s], rig.clients[c], rig.count);
+    dispatch::event(
         cfg,
         m,
-        rig,
-        code,
-        party,
-        position,
+        part,
+        call,
         board,
         read,
         messages,

@@ -1,61 +1,67 @@
 // Questions 1 to 6 of the rig's calls: the number of the first that is answered no, or 0.
 use config::Config;
-ghost use mathlib.Core.Bool.{_&&_};
+use config::RECORD;
 ghost use mathlib.Core.List.{[], _∷_, _++_};
 ghost use mathlib.Core.Path.{_≡_};
 ghost use Prim.Native.Nat.{_≤_};
-ghost use lib.Dec.{eqb, leb};
-ghost use Rattle.config.specs.Config.{Valid, boardLength, rigQuestions};
+ghost use Rattle.config.specs.Config.{Valid, mostMessages, rigQuestions};
 ghost use Rattle.config.specs.Questions.{ask as question, firstNo};
-ghost use Rattle.rig.specs.Questions.{sizedBy};
+ghost use Rattle.rig.specs.inner.Questions.{sizedToEvent, sizedToMake};
 
-// Whether the buffers lent to a rig have their lengths.
-fn sized(
-    cfg: Config,
-    m: usize,
-    messages: usize,
-    stores: usize,
-    boards: usize,
-    elements: usize,
-) -> bool
-    requires { ⌜ (Valid cfg) × (m ≤ 512) ⌝ }
-    ensures { λ r. ⌜ r ≡ sizedBy cfg m messages stores boards elements ⌝ }
+// The lengths of the buffers lent to a rig.
+pub(crate) struct Sizes {
+    pub messages: usize,
+    pub stores: usize,
+    pub boards: usize,
+    pub elements: usize,
+}
+
+// Whether the starting board, or a board handed in, and the buffers lent to a rig have their lengths.
+fn sized(cfg: Config, m: usize, board: usize, sizes: Sizes) -> bool
+    requires { ⌜ (Valid cfg) × (m ≤ mostMessages) ⌝ }
+    ensures { λ r. ⌜ r ≡ sizedToMake cfg m board sizes ⌝ }
 {
-    if messages != 80 * m {
+    let v = cfg.k * cfg.e;
+    if board != v {
+        return false;
+    }
+    if sizes.messages != RECORD * m {
         return false;
     }
     let store = (cfg.d + 1) * cfg.e;
-    if stores != cfg.n * store {
+    if sizes.stores != cfg.n * store {
         return false;
     }
-    let board = cfg.k * cfg.e;
-    if boards != cfg.c * board {
+    if sizes.boards != cfg.c * v {
         return false;
     }
     let received = cfg.n * cfg.e;
-    elements == cfg.c * received
+    sizes.elements == cfg.c * received
+}
+
+// The same of an event, with the buffer lent for a read and the count of the records in flight.
+fn sized_event(cfg: Config, m: usize, count: usize, board: usize, read: usize, sizes: Sizes) -> bool
+    requires { ⌜ (Valid cfg) × (m ≤ mostMessages) ⌝ }
+    ensures { λ r. ⌜ r ≡ sizedToEvent cfg m count board read sizes ⌝ }
+{
+    if !sized(cfg, m, board, sizes) {
+        return false;
+    }
+    if read != board {
+        return false;
+    }
+    count <= m
 }
 
 // Of a making.
-pub(crate) fn make(
-    cfg: Config,
-    m: usize,
-    start: usize,
-    messages: usize,
-    stores: usize,
-    boards: usize,
-    elements: usize,
-) -> u8
-    ensures { λ r. ⌜ r ≡ firstNo (rigQuestions cfg m ++ question 6 (eqb start (boardLength cfg) && sizedBy cfg m messages stores boards elements) ∷ []) ⌝ }
+pub(crate) fn make(cfg: Config, m: usize, start: usize, sizes: Sizes) -> u8
+    ensures { λ r. ⌜ r ≡ firstNo (rigQuestions cfg m ++ question 6 (sizedToMake cfg m start sizes) ∷ []) ⌝ }
 {
     let no = cfg.ask_rig(m);
     if no != 0 {
         return no;
     }
-    if start != cfg.k * cfg.e {
-        return 6;
-    }
-    if !sized(cfg, m, messages, stores, boards, elements) {
+    if !sized(cfg, m, start, sizes) {
         return 6;
     }
     0
@@ -68,21 +74,15 @@ pub(crate) fn event(
     count: usize,
     board: usize,
     read: usize,
-    messages: usize,
-    stores: usize,
-    boards: usize,
-    elements: usize,
+    sizes: Sizes,
 ) -> u8
-    ensures { λ r. ⌜ r ≡ firstNo (rigQuestions cfg m ++ question 6 (eqb board (boardLength cfg) && eqb read (boardLength cfg) && sizedBy cfg m messages stores boards elements && leb count m) ∷ []) ⌝ }
+    ensures { λ r. ⌜ r ≡ firstNo (rigQuestions cfg m ++ question 6 (sizedToEvent cfg m count board read sizes) ∷ []) ⌝ }
 {
-    let no = make(cfg, m, board, messages, stores, boards, elements);
+    let no = cfg.ask_rig(m);
     if no != 0 {
         return no;
     }
-    if read != cfg.k * cfg.e {
-        return 6;
-    }
-    if m < count {
+    if !sized_event(cfg, m, count, board, read, sizes) {
         return 6;
     }
     0

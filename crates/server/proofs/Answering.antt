@@ -1,17 +1,16 @@
 -- A server's answers: they are messages of the configuration, and what a read finalise answers. Assumes nothing.
-use mathlib.Core.Path.{_≡_, refl, sym, _∙_, ap, ap₂}
-use mathlib.Core.Bool.{Bool, true, false, cond}
-use mathlib.Core.List.{List, [], _∷_, _++_, append-nil}
+use mathlib.Core.Path.{_≡_, refl, _∙_, ap}
+use mathlib.Core.Bool.{true, false}
+use mathlib.Core.List.{List, [], _++_, append-nil}
 use mathlib.Core.Option.{Option, none, some}
-use Prim.Native.Nat.{ℕ, _+_, _-_, _*_, _≤_, _<_}
+use Prim.Native.Nat.{ℕ, _+_, _-_, _≤_}
 use native.Mathlib.Omega.{arith}
-use borrow.Author.Tests.{eq-eqb}
-use lib.Dec.{eqb, leb}
+use lib.Dec.{leb}
 use lib.ListN.{length, take, drop, drop-of-length-le, length-append, length-drop, length-take}
 use lib.Seq.{drop-at, length-take-le, take-at, take-length}
 use Rattle.config.specs.declared.Config.{Config}
+use Rattle.config.specs.declared.Refusal.the-variants.{Cleared}
 use Rattle.config.specs.declared.Server.{Server as ServerNumber}
-use Rattle.config.specs.Config.{Valid}
 use Rattle.config.specs.Number.{clientNumber, serverNumber}
 use Rattle.config.specs.Questions.{within}
 use Rattle.config.specs.Refusal.{verdictNumber}
@@ -20,15 +19,14 @@ use Rattle.tag.specs.Tag.{allowed, key}
 use Rattle.record.specs.declared.Header.{Header}
 use Rattle.record.specs.declared.Kind.{Kind}
 use Rattle.record.specs.declared.Kind.the-variants.{ReadFinaliseAnswer}
-use Rattle.record.specs.Message.{Message}
-use Rattle.record.specs.Record.{all, elementAt as elementIn, highestNumber, isPresent, kindNumber, messageClauses, ofConfig, ownTag, presence, queryTag, recordOf, sized}
+use Rattle.record.specs.Record.{all, highestNumber, isPresent, kindNumber, messageClauses, ofConfig, ownTag, presence, queryTag, recordOf, sized}
 use Rattle.protocol.specs.Server.{answerTo, atOrBelowFloor, elementOf, readAnswer}
 use Rattle.server.specs.declared.State.{State}
 use Rattle.server.specs.declared.Stepped.{Stepped}
-use Rattle.server.specs.Calls.{answerBytes, answers, raised}
-use Rattle.server.specs.Inner.{Finalised, Finalising, Replied, readAnswered, reply}
+use Rattle.server.specs.Calls.{raised}
+use Rattle.server.specs.inner.Serve.{ReadFinalisePost, ReadFinalisePre, RespondPost, readAnswered, reply, unchanged}
 use Rattle.server.specs.View.{floorOf, view}
-use Rattle.server.proofs.Held.{state-me}
+use Rattle.server.proofs.Limits.{state-me}
 
 pub reply-of-config : (cfg : Config) (me : ServerNumber) (h : Header) (kind : Kind) (t : Tag) (o : Option (List ℕ))
     → within 1 highestNumber (h .operation) ≡ true → leb (t .number) highestNumber ≡ true → sized cfg o ≡ true
@@ -40,11 +38,11 @@ reply-of-config cfg me h kind t o operation number e q own p client server tag =
     rw (operation, number, e, q, own, p, client, server, tag)
 
 -- the answer to a read finalise
-pub read-reply : (cfg : Config) (s : State) (h : Header) (store answer : List ℕ) → Finalising cfg s h store answer → (me : ServerNumber) → me ≡ s .me
+pub read-reply : (cfg : Config) (s : State) (h : Header) (store answer : List ℕ) → ReadFinalisePre cfg s h store answer → (me : ServerNumber) → me ≡ s .me
     → (o : Option (List ℕ)) → sized cfg o ≡ true → ofConfig cfg (reply me h ReadFinaliseAnswer (h .tag) o) ≡ true
 read-reply cfg s h store answer f me is o e =
     reply-of-config cfg me h ReadFinaliseAnswer (h .tag) o (f .operation) (f .number) e refl refl refl (f .client)
-    (ap (λ (x : ServerNumber). within 1 (cfg .n) (serverNumber x)) is ∙ state-me cfg s (f .held .kept)) (f .allowed)
+    (ap (λ (x : ServerNumber). within 1 (cfg .n) (serverNumber x)) is ∙ state-me cfg s (f .held .within)) (f .allowed)
 
 -- an element copied into the answer's bytes
 module _ (e : ℕ) (high : e ≤ 64) (answer src part : List ℕ) (eighty : length answer ≡ 80) (sized-src : length src ≡ e)
@@ -88,7 +86,7 @@ module _ (cfg : Config) (s after : State) (h : Header) (store answer : List ℕ)
   me-is = ap (λ (x : State). x .me) is
 
   replied : (o : Option (List ℕ)) → readAnswered s h store cfg ≡ some (reply (s .me) h ReadFinaliseAnswer (h .tag) o) → (bs : List ℕ) (r : Stepped)
-      → Replied cfg after (reply (after .me) h ReadFinaliseAnswer (h .tag) o) bs r → Finalised cfg s h store answer bs r
+      → RespondPost cfg after (reply (after .me) h ReadFinaliseAnswer (h .tag) o) bs r → ReadFinalisePost cfg s h store answer bs r
   replied o e bs r p =
       record {
         number = p .number ∙ rw e;
@@ -97,13 +95,13 @@ module _ (cfg : Config) (s after : State) (h : Header) (store answer : List ℕ)
       }
 
   pub finalised-element : (element : List ℕ) → elementOf key (h .tag) (view cfg s store .stored) ≡ some element → (bs : List ℕ) (r : Stepped)
-      → Replied cfg after (reply (after .me) h ReadFinaliseAnswer (h .tag) (some element)) bs r → Finalised cfg s h store answer bs r
+      → RespondPost cfg after (reply (after .me) h ReadFinaliseAnswer (h .tag) (some element)) bs r → ReadFinalisePost cfg s h store answer bs r
   unfolding readAnswer answerTo reply
   finalised-element element e bs r p = replied (some element) (rw e) bs r p
 
   module _ (missing : elementOf key (h .tag) (view cfg s store .stored) ≡ none) where
     pub finalised-none : atOrBelowFloor key (h .tag) (floorOf (s .floor)) ≡ false → (bs : List ℕ) (r : Stepped)
-        → Replied cfg after (reply (after .me) h ReadFinaliseAnswer (h .tag) none) bs r → Finalised cfg s h store answer bs r
+        → RespondPost cfg after (reply (after .me) h ReadFinaliseAnswer (h .tag) none) bs r → ReadFinalisePost cfg s h store answer bs r
     unfolding readAnswer answerTo reply view
     finalised-none b bs r p = replied none (rw (missing, b)) bs r p
 
@@ -111,6 +109,10 @@ module _ (cfg : Config) (s after : State) (h : Header) (store answer : List ℕ)
     unfolding readAnswer reply view
     silent b = rw (missing, b)
 
-    pub finalised-silent : atOrBelowFloor key (h .tag) (floorOf (s .floor)) ≡ true → (r : Stepped) → verdictNumber (r .verdict) ≡ 15 → r .state ≡ after
-        → Finalised cfg s h store answer answer r
-    finalised-silent b r v e = record { number = v ∙ rw (silent b); state = e ∙ is; answer = rw (silent b) }
+    pub finalised-silent : atOrBelowFloor key (h .tag) (floorOf (s .floor)) ≡ true → (r : Stepped) → r ≡ unchanged after Cleared → ReadFinalisePost cfg s h store answer answer r
+    finalised-silent b r e =
+        record {
+          number = ap (λ (x : Stepped). verdictNumber (x .verdict)) e ∙ rw (silent b);
+          state = ap (λ (x : Stepped). x .state) e ∙ is;
+          answer = rw (silent b);
+        }

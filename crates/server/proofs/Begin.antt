@@ -1,40 +1,48 @@
 -- A fresh server: refused, or made. Assumes nothing.
-use mathlib.Core.Path.{_≡_, refl, sym, _∙_, ap}
+use mathlib.Core.Path.{_≡_, sym, _∙_, ap}
 use mathlib.Core.Bool.{Bool, true, false, cond, _&&_}
 use mathlib.Core.List.{List, [], _∷_, _++_}
 use Prim.Native.Nat.{ℕ}
+use native.Mathlib.Omega.{arith}
 use borrow.Author.Tests.{eq-eqb, ne-eqb}
 use lib.Dec.{eqb}
 use lib.ListN.{length, drop, take}
 use lib.Seq.{take-length}
 use Rattle.config.specs.declared.Config.{Config}
+use Rattle.config.specs.declared.Refusal.{Refusal}
 use Rattle.config.specs.declared.Server.{Server as ServerNumber}
-use Rattle.config.specs.declared.Verdict.{Verdict}
-use Rattle.config.specs.Config.{questions}
+use Rattle.config.specs.Config.{questions, storeLength}
 use Rattle.config.specs.Number.{serverNumber}
 use Rattle.config.specs.Questions.{ask, firstNo, within}
-use Rattle.config.specs.Refusal.{verdictNumber}
+use Rattle.config.specs.Refusal.{refusalNumber, verdictNumber}
+use Rattle.config.proofs.Refusals.{refusal-low}
 use Rattle.server.specs.declared.Stepped.{Stepped}
-use Rattle.server.specs.Calls.{FreshPost, freshQuestions, freshState, storeLength}
+use Rattle.server.specs.Calls.{FreshPost, freshQuestions, freshState}
+use Rattle.server.specs.inner.Serve.{unchanged}
 use Rattle.server.proofs.Asked.{six}
 
 module _ (cfg : Config) (me : ServerNumber) (element before : List ℕ) where
-  pub not-fresh : (n : ℕ) (r : Stepped) → firstNo (freshQuestions cfg me element before) ≡ n → (n ≡ 0 → ⊥) → verdictNumber (r .verdict) ≡ n
-      → r .state ≡ freshState me → FreshPost cfg me element before before r
-  not-fresh n r e refuses v s =
+  pub not-fresh : (r : Stepped) (why : Refusal) → r ≡ unchanged (freshState me) why → refusalNumber why ≡ firstNo (freshQuestions cfg me element before)
+      → FreshPost cfg me element before before r
+  not-fresh r why is v =
       record {
-        number = v ∙ sym e;
-        state = s;
-        store = rw (ne-eqb (firstNo (freshQuestions cfg me element before)) 0 (λ z. refuses (sym e ∙ z)));
+        number = ap (λ (x : Stepped). verdictNumber (x .verdict)) is ∙ v;
+        state = ap (λ (x : Stepped). x .state) is;
+        store = rw (ne-eqb (firstNo (freshQuestions cfg me element before)) 0 (λ z. omega (arith, refusal-low why)));
       }
 
-  abbrev holds : Bool
-  holds = eqb (length element) (cfg .e) && eqb (length before) (storeLength cfg) && within 1 (cfg .n) (serverNumber me)
+  -- both lengths are right
+  abbrev sizes : Bool
+  sizes = eqb (length element) (cfg .e) && eqb (length before) (storeLength cfg)
+
+  -- the number is a server's
+  abbrev exists : Bool
+  exists = within 1 (cfg .n) (serverNumber me)
 
   module _ (passed : firstNo (questions cfg) ≡ 0) where
-    by-six : firstNo (freshQuestions cfg me element before) ≡ cond holds 0 6
+    by-six : firstNo (freshQuestions cfg me element before) ≡ cond sizes (cond exists 0 8) 6
     unfolding freshQuestions firstNo
-    by-six = six cfg holds [] passed
+    by-six = six cfg sizes (ask 8 exists ∷ []) passed
 
     pub fresh-element : (length element ≡ cfg .e → ⊥) → firstNo (freshQuestions cfg me element before) ≡ 6
     fresh-element h = by-six ∙ rw (ne-eqb (length element) (cfg .e) h)
@@ -44,7 +52,7 @@ module _ (cfg : Config) (me : ServerNumber) (element before : List ℕ) where
       fresh-store h = by-six ∙ rw (eq-eqb (length element) (cfg .e) sized, ne-eqb (length before) (storeLength cfg) h)
 
       module _ (long : length before ≡ storeLength cfg) where
-        pub fresh-number : within 1 (cfg .n) (serverNumber me) ≡ false → firstNo (freshQuestions cfg me element before) ≡ 6
+        pub fresh-number : within 1 (cfg .n) (serverNumber me) ≡ false → firstNo (freshQuestions cfg me element before) ≡ 8
         fresh-number h = by-six ∙ rw (eq-eqb (length element) (cfg .e) sized, eq-eqb (length before) (storeLength cfg) long, h)
 
         pub made-fresh : within 1 (cfg .n) (serverNumber me) ≡ true → (after : List ℕ) (r : Stepped)

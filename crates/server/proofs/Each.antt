@@ -1,21 +1,19 @@
 -- What stands from one place to another: a step of a walk, its end, one more at the end, one changed. Assumes nothing.
 use mathlib.Core.Path.{_≡_, refl, sym, _∙_, ap, ap₂}
-use mathlib.Core.Bool.{Bool, true, false, cond, not, _&&_, _||_, true≢false}
+use mathlib.Core.Bool.{Bool, true, false, cond, _||_, true≢false}
 use mathlib.Core.List.{List, [], _∷_, _++_}
 use mathlib.Core.Logic.{_⊎_, inl, inr}
 use Prim.Native.Nat.{ℕ, zero, suc, _+_, _-_, _≤_, _<_}
 use native.Mathlib.Decide.{ℕ-discrete}
 use native.Mathlib.Numerals.{add-one}
 use native.Mathlib.Omega.{arith}
-use borrow.Author.Tests.{lt-ltb, le-ltb}
-use lib.Dec.{ltb}
 use lib.ListN.{length}
 use Rattle.laws.proofs.Bools.{and-left, and-right}
 use Rattle.tag.specs.declared.Tag.{Tag}
 use Rattle.tag.specs.Tag.{above, same}
 use Rattle.server.specs.declared.places.Least.{Least}
-use Rattle.server.specs.Inner.{leastFrom, placeIn}
-use Rattle.server.specs.Kept.{among, every, once}
+use Rattle.server.specs.inner.Places.{leastFrom, placeIn}
+use Rattle.server.specs.Within.{among, every, once}
 use Rattle.server.specs.View.{each}
 
 module _ {A : Type 0} where

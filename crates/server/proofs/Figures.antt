@@ -1,11 +1,10 @@
 -- Document 01's figures of a server, of its calls: "D 0, fresh: pre-write (1, 1) gives floor (0, 0); then (2, 1) gives floor (1, 1); then
 -- (1, 2) gives floor (1, 2), not stored, acknowledged; a read finalise of (1, 1) gets 15; one of (3, 1) is answered without an element."
 use Prim.Native.Nat.{ℕ}
-use mathlib.Core.Path.{_≡_, refl, sym, _∙_, ap, ap₂, subst}
-use mathlib.Core.Bool.{Bool, true, false, cond, _&&_}
+use mathlib.Core.Path.{_≡_, refl, _∙_, ap, ap₂, subst}
+use mathlib.Core.Bool.{true, cond}
 use mathlib.Core.List.{List, [], _∷_}
 use mathlib.Core.Option.{Option, none, some}
-use lib.Dec.{eqb}
 use lib.ListN.{length}
 use Rattle.config.specs.declared.Config.{Config}
 use Rattle.config.specs.declared.Server.{Server as ServerNumber}
@@ -17,14 +16,14 @@ use Rattle.record.specs.declared.Kind.{Kind}
 use Rattle.record.specs.declared.Kind.the-variants.{PreWrite, PreWriteAnswer, ReadFinalise, ReadFinaliseAnswer}
 use Rattle.record.specs.Message.{Message}
 use Rattle.record.specs.Record.{all, messageClauses, ofConfig, recordOf}
-use Rattle.protocol.specs.Server.{Served, Server, Stored, addLast, answerTo, atOrBelowFloor, dropSmallest, elementOf, finalised, freshServer, inPlaceOf, isStored, others, preWrite, readAnswer, readFinalise, serverStep, serverStepOf, smallest, store, storeElement}
-use Rattle.protocol.specs.Tags.{higher, lower, startingTag}
+use Rattle.protocol.specs.Server.{Served, Server, answerTo, atOrBelowFloor, dropSmallest, elementOf, finalised, freshServer, inPlaceOf, isStored, others, preWrite, readAnswer, readFinalise, serverStep, serverStepOf, smallest, store, storeElement}
+use Rattle.protocol.specs.Tags.{higher, lower}
 use Rattle.server.specs.declared.State.{State}
 use Rattle.server.specs.declared.Stepped.{Stepped}
-use Rattle.server.specs.Calls.{FreshPost, StepPost, answerBytes, answers, forServer, freshState, receives}
-use Rattle.server.specs.Inner.{Held}
+use Rattle.server.specs.Calls.{FreshPost, StepPost, answerBytes, answers, forServer, freshState}
+use Rattle.server.specs.Within.{ValidState}
 use Rattle.server.specs.View.{view}
-use Rattle.server.proofs.Laws.{OnMessage, fresh-held, fresh-view, on-message}
+use Rattle.server.proofs.Laws.{fresh-valid, fresh-view, on-message}
 
 -- two clients, and elements of one byte
 abbrev pub cfg : Config
@@ -43,9 +42,9 @@ holding h t e floor = record { highest = h; floor = some floor; stored = record 
 
 -- one step from a known view
 record Known (s : State) (store : List ℕ) (v : Server (List ℕ)) : Type 0 where
-  held : Held cfg s store
+  held : ValidState cfg s store
   me : serverNumber (s .me) ≡ 1
-  view : view cfg s store ≡ v
+  seen : view cfg s store ≡ v
 
 record After (v : Server (List ℕ)) (m : Message (List ℕ)) (before after storeAfter : List ℕ) (r : Stepped) : Type 0 where
   number : verdictNumber (r .verdict) ≡ cond (answers (serverStep key 0 1 v m .answer)) 0 15
@@ -58,7 +57,7 @@ step-known : (s : State) (store : List ℕ) (v : Server (List ℕ)) → Known s 
 step-known s store v k m ok mine answer storeAfter answerAfter r eighty post =
     let p = on-message cfg s m store answer storeAfter answerAfter r (k .held) ok (ap (λ (n : ℕ). forServer n m) (k .me) ∙ mine) eighty post in
     let o : serverStep key 0 (serverNumber (s .me)) (view cfg s store) m ≡ serverStep key 0 1 v m =
-    ap₂ {A = ℕ} (λ (n : ℕ) (w : Server (List ℕ)). serverStep key 0 n w m) (k .me) (k .view) in
+    ap₂ {A = ℕ} (λ (n : ℕ) (w : Server (List ℕ)). serverStep key 0 n w m) (k .me) (k .seen) in
     record {
       number = p .number ∙ ap (λ (x : Served (List ℕ)). cond (answers (x .answer)) 0 15) o;
       answer = p .answer ∙ ap (λ (x : Served (List ℕ)). answerBytes cfg (x .answer) answer) o;
@@ -66,7 +65,7 @@ step-known s store v k m ok mine answer storeAfter answerAfter r eighty post =
           record {
             held = p .held;
             me = ap serverNumber (p .me) ∙ k .me;
-            view = p .view ∙ ap (λ (x : Served (List ℕ)). x .server) o;
+            seen = p .seen ∙ ap (λ (x : Served (List ℕ)). x .server) o;
           };
     }
 
@@ -75,9 +74,9 @@ fresh-known : (me : ServerNumber) (element before after : List ℕ) (r : Stepped
 unfolding freshState
 fresh-known me element before after r is post accepted =
     record {
-      held = fresh-held cfg me element before after r post accepted;
+      held = fresh-valid cfg me element before after r post accepted;
       me = ap (λ (x : State). serverNumber (x .me)) (post .state) ∙ is;
-      view = fresh-view cfg me element before after r post accepted;
+      seen = fresh-view cfg me element before after r post accepted;
     }
 
 -- the messages are of the configuration
@@ -89,7 +88,7 @@ of-config = (refl, refl, refl, refl, refl)
 
 -- what the protocol makes of them
 one : serverStep key 0 1 (freshServer (7 ∷ [])) (message PreWrite 1 1 (some (8 ∷ []))) .server ≡ holding start (tag 1 1) 8 (tag 0 0)
-unfolding serverStep serverStepOf preWrite storeElement store isStored atOrBelowFloor dropSmallest others smallest inPlaceOf lower freshServer startingTag key
+unfolding serverStep serverStepOf preWrite storeElement store isStored atOrBelowFloor dropSmallest others smallest inPlaceOf lower freshServer key
 one = refl
 
 two : serverStep key 0 1 (holding start (tag 1 1) 8 (tag 0 0)) (message PreWrite 2 1 (some (9 ∷ []))) .server ≡ holding start (tag 2 1) 9 (tag 1 1)
@@ -140,9 +139,9 @@ table me is before store0 store1 store2 store3 store4 store5 answer answer1 answ
     let k4 = subst (Known (r4 .state) store4) (ap (λ (x : Served (List ℕ)). x .server) four) (a4 .known) in
     let a5 = step-known (r4 .state) store4 _ k4 (message ReadFinalise 3 1 none) (of-config .4) refl answer store5 answer5 r5 eighty p5 in
     record {
-      first = k1 .view;
-      second = k2 .view;
-      third = k3 .view;
+      first = k1 .seen;
+      second = k2 .seen;
+      third = k3 .seen;
       acknowledged = a3 .answer ∙ ap (λ (x : Served (List ℕ)). answerBytes cfg (x .answer) answer) three;
       cleared = a4 .number ∙ ap (λ (x : Served (List ℕ)). cond (answers (x .answer)) 0 15) four;
       answered = a5 .answer ∙ ap (λ (x : Served (List ℕ)). answerBytes cfg (x .answer) answer) five;

@@ -1,10 +1,10 @@
 -- What a server keeps stays within question 6: the protocol's step leads from such a server to such a server. Assumes nothing.
 use mathlib.Core.Path.{_≡_, refl, sym, _∙_, ap, ap₂}
-use mathlib.Core.Bool.{Bool, true, false, cond, not, _&&_, _||_, true≢false}
+use mathlib.Core.Bool.{Bool, true, false, cond, _&&_, _||_, true≢false}
 use mathlib.Core.List.{List, [], _∷_, _++_}
-use mathlib.Core.Logic.{_⊎_, inl, inr, ⊎-elim}
+use mathlib.Core.Logic.{_⊎_, ⊎-elim}
 use mathlib.Core.Option.{Option, none, some}
-use Prim.Native.Nat.{ℕ, zero, suc, _+_, _≤_, _<_}
+use Prim.Native.Nat.{ℕ, suc, _+_, _≤_, _<_}
 use native.Mathlib.Omega.{arith}
 use borrow.Author.Tests.{eq-eqb, eqb-false, eqb-true, le-leb, leb-true, ltb-false, ltb-true}
 use lib.Dec.{eqb, leb, ltb}
@@ -12,25 +12,25 @@ use lib.ListN.{length, length-append}
 use Rattle.config.specs.declared.Config.{Config}
 use Rattle.laws.proofs.Bools.{and-left, and-right}
 use Rattle.tag.specs.declared.Tag.{Tag}
-use Rattle.tag.specs.Tag.{above, allowed, key, same, start}
-use Rattle.tag.proofs.Order.{Small, above-key, key-above, key-one, same-self}
+use Rattle.tag.specs.Tag.{above, allowed, key, start}
+use Rattle.tag.proofs.Order.{Small, key-above, key-one}
 use Rattle.record.specs.declared.Kind.{Kind}
 use Rattle.record.specs.declared.Kind.the-variants.{Query, QueryAnswer, PreWrite, PreWriteAnswer, WriteFinalise, WriteFinaliseAnswer, ReadFinalise, ReadFinaliseAnswer}
 use Rattle.record.specs.Message.{Message}
 use Rattle.record.specs.Record.{all}
 use Rattle.protocol.specs.Server.{Server, Stored, addLast, atOrBelowFloor, dropSmallest, finalised, freshServer, inPlaceOf, isStored, others, preWrite, query, readFinalise, serverStep, serverStepOf, smallest, store, storeElement, writeFinalise}
-use Rattle.protocol.specs.Tags.{higher, lower, startingTag}
-use Rattle.server.specs.Kept.{among, every, floorKept, kept, once, serverKept, tagsOf}
-use Rattle.server.proofs.Held.{kept-allowed, kept-count, kept-floor, kept-highest, kept-once}
+use Rattle.protocol.specs.Tags.{higher, lower}
+use Rattle.server.specs.Within.{among, every, floorWithin, tagsWithin, once, serverWithin, tagsOf}
+use Rattle.server.proofs.Limits.{within-allowed, within-count, within-floor, within-highest, within-once}
 use Rattle.server.proofs.Each.{or-left, or-right}
 use Rattle.server.proofs.Keys.{same-eqb, small}
-use Rattle.server.proofs.Tags.{both, every-in, every-last, in-every, lowest-all, lowest-first, lowest-in, lowestOf, once-last, once-replaced, or-true, replaced, replaced-gone, replaced-in, replaced-long}
+use Rattle.server.proofs.Tags.{every-in, every-last, in-every, lowest-all, lowest-first, lowest-in, lowestOf, once-last, once-replaced, replaced, replaced-gone, replaced-in, replaced-long}
 
 -- the clauses together
-pub make-kept : (cfg : Config) (highest : Tag) (floor : Option Tag) (ts : List Tag) → allowed (cfg .c) highest ≡ true → length ts ≤ cfg .d + 1
-    → every (allowed (cfg .c)) ts ≡ true → once ts ≡ true → floorKept cfg floor ts ≡ true → kept cfg highest floor ts ≡ true
-unfolding kept all
-make-kept cfg highest floor ts h c a o f = rw (h, le-leb (length ts) (cfg .d + 1) c, a, o, f)
+pub make-within : (cfg : Config) (highest : Tag) (floor : Option Tag) (ts : List Tag) → allowed (cfg .c) highest ≡ true → length ts ≤ cfg .d + 1
+    → every (allowed (cfg .c)) ts ≡ true → once ts ≡ true → floorWithin cfg floor ts ≡ true → tagsWithin cfg highest floor ts ≡ true
+unfolding tagsWithin all
+make-within cfg highest floor ts h c a o f = rw (h, le-leb (length ts) (cfg .d + 1) c, a, o, f)
 
 module _ {Element : Type 0} where
   -- the tags of the protocol's lists
@@ -71,17 +71,17 @@ module _ {Element : Type 0} where
       (tags-stored clients high t st xs (and-right (allowed clients (x .tag)) (every (allowed clients) (tagsOf xs)) h))
 
 -- Storing a tag that is neither stored nor at or below the floor. `ts` are the stored tags.
-module _ (cfg : Config) (high : cfg .c ≤ 16) (highest : Tag) (floor : Option Tag) (ts : List Tag) (k : kept cfg highest floor ts ≡ true) (t : Tag)
+module _ (cfg : Config) (high : cfg .c ≤ 16) (highest : Tag) (floor : Option Tag) (ts : List Tag) (k : tagsWithin cfg highest floor ts ≡ true) (t : Tag)
     (ok : allowed (cfg .c) t ≡ true) (apart : among t ts ≡ false) where
   st : Small t
   st = small (cfg .c) t high ok
 
   all-allowed : every (allowed (cfg .c)) ts ≡ true
-  all-allowed = kept-allowed cfg highest floor ts k
+  all-allowed = within-allowed cfg highest floor ts k
 
   -- a floor is there only where D + 1 are stored
-  floor-room : (f : Option Tag) → floorKept cfg f ts ≡ true → length ts < cfg .d + 1 → (us : List Tag) → floorKept cfg f us ≡ true
-  unfolding floorKept
+  floor-room : (f : Option Tag) → floorWithin cfg f ts ≡ true → length ts < cfg .d + 1 → (us : List Tag) → floorWithin cfg f us ≡ true
+  unfolding floorWithin
   floor-room none h lt us = refl
   floor-room (some f) h lt us =
       absurd (omega (
@@ -91,11 +91,11 @@ module _ (cfg : Config) (high : cfg .c ≤ 16) (highest : Tag) (floor : Option T
             (and-left (allowed (cfg .c) f && eqb (length ts) (cfg .d + 1)) (every (λ (x : Tag). above x f) ts) h)),
       ))
 
-  pub kept-last : length ts < cfg .d + 1 → kept cfg highest floor (ts ++ t ∷ []) ≡ true
-  kept-last lt =
-      make-kept cfg highest floor (ts ++ t ∷ []) (kept-highest cfg highest floor ts k) (omega (arith, length-append ts (t ∷ [])))
-      (every-last (allowed (cfg .c)) t ts all-allowed ok) (once-last t ts (kept-once cfg highest floor ts k) apart)
-      (floor-room floor (kept-floor cfg highest floor ts k) lt (ts ++ t ∷ []))
+  pub within-last : length ts < cfg .d + 1 → tagsWithin cfg highest floor (ts ++ t ∷ []) ≡ true
+  within-last lt =
+      make-within cfg highest floor (ts ++ t ∷ []) (within-highest cfg highest floor ts k) (omega (arith, length-append ts (t ∷ [])))
+      (every-last (allowed (cfg .c)) t ts all-allowed ok) (once-last t ts (within-once cfg highest floor ts k) apart)
+      (floor-room floor (within-floor cfg highest floor ts k) lt (ts ++ t ∷ []))
 
   -- the lowest of t and the stored tags
   abbrev u : Tag
@@ -115,15 +115,15 @@ module _ (cfg : Config) (high : cfg .c ≤ 16) (highest : Tag) (floor : Option T
   x-small x i = small (cfg .c) x high (every-in (allowed (cfg .c)) ts x all-allowed i)
 
   -- with the floor u, D + 1 tags us above it
-  floor-full : (us : List Tag) → length us ≡ cfg .d + 1 → ((x : Tag) → among x us ≡ true → above x u ≡ true) → floorKept cfg (some u) us ≡ true
-  unfolding floorKept
+  floor-full : (us : List Tag) → length us ≡ cfg .d + 1 → ((x : Tag) → among x us ≡ true → above x u ≡ true) → floorWithin cfg (some u) us ≡ true
+  unfolding floorWithin
   floor-full us n h = rw (low-allowed, eq-eqb (length us) (cfg .d + 1) n) (in-every (λ (x : Tag). above x u) us h)
 
   module _ (full : length ts ≡ cfg .d + 1) where
     -- t itself is the lowest
-    pub kept-itself : key u ≡ key t → kept cfg highest (some u) ts ≡ true
-    kept-itself e =
-        make-kept cfg highest (some u) ts (kept-highest cfg highest floor ts k) (omega arith) all-allowed (kept-once cfg highest floor ts k)
+    pub within-itself : key u ≡ key t → tagsWithin cfg highest (some u) ts ≡ true
+    within-itself e =
+        make-within cfg highest (some u) ts (within-highest cfg highest floor ts k) (omega arith) all-allowed (within-once cfg highest floor ts k)
         (floor-full ts full
         (λ x i.
         let differ : key x ≡ key u → ⊥ =
@@ -132,14 +132,14 @@ module _ (cfg : Config) (high : cfg .c ≤ 16) (highest : Tag) (floor : Option T
         key-above x u (x-small x i) su (omega arith)))
 
     -- another is, and t has its place
-    pub kept-replaced : (key u ≡ key t → ⊥) → kept cfg highest (some u) (replaced u t ts) ≡ true
-    kept-replaced ne =
-        let once-ts = kept-once cfg highest floor ts k in
+    pub within-replaced : (key u ≡ key t → ⊥) → tagsWithin cfg highest (some u) (replaced u t ts) ≡ true
+    within-replaced ne =
+        let once-ts = within-once cfg highest floor ts k in
         let of : (x : Tag) → among x (replaced u t ts) ≡ true → (allowed (cfg .c) x ≡ true) × (key u ≤ key x) =
         λ x i.
         ⊎-elim (λ w. (every-in (allowed (cfg .c)) ts x all-allowed w, low-of x w))
         (λ w. (ap (allowed (cfg .c)) (sym w) ∙ ok, omega (arith, lowest-first t ts, ap key w))) (replaced-in u t x ts i) in
-        make-kept cfg highest (some u) (replaced u t ts) (kept-highest cfg highest floor ts k) (omega (arith, replaced-long u t ts))
+        make-within cfg highest (some u) (replaced u t ts) (within-highest cfg highest floor ts k) (omega (arith, replaced-long u t ts))
         (in-every (allowed (cfg .c)) (replaced u t ts) (λ x i. of x i .0)) (once-replaced u t ts once-ts apart)
         (floor-full (replaced u t ts) (replaced-long u t ts ∙ full)
         (λ x i.
@@ -148,7 +148,7 @@ module _ (cfg : Config) (high : cfg .c ≤ 16) (highest : Tag) (floor : Option T
         key-above x u (small (cfg .c) x high (of x i .0)) su (omega arith)))
 
 -- Storing, by cases: nothing changes, there is room, t itself is the lowest, another is.
-module _ {Element : Type 0} (cfg : Config) (high : cfg .c ≤ 16) (v : Server Element) (k : serverKept cfg v ≡ true) (y : Stored Element)
+module _ {Element : Type 0} (cfg : Config) (high : cfg .c ≤ 16) (v : Server Element) (k : serverWithin cfg v ≡ true) (y : Stored Element)
     (ok : allowed (cfg .c) (y .tag) ≡ true) where
   abbrev ts : List Tag
   ts = tagsOf (v .stored)
@@ -156,13 +156,13 @@ module _ {Element : Type 0} (cfg : Config) (high : cfg .c ≤ 16) (v : Server El
   abbrev t : Tag
   t = y .tag
 
-  its-kept : kept cfg (v .highest) (v .floor) ts ≡ true
-  unfolding serverKept
-  its-kept = k
+  its-within : tagsWithin cfg (v .highest) (v .floor) ts ≡ true
+  unfolding serverWithin
+  its-within = k
 
   stored-test : isStored key t (v .stored) ≡ among t ts
   stored-test =
-      tags-stored (cfg .c) high t (small (cfg .c) t high ok) (v .stored) (kept-allowed cfg (v .highest) (v .floor) ts its-kept)
+      tags-stored (cfg .c) high t (small (cfg .c) t high ok) (v .stored) (within-allowed cfg (v .highest) (v .floor) ts its-within)
 
   count-test : length (v .stored) ≡ length ts
   count-test = sym (tags-long (v .stored))
@@ -188,7 +188,7 @@ module _ {Element : Type 0} (cfg : Config) (high : cfg .c ≤ 16) (v : Server El
     by-room false e a f =
         rw (tags-smallest t (v .stored))
         (by-others (eqb (key (lowestOf t ts)) (key t)) refl a f
-        (omega (arith, ltb-false (length ts) (cfg .d + 1) e, kept-count cfg (v .highest) (v .floor) ts its-kept)))
+        (omega (arith, ltb-false (length ts) (cfg .d + 1) e, within-count cfg (v .highest) (v .floor) ts its-within)))
 
     by-test : (b : Bool) → (among t ts || atOrBelowFloor key t (v .floor)) ≡ b → P (cond b v (cond (ltb (length ts) (cfg .d + 1)) (addLast v y) (dropSmallest key v y)))
     by-test true e = unchanged e
@@ -200,65 +200,65 @@ module _ {Element : Type 0} (cfg : Config) (high : cfg .c ≤ 16) (v : Server El
     unfolding store
     store-cases = rw (stored-test, count-test) (by-test (among t ts || atOrBelowFloor key t (v .floor)) refl)
 
-  kept-addLast : kept cfg (v .highest) (v .floor) (ts ++ t ∷ []) ≡ true → serverKept cfg (addLast v y) ≡ true
-  unfolding serverKept addLast
-  kept-addLast h = rw (tags-last (v .stored) y) h
+  within-addLast : tagsWithin cfg (v .highest) (v .floor) (ts ++ t ∷ []) ≡ true → serverWithin cfg (addLast v y) ≡ true
+  unfolding serverWithin addLast
+  within-addLast h = rw (tags-last (v .stored) y) h
 
-  kept-floored : (xs : List (Stored Element)) → kept cfg (v .highest) (some (lowestOf t ts)) (tagsOf xs) ≡ true → serverKept cfg (floored (lowestOf t ts) xs) ≡ true
-  unfolding serverKept
-  kept-floored xs h = h
+  within-floored : (xs : List (Stored Element)) → tagsWithin cfg (v .highest) (some (lowestOf t ts)) (tagsOf xs) ≡ true → serverWithin cfg (floored (lowestOf t ts) xs) ≡ true
+  unfolding serverWithin
+  within-floored xs h = h
 
-  pub store-kept : serverKept cfg (store key (cfg .d) v y) ≡ true
-  store-kept =
-      store-cases (λ w. serverKept cfg w ≡ true) (λ _. k) with-room with-itself with-another
+  pub store-within : serverWithin cfg (store key (cfg .d) v y) ≡ true
+  store-within =
+      store-cases (λ w. serverWithin cfg w ≡ true) (λ _. k) with-room with-itself with-another
     where
-      with-room : among t ts ≡ false → atOrBelowFloor key t (v .floor) ≡ false → length ts < cfg .d + 1 → serverKept cfg (addLast v y) ≡ true
-      with-room a f lt = kept-addLast (kept-last cfg high (v .highest) (v .floor) ts its-kept t ok a lt)
+      with-room : among t ts ≡ false → atOrBelowFloor key t (v .floor) ≡ false → length ts < cfg .d + 1 → serverWithin cfg (addLast v y) ≡ true
+      with-room a f lt = within-addLast (within-last cfg high (v .highest) (v .floor) ts its-within t ok a lt)
 
       with-itself : among t ts ≡ false → atOrBelowFloor key t (v .floor) ≡ false → length ts ≡ cfg .d + 1 → key (lowestOf t ts) ≡ key t
-          → serverKept cfg (floored (lowestOf t ts) (v .stored)) ≡ true
-      with-itself a f n e = kept-floored (v .stored) (kept-itself cfg high (v .highest) (v .floor) ts its-kept t ok a n e)
+          → serverWithin cfg (floored (lowestOf t ts) (v .stored)) ≡ true
+      with-itself a f n e = within-floored (v .stored) (within-itself cfg high (v .highest) (v .floor) ts its-within t ok a n e)
 
       with-another : among t ts ≡ false → atOrBelowFloor key t (v .floor) ≡ false → length ts ≡ cfg .d + 1 → (key (lowestOf t ts) ≡ key t → ⊥)
-          → serverKept cfg (floored (lowestOf t ts) (inPlaceOf key (lowestOf t ts) y (v .stored))) ≡ true
+          → serverWithin cfg (floored (lowestOf t ts) (inPlaceOf key (lowestOf t ts) y (v .stored))) ≡ true
       with-another a f n e =
-          kept-floored (inPlaceOf key (lowestOf t ts) y (v .stored))
-          (rw (tags-replaced (lowestOf t ts) y (v .stored)) (kept-replaced cfg high (v .highest) (v .floor) ts its-kept t ok a n e))
+          within-floored (inPlaceOf key (lowestOf t ts) y (v .stored))
+          (rw (tags-replaced (lowestOf t ts) y (v .stored)) (within-replaced cfg high (v .highest) (v .floor) ts its-within t ok a n e))
 
 -- a step keeps question 6
-module _ {Element : Type 0} (cfg : Config) (high : cfg .c ≤ 16) (s : ℕ) (v : Server Element) (k : serverKept cfg v ≡ true) (m : Message Element)
+module _ {Element : Type 0} (cfg : Config) (high : cfg .c ≤ 16) (s : ℕ) (v : Server Element) (k : serverWithin cfg v ≡ true) (m : Message Element)
     (ok : allowed (cfg .c) (m .tag) ≡ true) where
   higher-by : (b : Bool) (h t : Tag) → allowed (cfg .c) h ≡ true → allowed (cfg .c) t ≡ true → allowed (cfg .c) (cond b t h) ≡ true
   higher-by true h t p q = q
   higher-by false h t p q = p
 
-  pub finalised-kept : serverKept cfg (finalised key v (m .tag)) ≡ true
-  unfolding serverKept finalised higher
-  finalised-kept =
-      make-kept cfg _ (v .floor) (tagsOf (v .stored))
-      (higher-by (ltb (key (v .highest)) (key (m .tag))) (v .highest) (m .tag) (kept-highest cfg (v .highest) (v .floor) (tagsOf (v .stored)) k) ok)
-      (kept-count cfg (v .highest) (v .floor) (tagsOf (v .stored)) k) (kept-allowed cfg (v .highest) (v .floor) (tagsOf (v .stored)) k)
-      (kept-once cfg (v .highest) (v .floor) (tagsOf (v .stored)) k) (kept-floor cfg (v .highest) (v .floor) (tagsOf (v .stored)) k)
+  pub finalised-within : serverWithin cfg (finalised key v (m .tag)) ≡ true
+  unfolding serverWithin finalised higher
+  finalised-within =
+      make-within cfg _ (v .floor) (tagsOf (v .stored))
+      (higher-by (ltb (key (v .highest)) (key (m .tag))) (v .highest) (m .tag) (within-highest cfg (v .highest) (v .floor) (tagsOf (v .stored)) k) ok)
+      (within-count cfg (v .highest) (v .floor) (tagsOf (v .stored)) k) (within-allowed cfg (v .highest) (v .floor) (tagsOf (v .stored)) k)
+      (within-once cfg (v .highest) (v .floor) (tagsOf (v .stored)) k) (within-floor cfg (v .highest) (v .floor) (tagsOf (v .stored)) k)
 
-  pub element-kept : (e : Option Element) → serverKept cfg (storeElement key (cfg .d) v (m .tag) e) ≡ true
+  pub element-within : (e : Option Element) → serverWithin cfg (storeElement key (cfg .d) v (m .tag) e) ≡ true
   unfolding storeElement
-  element-kept none = k
-  element-kept (some e) = store-kept cfg high v k (record { tag = m .tag; element = e }) ok
+  element-within none = k
+  element-within (some e) = store-within cfg high v k (record { tag = m .tag; element = e }) ok
 
-  by-kind : (kind : Kind) → serverKept cfg (serverStepOf kind key (cfg .d) s v m .server) ≡ true
+  by-kind : (kind : Kind) → serverWithin cfg (serverStepOf kind key (cfg .d) s v m .server) ≡ true
   unfolding serverStepOf query preWrite writeFinalise readFinalise
   by-kind Query = k
   by-kind QueryAnswer = k
-  by-kind PreWrite = element-kept (m .element)
+  by-kind PreWrite = element-within (m .element)
   by-kind PreWriteAnswer = k
-  by-kind WriteFinalise = finalised-kept
+  by-kind WriteFinalise = finalised-within
   by-kind WriteFinaliseAnswer = k
-  by-kind ReadFinalise = finalised-kept
+  by-kind ReadFinalise = finalised-within
   by-kind ReadFinaliseAnswer = k
 
-  pub step-kept : serverKept cfg (serverStep key (cfg .d) s v m .server) ≡ true
+  pub step-within : serverWithin cfg (serverStep key (cfg .d) s v m .server) ≡ true
   unfolding serverStep
-  step-kept = by-kind (m .kind)
+  step-within = by-kind (m .kind)
 
 -- H never falls
 pub rises-by : (b : Bool) (h t : Tag) → ltb (key h) (key t) ≡ b → key h ≤ key (cond b t h)
@@ -301,7 +301,7 @@ module _ {Element : Type 0} (d s : ℕ) (v : Server Element) (m : Message Elemen
   highest-rises = rises-of (m .kind)
 
 -- a fresh server is within question 6
-pub fresh-kept : {Element : Type 0} (cfg : Config) (e : Element) → serverKept cfg (freshServer e) ≡ true
-unfolding serverKept freshServer tagsOf startingTag every once among floorKept
-fresh-kept cfg e =
-    make-kept cfg start none (start ∷ []) refl (omega arith) refl refl refl
+pub fresh-within : {Element : Type 0} (cfg : Config) (e : Element) → serverWithin cfg (freshServer e) ≡ true
+unfolding serverWithin freshServer tagsOf every once among floorWithin
+fresh-within cfg e =
+    make-within cfg start none (start ∷ []) refl (omega arith) refl refl refl

@@ -1,25 +1,26 @@
 -- A pre-write's tag and element, by the case that the protocol has: stored already, at or below the floor, room, full. Assumes nothing.
-use mathlib.Core.Path.{_≡_, refl, sym, _∙_, ap}
-use mathlib.Core.Bool.{Bool, true, false, cond, _||_}
+use mathlib.Core.Path.{_≡_, refl, _∙_, ap}
+use mathlib.Core.Bool.{Bool, true, false, cond}
 use mathlib.Core.List.{List}
 use Prim.Native.Nat.{ℕ, _+_, _-_, _*_, _≤_, _<_}
 use native.Mathlib.Nat.{mul-le-mul-right, sub-zero, zero-add}
 use native.Mathlib.Omega.{arith}
 use borrow.Author.Tests.{le-leb, le-ltb, lt-leb, lt-ltb}
 use native.Mathlib.Decide.{decLe}
-use lib.Dec.{leb, ltb}
+use lib.Dec.{leb}
 use lib.ListN.{length}
 use Rattle.config.specs.declared.Config.{Config}
 use Rattle.tag.specs.declared.Tag.{Tag}
 use Rattle.tag.specs.Tag.{allowed, key}
 use Rattle.tag.proofs.Order.{Small}
-use Rattle.protocol.specs.Server.{Stored, addLast, atOrBelowFloor, dropSmallest, isStored, store as stores}
+use Rattle.protocol.specs.Server.{Stored, atOrBelowFloor, dropSmallest, isStored, store as stores}
 use Rattle.server.specs.declared.State.{State}
-use Rattle.server.specs.Inner.{Appended, Dropped, Keeping, Keeps, Room, appended, dropped, lowest, placeIn, putAt}
-use Rattle.server.specs.Kept.{among, every, once}
+use Rattle.server.specs.inner.Keep.{AppendPost, DropSmallestPost, KeepPre, KeepPost, appended, dropped, lowest}
+use Rattle.server.specs.inner.Places.{Room, placeIn, putAt}
+use Rattle.server.specs.Within.{among, every}
 use Rattle.server.specs.View.{each, floorOf, placeAt, tagAt, tagsUsed, view}
 use Rattle.server.proofs.Each.{length-each, place-among, place-not-among}
-use Rattle.server.proofs.Held.{state-allowed, state-count, state-eight, state-once}
+use Rattle.server.proofs.Limits.{state-allowed, state-count, state-eight, state-once}
 use Rattle.server.proofs.Keys.{small}
 use Rattle.server.proofs.Lists.{stored-among}
 use Rattle.server.proofs.Put.{place-below, put-long}
@@ -29,7 +30,7 @@ use Rattle.server.proofs.Views.{another-view, append-view, itself-view}
 pub from-zero : (t : Tag) (f : ℕ → Tag) (n p : ℕ) → p ≡ 0 + placeIn t (each f 0 (n - 0)) → p ≡ placeIn t (each f 0 n)
 from-zero t f n p e = e ∙ zero-add (placeIn t (each f 0 (n - 0))) ∙ ap (λ (m : ℕ). placeIn t (each f 0 m)) (sub-zero n)
 
-module _ (cfg : Config) (s : State) (t : Tag) (element store : List ℕ) (k : Keeping cfg s t element store) where
+module _ (cfg : Config) (s : State) (t : Tag) (element store : List ℕ) (k : KeepPre cfg s t element store) where
   abbrev new : Stored (List ℕ)
   new = record { tag = t; element = element }
 
@@ -37,7 +38,7 @@ module _ (cfg : Config) (s : State) (t : Tag) (element store : List ℕ) (k : Ke
   tag-small = small (cfg .c) t (k .held .valid .c-high) (k .allowed)
 
   all-allowed : every (allowed (cfg .c)) (tagsUsed s) ≡ true
-  all-allowed = state-allowed cfg s (k .held .kept)
+  all-allowed = state-allowed cfg s (k .held .within)
 
   stored-is : isStored key t (view cfg s store .stored) ≡ among t (tagsUsed s)
   unfolding view
@@ -58,9 +59,9 @@ module _ (cfg : Config) (s : State) (t : Tag) (element store : List ℕ) (k : Ke
       let l : length (tagsUsed s) ≤ placeIn t (tagsUsed s) = omega (arith, length-each (tagAt (s .tags)) 0 (s .count)) in
       place-not-among t (tagsUsed s) l
 
-  pub keep-stored : (p : ℕ) → p ≡ placeIn t (tagsUsed s) → p < s .count → Keeps cfg s t element store store s
+  pub keep-stored : (p : ℕ) → p ≡ placeIn t (tagsUsed s) → p < s .count → KeepPost cfg s t element store store s
   unfolding stores
-  keep-stored p e h = record { me = refl; view = rw (there p e h); long = refl }
+  keep-stored p e h = record { me = refl; seen = rw (there p e h); long = refl }
 
   module _ (p : ℕ) (e : p ≡ placeIn t (tagsUsed s)) (h : s .count ≤ p) where
     not-stored : isStored key t (view cfg s store .stored) ≡ false
@@ -70,9 +71,9 @@ module _ (cfg : Config) (s : State) (t : Tag) (element store : List ℕ) (k : Ke
     unfolding view
     floor-is = refl
 
-    pub keep-below : atOrBelowFloor key t (floorOf (s .floor)) ≡ true → Keeps cfg s t element store store s
+    pub keep-below : atOrBelowFloor key t (floorOf (s .floor)) ≡ true → KeepPost cfg s t element store store s
     unfolding stores
-    keep-below b = record { me = refl; view = rw (not-stored, ap (atOrBelowFloor key t) floor-is ∙ b); long = refl }
+    keep-below b = record { me = refl; seen = rw (not-stored, ap (atOrBelowFloor key t) floor-is ∙ b); long = refl }
 
     module _ (b : atOrBelowFloor key t (floorOf (s .floor)) ≡ false) where
       above-floor : atOrBelowFloor key t (view cfg s store .floor) ≡ false
@@ -88,7 +89,7 @@ module _ (cfg : Config) (s : State) (t : Tag) (element store : List ℕ) (k : Ke
             fits = omega (arith, k .held .long);
           }
 
-      pub keep-append : s .count ≤ cfg .d → (after : List ℕ) (r : State) → Appended cfg s t element store after r → Keeps cfg s t element store after r
+      pub keep-append : s .count ≤ cfg .d → (after : List ℕ) (r : State) → AppendPost cfg s t element store after r → KeepPost cfg s t element store after r
       unfolding stores appended
       keep-append c after r a =
           let room = room-append c in
@@ -96,7 +97,7 @@ module _ (cfg : Config) (s : State) (t : Tag) (element store : List ℕ) (k : Ke
           let eights : s .count < 8 = omega (arith, room .n-high) in
           record {
             me = ap (λ (x : State). x .me) (a .state);
-            view =
+            seen =
                 rw (a .state, a .store, not-stored, above-floor, many, lt-ltb (s .count) (cfg .d + 1) (omega arith))
                 (append-view cfg s store t element (k .sized) (a .eight) eights fits);
             long = ap length (a .store) ∙ put-long (s .count * cfg .e) (cfg .e) element store (k .sized) fits;
@@ -104,31 +105,31 @@ module _ (cfg : Config) (s : State) (t : Tag) (element store : List ℕ) (k : Ke
 
       pub room-drop : Room cfg (s .count) element store
       room-drop =
-          let m : s .count * cfg .e ≤ (cfg .d + 1) * cfg .e = mul-le-mul-right (cfg .e) (state-count cfg s (k .held .kept)) in
+          let m : s .count * cfg .e ≤ (cfg .d + 1) * cfg .e = mul-le-mul-right (cfg .e) (state-count cfg s (k .held .within)) in
           record {
             e-high = k .held .valid .e-high;
             sized = k .sized;
-            n-high = state-eight cfg s (k .held .kept) (k .held .valid);
+            n-high = state-eight cfg s (k .held .within) (k .held .valid);
             fits = omega (arith, k .held .long);
           }
 
-      drop-view : (after : List ℕ) (r : State) → Dropped cfg s t element store after r → view cfg r after ≡ dropSmallest key (view cfg s store) new
+      drop-view : (after : List ℕ) (r : State) → DropSmallestPost cfg s t element store after r → view cfg r after ≡ dropSmallest key (view cfg s store) new
       drop-view after r d = elim (decLe (s .count) (lowest s t .place)) as (λ _. view cfg r after ≡ dropSmallest key (view cfg s store) new) [
         | yes le ↦
             let x : after ≡ store = d .store ∙ ap (λ (z : Bool). cond z store (putAt (lowest s t .place * cfg .e) element store)) (le-leb (s .count) (lowest s t .place) le) in
             rw (d .state, x)
             (itself-view cfg s store t element (k .sized) (d .eight) (cfg .c) (k .held .valid .c-high) tag-small all-allowed
-            (state-once cfg s (k .held .kept)) (nowhere p e h) le)
+            (state-once cfg s (k .held .within)) (nowhere p e h) le)
         | no gt ↦
             let lt : lowest s t .place < s .count = omega arith in
             let x : after ≡ putAt (lowest s t .place * cfg .e) element store =
             d .store ∙ ap (λ (z : Bool). cond z store (putAt (lowest s t .place * cfg .e) element store)) (lt-leb (s .count) (lowest s t .place) lt) in
             rw (d .state, x)
             (another-view cfg s store t element (k .sized) (d .eight) (cfg .c) (k .held .valid .c-high) tag-small all-allowed
-            (state-once cfg s (k .held .kept)) (nowhere p e h) lt (room-drop .n-high) (room-drop .fits))
+            (state-once cfg s (k .held .within)) (nowhere p e h) lt (room-drop .n-high) (room-drop .fits))
       ]
 
-      drop-long : (after : List ℕ) (r : State) → Dropped cfg s t element store after r → length after ≡ length store
+      drop-long : (after : List ℕ) (r : State) → DropSmallestPost cfg s t element store after r → length after ≡ length store
       drop-long after r d = ap length (d .store) ∙ elim (decLe (s .count) (lowest s t .place)) as (λ _. length (cond (leb (s .count) (lowest s t .place)) store (putAt (lowest s t .place * cfg .e) element store)) ≡ length store) [
         | yes le ↦ rw (le-leb (s .count) (lowest s t .place) le)
         | no gt ↦
@@ -137,11 +138,11 @@ module _ (cfg : Config) (s : State) (t : Tag) (element store : List ℕ) (k : Ke
             rw (lt-leb (s .count) (lowest s t .place) lt) (put-long (lowest s t .place * cfg .e) (cfg .e) element store (k .sized) fits)
       ]
 
-      pub keep-drop : cfg .d < s .count → (after : List ℕ) (r : State) → Dropped cfg s t element store after r → Keeps cfg s t element store after r
+      pub keep-drop : cfg .d < s .count → (after : List ℕ) (r : State) → DropSmallestPost cfg s t element store after r → KeepPost cfg s t element store after r
       unfolding stores dropped
       keep-drop c after r d =
           record {
             me = ap (λ (x : State). x .me) (d .state);
-            view = drop-view after r d ∙ rw (not-stored, above-floor, many, le-ltb (s .count) (cfg .d + 1) (omega arith));
+            seen = drop-view after r d ∙ rw (not-stored, above-floor, many, le-ltb (s .count) (cfg .d + 1) (omega arith));
             long = drop-long after r d;
           }

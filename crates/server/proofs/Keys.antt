@@ -1,7 +1,7 @@
 -- Tags by their keys: of tags whose client numbers are bytes, the code's tests are the protocol's. Assumes nothing.
 use mathlib.Core.Path.{_≡_, refl, sym, _∙_, ap}
-use mathlib.Core.Bool.{Bool, true, false, cond, not, true≢false}
-use Prim.Native.Nat.{ℕ, _+_, _≤_, _<_}
+use mathlib.Core.Bool.{Bool, true, false, not, true≢false}
+use Prim.Native.Nat.{ℕ, _≤_}
 use native.Mathlib.Omega.{arith}
 use borrow.Author.Tests.{eq-eqb, ne-eqb, le-leb, lt-leb, le-ltb, lt-ltb}
 use lib.Dec.{eqb, leb, ltb}
@@ -10,7 +10,7 @@ use Rattle.tag.specs.Tag.{above, allowed, key, same}
 use Rattle.tag.proofs.Order.{Small, above-key, allowed-client, key-one, not-above, same-one, same-self}
 use Rattle.protocol.specs.Server.{atOrBelowFloor}
 use Rattle.protocol.specs.Tags.{higher}
-use mathlib.Core.Option.{none, some}
+use mathlib.Core.Option.{some}
 
 -- an allowed tag's client number is a byte
 pub small : (clients : ℕ) (t : Tag) → clients ≤ 16 → allowed clients t ≡ true → Small t

@@ -1,10 +1,11 @@
 -- A server's theorems, of its calls. A fresh server passes question 6 and every step keeps that; a step on a message of the
--- configuration is the protocol's; H never falls; no answer depends on the store's order or on places that are not in use.
+-- configuration is the protocol's; H never falls; what a pre-write sends is stored; no answer depends on the store's order or on
+-- places that are not in use.
 -- Assumes nothing.
 use mathlib.Core.Path.{_≡_, refl, sym, _∙_, ap, ap₂, subst, subst₂}
 use mathlib.Core.Bool.{Bool, true, false, cond, _&&_}
 use mathlib.Core.List.{List, [], _∷_, _++_}
-use mathlib.Core.Logic.{_⊎_, inl, inr}
+use mathlib.Core.Logic.{_⊎_, ⊎-elim}
 use mathlib.Core.Option.{Option, none, some}
 use Prim.Native.Nat.{ℕ, zero, suc, _+_, _-_, _*_, _≤_}
 use native.Mathlib.Decide.{ℕ-discrete}
@@ -12,39 +13,40 @@ use native.Mathlib.Nat.{mul-le-mul-right, zero-mul}
 use native.Mathlib.Omega.{arith}
 use borrow.Author.Tests.{eq-eqb, eqb-true, ne-eqb}
 use lib.Dec.{eqb, ltb}
-use lib.ListN.{length, drop, length-append, length-drop, replicate, take}
+use lib.ListN.{length, drop, length-append, length-drop, take}
 use lib.Seq.{take-at}
 use Rattle.config.specs.declared.Config.{Config}
 use Rattle.config.specs.declared.Server.{Server as ServerNumber}
-use Rattle.config.specs.Config.{Valid, questions}
+use Rattle.config.specs.Config.{questions, storeLength}
 use Rattle.config.specs.Number.{serverNumber}
-use Rattle.config.specs.Questions.{ask, firstNo, within}
+use Rattle.config.specs.Questions.{Question, ask, firstNo, within}
 use Rattle.config.specs.Refusal.{verdictNumber}
-use Rattle.config.proofs.Questions.{last-all, questions-numbered}
+use Rattle.config.proofs.Questions.{none-first, none-rest, questions-numbered, yes-next}
 use Rattle.config.proofs.Valid.{valid}
 use Rattle.laws.proofs.Bools.{and-left, and-right}
 use Rattle.tag.specs.declared.Tag.{Tag}
 use Rattle.tag.specs.Tag.{allowed, key, start}
 use Rattle.record.specs.declared.Kind.{Kind}
 use Rattle.record.specs.declared.Kind.the-variants.{Query, QueryAnswer, PreWrite, PreWriteAnswer, WriteFinalise, WriteFinaliseAnswer, ReadFinalise, ReadFinaliseAnswer}
+use Rattle.record.specs.Kinds.{isForServer}
 use Rattle.record.specs.Message.{Message}
-use Rattle.record.specs.Record.{messageOf, ofConfig, recordOf, tagAt as tagIn, wellFormed}
+use Rattle.record.specs.Record.{messageOf, ofConfig, recordOf, wellFormed}
 use Rattle.record.proofs.Clauses.{its-tag}
 use Rattle.record.proofs.Laws.{reads-back, record-long, written-well-formed}
-use Rattle.protocol.specs.Server.{Server, Served, Stored, finalised, freshServer, preWrite, query, readFinalise, serverStep, serverStepOf, writeFinalise}
-use Rattle.protocol.specs.Tags.{higher, startingTag}
-use Rattle.server.specs.declared.Floor.{Floor}
+use Rattle.protocol.specs.Server.{Served, Server, atOrBelowFloor, elementOf, finalised, freshServer, isStored, preWrite, query, readFinalise, serverStep, serverStepOf, store as stores, storeElement, writeFinalise}
+use Rattle.protocol.specs.Tags.{higher}
 use Rattle.server.specs.declared.State.{State}
 use Rattle.server.specs.declared.Stepped.{Stepped}
-use Rattle.server.specs.Calls.{FreshPost, StepPost, Steps, answerBytes, answers, forServer, freshQuestions, freshState, outcome, raised, receives, stays, stepQuestions, storeLength}
-use Rattle.server.specs.Inner.{Held}
-use Rattle.server.specs.Kept.{kept, serverKept, stateKept, tagsOf}
-use Rattle.server.specs.Order.{Reordered, SameButOrder}
+use Rattle.server.specs.Calls.{FreshPost, StepPost, Steps, answerBytes, answers, forServer, freshQuestions, freshState, outcome, raised, stepQuestions}
+use Rattle.server.specs.Within.{ValidState}
+use Rattle.server.specs.Within.{tagsWithin, serverWithin, stateWithin, tagsOf}
+use Rattle.server.specs.Order.{SameButOrder}
 use Rattle.server.specs.View.{each, elementAt, floorOf, placeAt, tagAt, tagsUsed, view}
 use Rattle.server.proofs.Asked.{step-answer, step-handed, step-later}
-use Rattle.server.proofs.Held.{state-kept, state-me}
-use Rattle.server.proofs.Invariant.{finalised-kept, fresh-kept, highest-rises, rises-by, step-kept}
+use Rattle.server.proofs.Limits.{state-within, state-me}
+use Rattle.server.proofs.Invariant.{finalised-within, fresh-within, highest-rises, rises-by, step-within}
 use Rattle.server.proofs.Order.{answer-same, server-same}
+use Rattle.server.proofs.Sent.{sent-stored}
 use Rattle.server.proofs.Stepping.{steps-same}
 
 -- the stored tags of the view are the state's
@@ -54,16 +56,16 @@ tags-used cfg tags store i zero = refl
 tags-used cfg tags store i (suc n) = ap {B = List Tag} (λ ts. tagAt tags i ∷ ts) (tags-used cfg tags store (suc i) n)
 
 module _ (cfg : Config) (s : State) (store : List ℕ) where
-  view-kept : serverKept cfg (view cfg s store) ≡ kept cfg (s .highest) (floorOf (s .floor)) (tagsUsed s)
-  unfolding serverKept view
-  view-kept = ap (kept cfg (s .highest) (floorOf (s .floor))) (tags-used cfg (s .tags) store 0 (s .count))
+  view-within : serverWithin cfg (view cfg s store) ≡ tagsWithin cfg (s .highest) (floorOf (s .floor)) (tagsUsed s)
+  unfolding serverWithin view
+  view-within = ap (tagsWithin cfg (s .highest) (floorOf (s .floor))) (tags-used cfg (s .tags) store 0 (s .count))
 
-  pub server-kept : stateKept cfg s ≡ true → serverKept cfg (view cfg s store) ≡ true
-  server-kept h = view-kept ∙ state-kept cfg s h
+  pub server-within : stateWithin cfg s ≡ true → serverWithin cfg (view cfg s store) ≡ true
+  server-within h = view-within ∙ state-within cfg s h
 
-  pub kept-state : within 1 (cfg .n) (serverNumber (s .me)) ≡ true → serverKept cfg (view cfg s store) ≡ true → stateKept cfg s ≡ true
-  unfolding stateKept
-  kept-state w h = rw (w, sym view-kept ∙ h)
+  pub within-state : within 1 (cfg .n) (serverNumber (s .me)) ≡ true → serverWithin cfg (view cfg s store) ≡ true → stateWithin cfg s ≡ true
+  unfolding stateWithin
+  within-state w h = rw (w, sym view-within ∙ h)
 
 -- Fresh: an accepted call leaves the protocol's fresh server, and it passes questions 1 to 6.
 module _ (cfg : Config) (me : ServerNumber) (element before after : List ℕ) (r : Stepped) (post : FreshPost cfg me element before after r)
@@ -80,12 +82,20 @@ module _ (cfg : Config) (me : ServerNumber) (element before after : List ℕ) (r
   abbrev here : Bool
   here = within 1 (cfg .n) (serverNumber me)
 
-  answered : (firstNo (questions cfg) ≡ 0) × (sized && long && here ≡ true)
+  -- 6 and 8
+  abbrev others : List Question
+  others = ask 6 (sized && long) ∷ ask 8 here ∷ []
+
+  passed : firstNo (questions cfg) ≡ 0
   unfolding freshQuestions
-  answered = last-all (questions cfg) 6 (sized && long && here) (questions-numbered cfg) (omega arith) asked
+  passed = none-first (questions cfg) others asked
+
+  answered : (sized && long ≡ true) × (firstNo (ask 8 here ∷ []) ≡ 0)
+  unfolding freshQuestions
+  answered = yes-next 6 (sized && long) (ask 8 here ∷ []) (omega arith) (none-rest (questions cfg) others (questions-numbered cfg) asked)
 
   its-size : length element ≡ cfg .e
-  its-size = eqb-true (length element) (cfg .e) (and-left sized long (and-left (sized && long) here (answered .1)))
+  its-size = eqb-true (length element) (cfg .e) (and-left sized long (answered .0))
 
   after-is : after ≡ element ++ drop (cfg .e) before
   after-is = post .store ∙ rw (eq-eqb (firstNo (freshQuestions cfg me element before)) 0 asked)
@@ -96,30 +106,30 @@ module _ (cfg : Config) (me : ServerNumber) (element before after : List ℕ) (r
       ∙ take-at element (drop (cfg .e) before) (cfg .e) its-size
 
   pub fresh-view : view cfg (r .state) after ≡ freshServer element
-  unfolding view freshState freshServer each startingTag
+  unfolding view freshState freshServer each
   fresh-view =
       ap (λ (x : State). view cfg x after) (post .state)
       ∙ ap (λ (e : List ℕ). record { highest = start; floor = none; stored = record { tag = start; element = e } ∷ [] }) first-element
 
-  pub fresh-held : Held cfg (r .state) after
+  pub fresh-valid : ValidState cfg (r .state) after
   unfolding freshState
-  fresh-held =
-      let v = valid cfg (answered .0) in
-      let l : length before ≡ storeLength cfg = eqb-true (length before) (storeLength cfg) (and-right sized long (and-left (sized && long) here (answered .1))) in
+  fresh-valid =
+      let v = valid cfg passed in
+      let l : length before ≡ storeLength cfg = eqb-true (length before) (storeLength cfg) (and-right sized long (answered .0)) in
       let m : 1 * cfg .e ≤ (cfg .d + 1) * cfg .e = mul-le-mul-right (cfg .e) (omega arith) in
       record {
         valid = v;
-        kept =
-            kept-state cfg (r .state) after
-            (ap (λ (x : State). within 1 (cfg .n) (serverNumber (x .me))) (post .state) ∙ and-right (sized && long) here (answered .1))
-            (ap (serverKept cfg) fresh-view ∙ fresh-kept cfg element);
+        within =
+            within-state cfg (r .state) after
+            (ap (λ (x : State). within 1 (cfg .n) (serverNumber (x .me))) (post .state) ∙ yes-next 8 here [] (omega arith) (answered .1) .0)
+            (ap (serverWithin cfg) fresh-view ∙ fresh-within cfg element);
         long =
             ap length after-is ∙ length-append element (drop (cfg .e) before)
             ∙ omega (arith, its-size, length-drop (cfg .e) before, l);
       }
 
--- Step: whatever record is handed over, question 6 is kept and H never falls.
-module _ (cfg : Config) (s : State) (handed store answer storeAfter answerAfter : List ℕ) (r : Stepped) (held : Held cfg s store)
+-- Step: whatever record is handed over, question 6 stays answered yes and H never falls.
+module _ (cfg : Config) (s : State) (handed store answer storeAfter answerAfter : List ℕ) (r : Stepped) (held : ValidState cfg s store)
     (post : StepPost cfg s handed store answer storeAfter answerAfter r) where
   abbrev first : ℕ
   first = firstNo (stepQuestions cfg s handed store answer)
@@ -149,36 +159,36 @@ module _ (cfg : Config) (s : State) (handed store answer storeAfter answerAfter 
   tag-ok six twelve = its-tag cfg handed (well six twelve)
 
   -- the protocol's server stays within question 6
-  v-kept : serverKept cfg v ≡ true
-  v-kept = server-kept cfg s store (held .kept)
+  v-within : serverWithin cfg v ≡ true
+  v-within = server-within cfg s store (held .within)
 
   raised-view : (t : Tag) → view cfg (raised s t) store ≡ finalised key v t
   unfolding view raised finalised
   raised-view t = refl
 
-  after-kept : serverKept cfg (view cfg (r .state) storeAfter) ≡ true
-  after-kept = elim (ℕ-discrete first 0) as (λ _. serverKept cfg (view cfg (r .state) storeAfter) ≡ true) [
+  after-within : serverWithin cfg (view cfg (r .state) storeAfter) ≡ true
+  after-within = elim (ℕ-discrete first 0) as (λ _. serverWithin cfg (view cfg (r .state) storeAfter) ≡ true) [
     | yes z ↦
-        ap (serverKept cfg) (post .view z)
-        ∙ step-kept cfg (held .valid .c-high) (serverNumber (s .me)) v v-kept m (tag-ok (λ x. omega arith) (λ x. omega arith))
-    | no nz ↦ elim (ℕ-discrete first 15) as (λ _. serverKept cfg (view cfg (r .state) storeAfter) ≡ true) [
+        ap (serverWithin cfg) (post .seen z)
+        ∙ step-within cfg (held .valid .c-high) (serverNumber (s .me)) v v-within m (tag-ok (λ x. omega arith) (λ x. omega arith))
+    | no nz ↦ elim (ℕ-discrete first 15) as (λ _. serverWithin cfg (view cfg (r .state) storeAfter) ≡ true) [
       | yes f ↦
           let e : r .state ≡ raised s (m .tag) = post .state nz ∙ ap (λ (b : Bool). cond b (raised s (m .tag)) s) (eq-eqb first 15 f) in
-          ap₂ {A = State} (λ (x : State) (l : List ℕ). serverKept cfg (view cfg x l)) e (post .store nz) ∙ ap (serverKept cfg) (raised-view (m .tag))
-          ∙ finalised-kept cfg (held .valid .c-high) (serverNumber (s .me)) v v-kept m (tag-ok (λ x. omega arith) (λ x. omega arith))
+          ap₂ {A = State} (λ (x : State) (l : List ℕ). serverWithin cfg (view cfg x l)) e (post .store nz) ∙ ap (serverWithin cfg) (raised-view (m .tag))
+          ∙ finalised-within cfg (held .valid .c-high) (serverNumber (s .me)) v v-within m (tag-ok (λ x. omega arith) (λ x. omega arith))
       | no nf ↦
           let e : r .state ≡ s = post .state nz ∙ ap (λ (b : Bool). cond b (raised s (m .tag)) s) (ne-eqb first 15 nf) in
-          ap₂ {A = State} (λ (x : State) (l : List ℕ). serverKept cfg (view cfg x l)) e (post .store nz) ∙ v-kept
+          ap₂ {A = State} (λ (x : State) (l : List ℕ). serverWithin cfg (view cfg x l)) e (post .store nz) ∙ v-within
     ]
   ]
 
-  pub step-held : Held cfg (r .state) storeAfter
-  step-held =
+  pub step-valid : ValidState cfg (r .state) storeAfter
+  step-valid =
       record {
         valid = held .valid;
-        kept =
-            kept-state cfg (r .state) storeAfter
-            (ap (λ (x : ServerNumber). within 1 (cfg .n) (serverNumber x)) (post .me) ∙ state-me cfg s (held .kept)) after-kept;
+        within =
+            within-state cfg (r .state) storeAfter
+            (ap (λ (x : ServerNumber). within 1 (cfg .n) (serverNumber x)) (post .me) ∙ state-me cfg s (held .within)) after-within;
         long = post .long ∙ held .long;
       }
 
@@ -193,7 +203,7 @@ module _ (cfg : Config) (s : State) (handed store answer storeAfter answerAfter 
   pub never-falls : key (s .highest) ≤ key (r .state .highest)
   never-falls = elim (ℕ-discrete first 0) as (λ _. key (s .highest) ≤ key (r .state .highest)) [
     | yes z ↦
-        let e : view cfg (r .state) storeAfter .highest ≡ outcome cfg s store m .server .highest = ap (λ (x : Server (List ℕ)). x .highest) (post .view z) in
+        let e : view cfg (r .state) storeAfter .highest ≡ outcome cfg s store m .server .highest = ap (λ (x : Server (List ℕ)). x .highest) (post .seen z) in
         omega (arith, highest-rises (cfg .d) (serverNumber (s .me)) v m, ap key e, ap key (view-highest (r .state) storeAfter), ap key (view-highest s store))
     | no nz ↦ elim (ℕ-discrete first 15) as (λ _. key (s .highest) ≤ key (r .state .highest)) [
       | yes f ↦
@@ -205,17 +215,39 @@ module _ (cfg : Config) (s : State) (handed store answer storeAfter answerAfter 
     ]
   ]
 
+-- Pre-write: what is sent is stored. After an accepted step the element of the tag is the one sent, unless the tag was stored, or at or
+-- below the floor, or is the smallest and becomes the floor.
+module _ (cfg : Config) (s : State) (handed store answer storeAfter answerAfter : List ℕ) (r : Stepped)
+    (post : StepPost cfg s handed store answer storeAfter answerAfter r) (accepted : verdictNumber (r .verdict) ≡ 0)
+    (kind : messageOf cfg handed .kind ≡ PreWrite) (element : List ℕ) (carried : messageOf cfg handed .element ≡ some element) where
+  abbrev written : Tag
+  written = messageOf cfg handed .tag
+
+  abbrev later : Server (List ℕ)
+  later = view cfg (r .state) storeAfter
+
+  stored-is : later ≡ stores key (cfg .d) (view cfg s store) (record { tag = written; element = element })
+  unfolding serverStep serverStepOf preWrite storeElement
+  stored-is = post .seen (sym (post .number) ∙ accepted) ∙ rw (kind, carried)
+
+  pub stores-what-is-sent : isStored key written (view cfg s store .stored) ≡ false → atOrBelowFloor key written (view cfg s store .floor) ≡ false
+      → (later .floor ≡ some written → ⊥) → elementOf key written (later .stored) ≡ some element
+  stores-what-is-sent new over other =
+      ⊎-elim (λ f. absurd (other f)) (λ h. h)
+      (subst (λ (w : Server (List ℕ)). (w .floor ≡ some written) ⊎ (elementOf key written (w .stored) ≡ some element)) (sym stored-is)
+      (sent-stored written element (view cfg s store) new (cfg .d) over))
+
 -- A step on the record of a message of the configuration, for this server and of a kind that it receives: it is the protocol's.
 pub record OnMessage (cfg : Config) (s : State) (m : Message (List ℕ)) (storeBefore answerBefore storeAfter answerAfter : List ℕ) (r : Stepped) : Type 0 where
   pub number : verdictNumber (r .verdict) ≡ cond (answers (outcome cfg s storeBefore m .answer)) 0 15
   pub me : r .state .me ≡ s .me
-  pub view : view cfg (r .state) storeAfter ≡ outcome cfg s storeBefore m .server
+  pub seen : view cfg (r .state) storeAfter ≡ outcome cfg s storeBefore m .server
   pub answer : answerAfter ≡ answerBytes cfg (outcome cfg s storeBefore m .answer) answerBefore
-  pub held : Held cfg (r .state) storeAfter
+  pub held : ValidState cfg (r .state) storeAfter
 
 -- without an answer H is raised, and nothing else
 module _ {Element : Type 0} (d s : ℕ) (v : Server Element) (m : Message Element) where
-  silent-by : (kind : Kind) → receives kind ≡ true → serverStepOf kind key d s v m .answer ≡ none → serverStepOf kind key d s v m .server ≡ finalised key v (m .tag)
+  silent-by : (kind : Kind) → isForServer kind ≡ true → serverStepOf kind key d s v m .answer ≡ none → serverStepOf kind key d s v m .server ≡ finalised key v (m .tag)
   unfolding serverStepOf query preWrite writeFinalise readFinalise
   silent-by Query k e = cc
   silent-by QueryAnswer k e = cc
@@ -226,11 +258,11 @@ module _ {Element : Type 0} (d s : ℕ) (v : Server Element) (m : Message Elemen
   silent-by ReadFinalise k e = refl
   silent-by ReadFinaliseAnswer k e = cc
 
-  pub silent-server : receives (m .kind) ≡ true → serverStep key d s v m .answer ≡ none → serverStep key d s v m .server ≡ finalised key v (m .tag)
+  pub silent-server : isForServer (m .kind) ≡ true → serverStep key d s v m .answer ≡ none → serverStep key d s v m .server ≡ finalised key v (m .tag)
   unfolding serverStep
   silent-server = silent-by (m .kind)
 
-module _ (cfg : Config) (s : State) (m : Message (List ℕ)) (store answer storeAfter answerAfter : List ℕ) (r : Stepped) (held : Held cfg s store)
+module _ (cfg : Config) (s : State) (m : Message (List ℕ)) (store answer storeAfter answerAfter : List ℕ) (r : Stepped) (held : ValidState cfg s store)
     (ok : ofConfig cfg m ≡ true) (mine : forServer (serverNumber (s .me)) m ≡ true) (eighty : length answer ≡ 80)
     (post : StepPost cfg s (recordOf cfg m) store answer storeAfter answerAfter r) where
   abbrev o : Served (List ℕ)
@@ -261,13 +293,13 @@ module _ (cfg : Config) (s : State) (m : Message (List ℕ)) (store answer store
       let some-number : _≡_ {A = ℕ} 15 0 → ⊥ = λ z. omega arith in (
         ap₂ {A = State} (λ (x : State) (l : List ℕ). view cfg x l) (p .state some-number) (p .store some-number)
             ∙ raised-view cfg s (recordOf cfg m) store answer storeAfter answerAfter r held post (m .tag)
-            ∙ sym (silent-server (cfg .d) (serverNumber (s .me)) (view cfg s store) m (and-right (eqb (m .server) (serverNumber (s .me))) (receives (m .kind)) mine) e),
+            ∙ sym (silent-server (cfg .d) (serverNumber (s .me)) (view cfg s store) m (and-right (eqb (m .server) (serverNumber (s .me))) (isForServer (m .kind)) mine) e),
         p .answer,
       )
   by-answer (some a) e =
       let p : Steps cfg s 0 m store answer storeAfter answerAfter r =
       subst (λ (x : Option (Message (List ℕ))). Steps cfg s (cond (answers x) 0 15) m store answer storeAfter answerAfter r) e steps in
-      (p .view refl, p .answer ∙ ap (λ (x : Option (Message (List ℕ))). answerBytes cfg x answer) e)
+      (p .seen refl, p .answer ∙ ap (λ (x : Option (Message (List ℕ))). answerBytes cfg x answer) e)
 
   pub on-message : OnMessage cfg s m store answer storeAfter answerAfter r
   on-message =
@@ -275,9 +307,9 @@ module _ (cfg : Config) (s : State) (m : Message (List ℕ)) (store answer store
       record {
         number = steps .number;
         me = post .me;
-        view = b .0;
+        seen = b .0;
         answer = b .1;
-        held = step-held cfg s (recordOf cfg m) store answer storeAfter answerAfter r held post;
+        held = step-valid cfg s (recordOf cfg m) store answer storeAfter answerAfter r held post;
       }
 
 -- No answer depends on the store's order, or on places that are not in use: two states of one server whose views differ in the order
@@ -285,10 +317,10 @@ module _ (cfg : Config) (s : State) (m : Message (List ℕ)) (store answer store
 pub record Alike (cfg : Config) (a b : Stepped) (storeA storeB answerA answerB : List ℕ) : Type 0 where
   pub number : verdictNumber (a .verdict) ≡ verdictNumber (b .verdict)
   pub answer : answerA ≡ answerB
-  pub view : verdictNumber (a .verdict) ≡ 0 → SameButOrder (view cfg (a .state) storeA) (view cfg (b .state) storeB)
+  pub seen : verdictNumber (a .verdict) ≡ 0 → SameButOrder (view cfg (a .state) storeA) (view cfg (b .state) storeB)
 
-module _ (cfg : Config) (s z : State) (handed answer storeS storeZ storeA storeB answerA answerB : List ℕ) (a b : Stepped) (heldS : Held cfg s storeS)
-    (heldZ : Held cfg z storeZ) (one : serverNumber (s .me) ≡ serverNumber (z .me)) (alike : SameButOrder (view cfg s storeS) (view cfg z storeZ))
+module _ (cfg : Config) (s z : State) (handed answer storeS storeZ storeA storeB answerA answerB : List ℕ) (a b : Stepped) (heldS : ValidState cfg s storeS)
+    (heldZ : ValidState cfg z storeZ) (one : serverNumber (s .me) ≡ serverNumber (z .me)) (alike : SameButOrder (view cfg s storeS) (view cfg z storeZ))
     (postA : StepPost cfg s handed storeS answer storeA answerA a) (postB : StepPost cfg z handed storeZ answer storeB answerB b) where
   abbrev got : Message (List ℕ)
   got = messageOf cfg handed
@@ -303,13 +335,13 @@ module _ (cfg : Config) (s z : State) (handed answer storeS storeZ storeA storeB
   module _ (ok : allowed (cfg .c) (got .tag) ≡ true) where
     answers-one : outcome cfg s storeS got .answer ≡ outcome cfg z storeZ got .answer
     answers-one =
-        answer-same cfg (heldS .valid .c-high) (view cfg s storeS) (view cfg z storeZ) (server-kept cfg s storeS (heldS .kept)) alike (serverNumber (s .me)) got ok
+        answer-same cfg (heldS .valid .c-high) (view cfg s storeS) (view cfg z storeZ) (server-within cfg s storeS (heldS .within)) alike (serverNumber (s .me)) got ok
         ∙ ap (λ (n : ℕ). serverStep key (cfg .d) n (view cfg z storeZ) got .answer) one
 
     servers-one : SameButOrder (outcome cfg s storeS got .server) (outcome cfg z storeZ got .server)
     servers-one =
         subst (λ (n : ℕ). SameButOrder (outcome cfg s storeS got .server) (serverStep key (cfg .d) n (view cfg z storeZ) got .server)) one
-        (server-same cfg (heldS .valid .c-high) (view cfg s storeS) (view cfg z storeZ) (server-kept cfg s storeS (heldS .kept)) alike (serverNumber (s .me)) got ok)
+        (server-same cfg (heldS .valid .c-high) (view cfg s storeS) (view cfg z storeZ) (server-within cfg s storeS (heldS .within)) alike (serverNumber (s .me)) got ok)
 
   -- the first question that is answered no is one
   later-one : (w : Bool) → wellFormed cfg handed ≡ w
@@ -349,8 +381,8 @@ module _ (cfg : Config) (s z : State) (handed answer storeS storeZ storeA storeB
       record {
         number = postA .number ∙ first-one ∙ sym (postB .number);
         answer = answer-one;
-        view =
+        seen =
             λ n.
             let e : firstS ≡ 0 = sym (postA .number) ∙ n in
-            subst₂ SameButOrder (sym (postA .view e)) (sym (postB .view (sym first-one ∙ e))) (servers-one (tag-of e));
+            subst₂ SameButOrder (sym (postA .seen e)) (sym (postB .seen (sym first-one ∙ e))) (servers-one (tag-of e));
       }

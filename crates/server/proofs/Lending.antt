@@ -1,51 +1,50 @@
 -- The element of a stored tag, as a part of the store. Assumes nothing.
-use mathlib.Core.Path.{_≡_, refl, sym, _∙_, ap}
-use mathlib.Core.Bool.{Bool, true, false, cond}
+use mathlib.Core.Path.{_≡_, sym, _∙_, ap}
 use mathlib.Core.List.{List, []}
 use mathlib.Core.Option.{Option, none, some}
 use Prim.Native.Nat.{ℕ, _+_, _-_, _*_, _≤_, _<_}
 use native.Mathlib.Nat.{mul-le-mul, mul-le-mul-right, zero-add}
 use native.Mathlib.Omega.{arith}
 use borrow.Author.Tests.{eq-eqb, ne-eqb}
-use lib.Dec.{eqb}
 use lib.ListN.{length, take, drop, length-drop, length-take}
 use Rattle.config.specs.declared.Config.{Config}
 use Rattle.config.specs.Questions.{firstNo}
 use Rattle.tag.specs.declared.Tag.{Tag}
-use Rattle.tag.specs.Tag.{allowed, key}
+use Rattle.tag.specs.Tag.{key}
 use Rattle.tag.proofs.Order.{Small}
 use Rattle.protocol.specs.Server.{elementOf}
 use Rattle.server.specs.declared.State.{State}
-use Rattle.server.specs.Calls.{LendPost, lendQuestions, lentBytes}
-use Rattle.server.specs.Inner.{Held, placeIn}
-use Rattle.server.specs.View.{elementAt, placeAt, tagAt, tagsUsed, view}
-use Rattle.server.proofs.Held.{state-allowed, state-count, state-eight}
+use Rattle.server.specs.Calls.{LendPost, lentBytes, stateQuestions}
+use Rattle.server.specs.Within.{ValidState}
+use Rattle.server.specs.inner.Places.{placeIn}
+use Rattle.server.specs.View.{elementAt, placeAt, tagsUsed, view}
+use Rattle.server.proofs.Limits.{state-allowed, state-count, state-eight}
 use Rattle.server.proofs.Lists.{element-found, element-missed}
 use Rattle.server.proofs.Put.{place-below}
 
-module _ (cfg : Config) (s : State) (t : Tag) (store : List ℕ) (held : Held cfg s store) (p : ℕ) where
+module _ (cfg : Config) (s : State) (t : Tag) (store : List ℕ) (held : ValidState cfg s store) (p : ℕ) where
   pub element-there : Small t → p ≡ placeIn t (tagsUsed s) → p < s .count → elementOf key t (view cfg s store .stored) ≡ some (elementAt cfg store p)
   unfolding view
   element-there st e h =
       let l : placeIn t (tagsUsed s) < s .count = omega arith in
-      element-found (cfg .c) (held .valid .c-high) (placeAt cfg (s .tags) store) t st 0 (s .count) (state-allowed cfg s (held .kept)) l
+      element-found (cfg .c) (held .valid .c-high) (placeAt cfg (s .tags) store) t st 0 (s .count) (state-allowed cfg s (held .within)) l
       ∙ ap {B = Option (List ℕ)} (λ j. some (elementAt cfg store j)) (zero-add (placeIn t (tagsUsed s)) ∙ sym e)
 
   pub element-nowhere : Small t → p ≡ placeIn t (tagsUsed s) → s .count ≤ p → elementOf key t (view cfg s store .stored) ≡ none
   unfolding view
   element-nowhere st e h =
       let l : s .count ≤ placeIn t (tagsUsed s) = omega arith in
-      element-missed (cfg .c) (held .valid .c-high) (placeAt cfg (s .tags) store) t st 0 (s .count) (state-allowed cfg s (held .kept)) l
+      element-missed (cfg .c) (held .valid .c-high) (placeAt cfg (s .tags) store) t st 0 (s .count) (state-allowed cfg s (held .within)) l
 
   -- its part lies in the store, and its offset is small
   pub part-fits : p < s .count → p * cfg .e + cfg .e ≤ length store
   part-fits h =
-      let m : s .count * cfg .e ≤ (cfg .d + 1) * cfg .e = mul-le-mul-right (cfg .e) (state-count cfg s (held .kept)) in
+      let m : s .count * cfg .e ≤ (cfg .d + 1) * cfg .e = mul-le-mul-right (cfg .e) (state-count cfg s (held .within)) in
       omega (arith, held .long, place-below p (s .count) (cfg .e) h)
 
   pub part-low : p < s .count → p * cfg .e + cfg .e ≤ 512
   part-low h =
-      let m : s .count * cfg .e ≤ 512 = mul-le-mul (state-eight cfg s (held .kept) (held .valid)) (held .valid .e-high) in
+      let m : s .count * cfg .e ≤ 512 = mul-le-mul (state-eight cfg s (held .within) (held .valid)) (held .valid .e-high) in
       omega (arith, place-below p (s .count) (cfg .e) h)
 
   pub part-is : take ((p * cfg .e + cfg .e) - p * cfg .e) (drop (p * cfg .e) store) ≡ elementAt cfg store p
@@ -57,12 +56,12 @@ module _ (cfg : Config) (s : State) (t : Tag) (store : List ℕ) (held : Held cf
   part-long h = length-take (cfg .e) (drop (p * cfg .e) store) ∙ omega (arith, length-drop (p * cfg .e) store, part-fits h)
 
 -- what is lent
-module _ (cfg : Config) (s : State) (t : Tag) (store : List ℕ) (told : ℕ) (asked : told ≡ firstNo (lendQuestions cfg s store)) where
+module _ (cfg : Config) (s : State) (t : Tag) (store : List ℕ) (told : ℕ) (asked : told ≡ firstNo (stateQuestions cfg s (length store))) where
   pub not-lent : (told ≡ 0 → ⊥) → LendPost cfg s t store [] told
   not-lent refuses =
       record {
         number = asked;
-        part = rw (ne-eqb (firstNo (lendQuestions cfg s store)) 0 (λ z. refuses (asked ∙ z)));
+        part = rw (ne-eqb (firstNo (stateQuestions cfg s (length store))) 0 (λ z. refuses (asked ∙ z)));
       }
 
   module _ (none-told : told ≡ 0) where
@@ -71,5 +70,5 @@ module _ (cfg : Config) (s : State) (t : Tag) (store : List ℕ) (told : ℕ) (a
     lent-part o part e h =
         record {
           number = asked;
-          part = h ∙ rw (eq-eqb (firstNo (lendQuestions cfg s store)) 0 (sym asked ∙ none-told), e);
+          part = h ∙ rw (eq-eqb (firstNo (stateQuestions cfg s (length store))) 0 (sym asked ∙ none-told), e);
         }

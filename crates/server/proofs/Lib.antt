@@ -1,20 +1,21 @@
-pub mod Answering
+mod Answering
 pub mod Asked
-pub mod Begin
-pub mod Each
-pub mod Figures
-pub mod Handed
-pub mod Held
+mod Begin
+mod Each
+mod Figures
+mod Handed
 pub mod Invariant
-pub mod Keep
-pub mod Keys
+mod Keep
+mod Keys
 pub mod Laws
-pub mod Lending
-pub mod Lists
-pub mod Order
-pub mod Put
-pub mod Received
-pub mod Spots
-pub mod Stepping
-pub mod Tags
-pub mod Views
+mod Lending
+pub mod Limits
+mod Lists
+mod Order
+mod Put
+mod Received
+mod Sent
+mod Spots
+mod Stepping
+mod Tags
+mod Views

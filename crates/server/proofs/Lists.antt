@@ -1,24 +1,22 @@
 -- Places, as the protocol's lists have them: where a tag stands, its element, the smallest, a place taken by another. Assumes nothing.
 use mathlib.Core.Path.{_≡_, refl, sym, _∙_, ap, ap₂}
-use mathlib.Core.Bool.{Bool, true, false, cond, not, _&&_, _||_, true≢false}
-use mathlib.Core.List.{List, [], _∷_, _++_}
-use mathlib.Core.Logic.{_⊎_, inl, inr}
+use mathlib.Core.Bool.{Bool, true, false, cond, not, _||_}
+use mathlib.Core.List.{List, _∷_}
 use mathlib.Core.Option.{Option, none, some}
 use Prim.Native.Nat.{ℕ, zero, suc, _+_, _-_, _≤_, _<_}
 use native.Mathlib.Decide.{ℕ-discrete}
 use native.Mathlib.Omega.{arith}
 use borrow.Author.Tests.{eq-eqb, eqb-false, ne-eqb, not-true}
 use lib.Dec.{eqb, ltb}
-use lib.ListN.{length}
 use Rattle.laws.proofs.Bools.{and-left, and-right}
 use Rattle.tag.specs.declared.Tag.{Tag}
 use Rattle.tag.specs.Tag.{above, allowed, key, same}
 use Rattle.tag.proofs.Order.{Small}
-use Rattle.protocol.specs.Server.{Stored, elementOf, inPlaceOf, isStored, others, smallest}
+use Rattle.protocol.specs.Server.{Stored, elementOf, inPlaceOf, isStored, smallest}
 use Rattle.protocol.specs.Tags.{lower}
 use Rattle.server.specs.declared.places.Least.{Least}
-use Rattle.server.specs.Inner.{leastFrom, placeIn}
-use Rattle.server.specs.Kept.{among, every, once}
+use Rattle.server.specs.inner.Places.{leastFrom, placeIn}
+use Rattle.server.specs.Within.{among, every, once}
 use Rattle.server.specs.View.{each}
 use Rattle.server.proofs.Each.{among-at, each-same, every-at}
 use Rattle.server.proofs.Keys.{above-ltb, same-eqb, small}

@@ -5,10 +5,10 @@ use mathlib.Core.Bool.{Bool, true, false, cond, not, _&&_, _||_, true≢false}
 use mathlib.Core.List.{List, [], _∷_, _++_}
 use mathlib.Core.Logic.{⊎-elim}
 use mathlib.Core.Option.{Option, none, some}
-use Prim.Native.Nat.{ℕ, zero, suc, _+_, _≤_, _<_, min}
+use Prim.Native.Nat.{ℕ, suc, _+_, _≤_, min}
 use native.Mathlib.Omega.{arith}
 use borrow.Author.Tests.{eqb-true, ltb-false, ltb-true, not-true}
-use lib.Dec.{eqb, leb, ltb}
+use lib.Dec.{eqb, ltb}
 use lib.ListN.{length}
 use Rattle.config.specs.declared.Config.{Config}
 use Rattle.laws.proofs.Bools.{and-left, and-right}
@@ -18,14 +18,13 @@ use Rattle.tag.proofs.Order.{Small, key-one, same-self}
 use Rattle.record.specs.declared.Kind.{Kind}
 use Rattle.record.specs.declared.Kind.the-variants.{Query, QueryAnswer, PreWrite, PreWriteAnswer, WriteFinalise, WriteFinaliseAnswer, ReadFinalise, ReadFinaliseAnswer}
 use Rattle.record.specs.Message.{Message}
-use Rattle.record.specs.Record.{all}
-use Rattle.protocol.specs.Server.{Server, Served, Stored, addLast, answerTo, atOrBelowFloor, dropSmallest, elementOf, finalised, inPlaceOf, isStored, others, preWrite, query, readAnswer, readFinalise, serverStep, serverStepOf, smallest, store, storeElement, writeFinalise}
+use Rattle.protocol.specs.Server.{Server, Stored, addLast, answerTo, atOrBelowFloor, dropSmallest, elementOf, finalised, inPlaceOf, isStored, others, preWrite, query, readAnswer, readFinalise, serverStep, serverStepOf, smallest, store, storeElement, writeFinalise}
 use Rattle.protocol.specs.Tags.{higher, lower}
-use Rattle.server.specs.Kept.{among, every, floorKept, kept, once, serverKept, tagsOf}
+use Rattle.server.specs.Within.{among, every, floorWithin, tagsWithin, once, serverWithin, tagsOf}
 use Rattle.server.specs.Order.{Reordered, SameButOrder, next, swap, then}
 use Rattle.server.proofs.Each.{or-left}
-use Rattle.server.proofs.Held.{kept-allowed, kept-once}
-use Rattle.server.proofs.Invariant.{tags-long, tags-smallest}
+use Rattle.server.proofs.Limits.{within-allowed, within-once}
+use Rattle.server.proofs.Invariant.{tags-smallest}
 use Rattle.server.proofs.Keys.{small}
 use Rattle.server.proofs.Tags.{every-in, lowest-in, lowestOf, same-turned}
 
@@ -103,15 +102,15 @@ once-reordered (swap {x = x} {y = y} {xs = zs}) =
     once-swap (same y x) (among x zs) (among y zs) (once zs) ∙ ap (λ (b : Bool). not (b || among y zs) && (not (among x zs) && once zs)) (same-same y x)
 once-reordered (then r q) = once-reordered r ∙ once-reordered q
 
-floor-reordered : (cfg : Config) (f : Option Tag) {ts us : List Tag} → Reordered ts us → floorKept cfg f ts ≡ floorKept cfg f us
-unfolding floorKept
+floor-reordered : (cfg : Config) (f : Option Tag) {ts us : List Tag} → Reordered ts us → floorWithin cfg f ts ≡ floorWithin cfg f us
+unfolding floorWithin
 floor-reordered cfg none r = refl
 floor-reordered cfg (some f) r =
     ap₂ {A = ℕ} (λ (n : ℕ) (b : Bool). allowed (cfg .c) f && eqb n (cfg .d + 1) && b) (reordered-long r) (every-reordered (λ (x : Tag). above x f) r)
 
-pub kept-reordered : (cfg : Config) (h : Tag) (f : Option Tag) {ts us : List Tag} → Reordered ts us → kept cfg h f ts ≡ kept cfg h f us
-unfolding kept
-kept-reordered cfg h f r =
+pub within-reordered : (cfg : Config) (h : Tag) (f : Option Tag) {ts us : List Tag} → Reordered ts us → tagsWithin cfg h f ts ≡ tagsWithin cfg h f us
+unfolding tagsWithin
+within-reordered cfg h f r =
     rw (reordered-long r, every-reordered (allowed (cfg .c)) r, once-reordered r, floor-reordered cfg f r)
 
 -- two tags of a list that has each once
@@ -214,14 +213,14 @@ low-reordered n (swap {x = x} {y = y} {xs = zs}) =
 low-reordered n (then r q) = low-reordered n r ∙ low-reordered n q
 
 -- Two servers that differ in the order alone, of which the one is within question 6.
-module _ {Element : Type 0} (cfg : Config) (high : cfg .c ≤ 16) (v w : Server Element) (k : serverKept cfg v ≡ true) (r : SameButOrder v w) where
+module _ {Element : Type 0} (cfg : Config) (high : cfg .c ≤ 16) (v w : Server Element) (k : serverWithin cfg v ≡ true) (r : SameButOrder v w) where
   tags-allowed : every (allowed (cfg .c)) (tagsOf (v .stored)) ≡ true
-  unfolding serverKept
-  tags-allowed = kept-allowed cfg (v .highest) (v .floor) (tagsOf (v .stored)) k
+  unfolding serverWithin
+  tags-allowed = within-allowed cfg (v .highest) (v .floor) (tagsOf (v .stored)) k
 
   tags-once : once (tagsOf (v .stored)) ≡ true
-  unfolding serverKept
-  tags-once = kept-once cfg (v .highest) (v .floor) (tagsOf (v .stored)) k
+  unfolding serverWithin
+  tags-once = within-once cfg (v .highest) (v .floor) (tagsOf (v .stored)) k
 
   pub element-same : (t : Tag) → elementOf key t (v .stored) ≡ elementOf key t (w .stored)
   element-same t = element-reordered (cfg .c) high t (r .stored) tags-allowed tags-once

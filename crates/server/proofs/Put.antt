@@ -1,12 +1,12 @@
 -- Bytes with others put in their midst: those put, those before, those after. Assumes nothing.
-use mathlib.Core.Path.{_≡_, refl, sym, _∙_, ap, ap₂}
-use mathlib.Core.List.{List, [], _∷_, _++_, append-nil}
-use Prim.Native.Nat.{ℕ, zero, suc, _+_, _-_, _*_, _≤_, _<_}
+use mathlib.Core.Path.{_≡_, sym, _∙_, ap, ap₂}
+use mathlib.Core.List.{List, _++_, append-nil}
+use Prim.Native.Nat.{ℕ, _+_, _-_, _*_, _≤_, _<_}
 use native.Mathlib.Nat.{mul-le-mul-right}
 use native.Mathlib.Omega.{arith}
 use lib.ListN.{length, take, drop, length-append, length-take, length-drop, take-append-drop, drop-of-length-le}
 use lib.Seq.{length-take-le, take-at, drop-at, drop-append-add, drop-append-le, drop-drop, take-append-le, take-length}
-use Rattle.server.specs.Inner.{putAt}
+use Rattle.server.specs.inner.Places.{putAt}
 
 module _ (a e : ℕ) (new bs : List ℕ) (sized : length new ≡ e) (fits : a + e ≤ length bs) where
   front : length (take a bs) ≡ a

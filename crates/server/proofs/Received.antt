@@ -1,35 +1,34 @@
 -- Of the tags received the D + 1 highest are stored, and the floor, if any, is the highest dropped. Assumes nothing.
 use mathlib.Core.Path.{_≡_, refl, sym, _∙_, ap}
-use mathlib.Core.Bool.{Bool, true, false, cond, not, _&&_, _||_, true≢false}
-use mathlib.Core.List.{List, [], _∷_, _++_}
+use mathlib.Core.Bool.{true, false, _&&_, _||_, true≢false}
+use mathlib.Core.List.{List, [], _∷_}
 use mathlib.Core.Logic.{_⊎_, inl, inr, ⊎-elim}
 use mathlib.Core.Option.{Option, none, some}
 use Prim.Native.Nat.{ℕ, _+_, _≤_, _<_}
 use native.Mathlib.Decide.{ℕ-discrete}
 use native.Mathlib.Omega.{arith}
 use borrow.Author.Tests.{eqb-true, le-leb, leb-false, leb-true}
-use lib.Dec.{eqb, leb}
+use lib.Dec.{eqb}
 use lib.ListN.{length}
 use Rattle.config.specs.declared.Config.{Config}
 use Rattle.laws.proofs.Bools.{and-left, and-right}
 use Rattle.tag.specs.declared.Tag.{Tag}
 use Rattle.tag.specs.Tag.{above, allowed, key, same, start}
-use Rattle.tag.proofs.Order.{Small, above-key, above-not-self, key-above, not-above, same-one, same-self}
+use Rattle.tag.proofs.Order.{Small, above-key, above-not-self, key-above, same-one, same-self}
 use Rattle.record.specs.declared.Kind.{Kind}
 use Rattle.record.specs.declared.Kind.the-variants.{Query, QueryAnswer, PreWrite, PreWriteAnswer, WriteFinalise, WriteFinaliseAnswer, ReadFinalise, ReadFinaliseAnswer}
 use Rattle.record.specs.Message.{Message}
 use Rattle.protocol.specs.Server.{Server, Stored, addLast, atOrBelowFloor, finalised, freshServer, inPlaceOf, preWrite, query, readFinalise, serverStep, serverStepOf, store, storeElement, writeFinalise}
-use Rattle.protocol.specs.Tags.{startingTag}
-use Rattle.server.specs.Kept.{among, every, floorKept, kept, serverKept, tagsOf}
+use Rattle.server.specs.Within.{among, every, floorWithin, tagsWithin, serverWithin, tagsOf}
 use Rattle.server.specs.Received.{Highest, eachAllowed, holds, receive, receivedAfter, serverAfter, withTag}
-use Rattle.server.proofs.Held.{kept-allowed, kept-floor}
-use Rattle.server.proofs.Invariant.{finalised-kept, floored, fresh-kept, step-kept, store-cases, store-kept, tags-last, tags-long, tags-replaced}
+use Rattle.server.proofs.Limits.{within-allowed, within-floor}
+use Rattle.server.proofs.Invariant.{finalised-within, floored, fresh-within, store-cases, store-within, tags-last, tags-long, tags-replaced}
 use Rattle.server.proofs.Keys.{small}
-use Rattle.server.proofs.Tags.{among-last, both, every-in, lowest-first, lowest-in, lowestOf, not-in, or-first, or-second, or-true, replaced, replaced-in, replaced-keeps, replaced-new}
+use Rattle.server.proofs.Tags.{among-last, both, every-in, lowest-in, lowestOf, not-in, or-first, or-second, or-true, replaced, replaced-in, replaced-keeps, replaced-new}
 
 -- what holds along a run
 pub record Knows {Element : Type 0} (cfg : Config) (received : List Tag) (v : Server Element) : Type 0 where
-  pub kept : serverKept cfg v ≡ true
+  pub within : serverWithin cfg v ≡ true
   pub allowed : every (allowed (cfg .c)) received ≡ true
   pub stored : (t : Tag) → holds v t ≡ true → among t received ≡ true
   pub known : (t : Tag) → among t received ≡ true → (holds v t || atOrBelowFloor key t (v .floor)) ≡ true
@@ -55,21 +54,21 @@ one-some f g e = cc
 no-floor : (f : Tag) → none ≡ some f → ⊥
 no-floor f e = let z : _≡_ {A = ℕ} 0 1 = cc in omega arith
 
--- a kept floor: the stored tags are above it
-module _ (cfg : Config) (high : cfg .c ≤ 16) (f : Tag) (ts : List Tag) (all : every (allowed (cfg .c)) ts ≡ true) (h : floorKept cfg (some f) ts ≡ true) where
+-- a floor within its limits: the stored tags are above it
+module _ (cfg : Config) (high : cfg .c ≤ 16) (f : Tag) (ts : List Tag) (all : every (allowed (cfg .c)) ts ≡ true) (h : floorWithin cfg (some f) ts ≡ true) where
   pub floor-allowed : allowed (cfg .c) f ≡ true
-  unfolding floorKept
+  unfolding floorWithin
   floor-allowed =
       and-left (allowed (cfg .c) f) (eqb (length ts) (cfg .d + 1)) (and-left (allowed (cfg .c) f && eqb (length ts) (cfg .d + 1)) (every (λ (x : Tag). above x f) ts) h)
 
   pub floor-count : length ts ≡ cfg .d + 1
-  unfolding floorKept
+  unfolding floorWithin
   floor-count =
       eqb-true (length ts) (cfg .d + 1)
       (and-right (allowed (cfg .c) f) (eqb (length ts) (cfg .d + 1)) (and-left (allowed (cfg .c) f && eqb (length ts) (cfg .d + 1)) (every (λ (x : Tag). above x f) ts) h))
 
   pub floor-above : (x : Tag) → among x ts ≡ true → above x f ≡ true
-  unfolding floorKept
+  unfolding floorWithin
   floor-above x i =
       every-in (λ (y : Tag). above y f) ts x (and-right (allowed (cfg .c) f && eqb (length ts) (cfg .d + 1)) (every (λ (x : Tag). above x f) ts) h) i
 
@@ -88,19 +87,19 @@ module _ {Element : Type 0} (cfg : Config) (high : cfg .c ≤ 16) (received : Li
   abbrev u : Tag
   u = lowestOf t ts
 
-  its-kept : kept cfg (v .highest) (v .floor) ts ≡ true
-  unfolding serverKept
-  its-kept = k .kept
+  its-within : tagsWithin cfg (v .highest) (v .floor) ts ≡ true
+  unfolding serverWithin
+  its-within = k .within
 
   all-allowed : every (allowed (cfg .c)) ts ≡ true
-  all-allowed = kept-allowed cfg (v .highest) (v .floor) ts its-kept
+  all-allowed = within-allowed cfg (v .highest) (v .floor) ts its-within
 
   now-allowed : every (allowed (cfg .c)) (t ∷ received) ≡ true
   unfolding every
   now-allowed = both (allowed (cfg .c) t) (every (allowed (cfg .c)) received) ok (k .allowed)
 
   -- what is at or below the old floor is at or below the lowest
-  below-low : (f : Option Tag) → floorKept cfg f ts ≡ true → (x : Tag) → atOrBelowFloor key x f ≡ true → atOrBelowFloor key t f ≡ false → key x ≤ key u
+  below-low : (f : Option Tag) → floorWithin cfg f ts ≡ true → (x : Tag) → atOrBelowFloor key x f ≡ true → atOrBelowFloor key t f ≡ false → key x ≤ key u
   unfolding atOrBelowFloor
   below-low none h x b c = absurd (true≢false (sym b))
   below-low (some f) h x b c =
@@ -112,7 +111,7 @@ module _ {Element : Type 0} (cfg : Config) (high : cfg .c ≤ 16) (received : Li
   with-same : (among t ts || atOrBelowFloor key t (v .floor)) ≡ true → Knows cfg (t ∷ received) v
   with-same e =
       record {
-        kept = k .kept;
+        within = k .within;
         allowed = now-allowed;
         stored = λ x h. further t x received (k .stored x h);
         known =
@@ -128,10 +127,10 @@ module _ {Element : Type 0} (cfg : Config) (high : cfg .c ≤ 16) (received : Li
   unfolding addLast
   last-floor = refl
 
-  with-room : serverKept cfg (addLast v y) ≡ true → Knows cfg (t ∷ received) (addLast v y)
+  with-room : serverWithin cfg (addLast v y) ≡ true → Knows cfg (t ∷ received) (addLast v y)
   with-room q =
       record {
-        kept = q;
+        within = q;
         allowed = now-allowed;
         stored =
             λ x h.
@@ -162,11 +161,11 @@ module _ {Element : Type 0} (cfg : Config) (high : cfg .c ≤ 16) (received : Li
   unfolding atOrBelowFloor
   below-some x h = le-leb (key x) (key u) h
 
-  with-itself : among t ts ≡ false → atOrBelowFloor key t (v .floor) ≡ false → key u ≡ key t → serverKept cfg (floored cfg high v (k .kept) y ok u (v .stored)) ≡ true
-      → Knows cfg (t ∷ received) (floored cfg high v (k .kept) y ok u (v .stored))
+  with-itself : among t ts ≡ false → atOrBelowFloor key t (v .floor) ≡ false → key u ≡ key t → serverWithin cfg (floored cfg high v (k .within) y ok u (v .stored)) ≡ true
+      → Knows cfg (t ∷ received) (floored cfg high v (k .within) y ok u (v .stored))
   with-itself a f e q =
       record {
-        kept = q;
+        within = q;
         allowed = now-allowed;
         stored = λ x h. further t x received (k .stored x h);
         known =
@@ -175,7 +174,7 @@ module _ {Element : Type 0} (cfg : Config) (high : cfg .c ≤ 16) (received : Li
             ⊎-elim (λ w. or-second (among x ts) b (below-some x (omega (arith, ap key w))))
             (λ w.
             ⊎-elim (λ i. or-first (among x ts) b i)
-            (λ i. or-second (among x ts) b (below-some x (below-low (v .floor) (kept-floor cfg (v .highest) (v .floor) ts its-kept) x i f)))
+            (λ i. or-second (among x ts) b (below-some x (below-low (v .floor) (within-floor cfg (v .highest) (v .floor) ts its-within) x i f)))
             (or-true (among x ts) (atOrBelowFloor key x (v .floor)) (k .known x w)))
             (at-front t x received h);
         floor = low-floor;
@@ -197,11 +196,11 @@ module _ {Element : Type 0} (cfg : Config) (high : cfg .c ≤ 16) (received : Li
       | no n ↦ or-first (among x (tagsOf xs)) (atOrBelowFloor key x (some u)) (taken-holds x ∙ replaced-keeps u t x ts n i)
     ]
 
-    with-another : atOrBelowFloor key t (v .floor) ≡ false → serverKept cfg (floored cfg high v (k .kept) y ok u xs) ≡ true
-        → Knows cfg (t ∷ received) (floored cfg high v (k .kept) y ok u xs)
+    with-another : atOrBelowFloor key t (v .floor) ≡ false → serverWithin cfg (floored cfg high v (k .within) y ok u xs) ≡ true
+        → Knows cfg (t ∷ received) (floored cfg high v (k .within) y ok u xs)
     with-another f q =
         record {
-          kept = q;
+          within = q;
           allowed = now-allowed;
           stored =
               λ x h.
@@ -214,7 +213,7 @@ module _ {Element : Type 0} (cfg : Config) (high : cfg .c ≤ 16) (received : Li
               (λ w. or-first (among x (tagsOf xs)) b (taken-holds x ∙ ap (λ (z : Tag). among z (replaced u t ts)) (sym w) ∙ replaced-new u t ts low-stored))
               (λ w.
               ⊎-elim (λ i. still x i)
-              (λ i. or-second (among x (tagsOf xs)) b (below-some x (below-low (v .floor) (kept-floor cfg (v .highest) (v .floor) ts its-kept) x i f)))
+              (λ i. or-second (among x (tagsOf xs)) b (below-some x (below-low (v .floor) (within-floor cfg (v .highest) (v .floor) ts its-within) x i f)))
               (or-true (among x ts) (atOrBelowFloor key x (v .floor)) (k .known x w)))
               (at-front t x received h);
           floor = low-floor;
@@ -222,15 +221,15 @@ module _ {Element : Type 0} (cfg : Config) (high : cfg .c ≤ 16) (received : Li
 
   pub store-knows : Knows cfg (t ∷ received) (store key (cfg .d) v y)
   store-knows =
-      store-cases cfg high v (k .kept) y ok (λ w. serverKept cfg w ≡ true → Knows cfg (t ∷ received) w) (λ e _. with-same e) (λ a f lt q. with-room q)
-      (λ a f n e q. with-itself a f e q) (λ a f n ne q. with-another ne f q) (store-kept cfg high v (k .kept) y ok)
+      store-cases cfg high v (k .within) y ok (λ w. serverWithin cfg w ≡ true → Knows cfg (t ∷ received) w) (λ e _. with-same e) (λ a f lt q. with-room q)
+      (λ a f n e q. with-itself a f e q) (λ a f n ne q. with-another ne f q) (store-within cfg high v (k .within) y ok)
 
 -- a step
 module _ {Element : Type 0} (cfg : Config) (high : cfg .c ≤ 16) (s : ℕ) (received : List Tag) (v : Server Element) (k : Knows cfg received v)
     (m : Message Element) (ok : allowed (cfg .c) (m .tag) ≡ true) where
-  finalised-knows : serverKept cfg (finalised key v (m .tag)) ≡ true → Knows cfg received (finalised key v (m .tag))
+  finalised-knows : serverWithin cfg (finalised key v (m .tag)) ≡ true → Knows cfg received (finalised key v (m .tag))
   unfolding finalised
-  finalised-knows q = record { kept = q; allowed = k .allowed; stored = k .stored; known = k .known; floor = k .floor }
+  finalised-knows q = record { within = q; allowed = k .allowed; stored = k .stored; known = k .known; floor = k .floor }
 
   element-knows : (e : Option Element) → Knows cfg (withTag PreWrite (m .tag) e received) (storeElement key (cfg .d) v (m .tag) e)
   unfolding storeElement
@@ -243,9 +242,9 @@ module _ {Element : Type 0} (cfg : Config) (high : cfg .c ≤ 16) (s : ℕ) (rec
   by-kind QueryAnswer = k
   by-kind PreWrite = element-knows (m .element)
   by-kind PreWriteAnswer = k
-  by-kind WriteFinalise = finalised-knows (finalised-kept cfg high s v (k .kept) m ok)
+  by-kind WriteFinalise = finalised-knows (finalised-within cfg high s v (k .within) m ok)
   by-kind WriteFinaliseAnswer = k
-  by-kind ReadFinalise = finalised-knows (finalised-kept cfg high s v (k .kept) m ok)
+  by-kind ReadFinalise = finalised-knows (finalised-within cfg high s v (k .within) m ok)
   by-kind ReadFinaliseAnswer = k
 
   pub step-knows : Knows cfg (receive m received) (serverStep key (cfg .d) s v m .server)
@@ -264,10 +263,10 @@ run-knows cfg high s received v k (m ∷ ms) ok =
 
 -- it starts with the starting board's element
 pub fresh-knows : {Element : Type 0} (cfg : Config) (e : Element) → Knows cfg (start ∷ []) (freshServer e)
-unfolding freshServer startingTag tagsOf every
+unfolding freshServer tagsOf every
 fresh-knows cfg e =
     record {
-      kept = fresh-kept cfg e;
+      within = fresh-within cfg e;
       allowed = refl;
       stored = λ t h. h;
       known = λ t h. or-first (among t (start ∷ [])) (atOrBelowFloor key t none) h;
@@ -279,15 +278,15 @@ module _ {Element : Type 0} (cfg : Config) (high : cfg .c ≤ 16) (received : Li
   abbrev held : List Tag
   held = tagsOf (v .stored)
 
-  kept-of : kept cfg (v .highest) (v .floor) held ≡ true
-  unfolding serverKept
-  kept-of = k .kept
+  within-of : tagsWithin cfg (v .highest) (v .floor) held ≡ true
+  unfolding serverWithin
+  within-of = k .within
 
-  floor-of : (f : Tag) → v .floor ≡ some f → floorKept cfg (some f) held ≡ true
-  floor-of f e = ap (λ (o : Option Tag). floorKept cfg o held) (sym e) ∙ kept-floor cfg (v .highest) (v .floor) held kept-of
+  floor-of : (f : Tag) → v .floor ≡ some f → floorWithin cfg (some f) held ≡ true
+  floor-of f e = ap (λ (o : Option Tag). floorWithin cfg o held) (sym e) ∙ within-floor cfg (v .highest) (v .floor) held within-of
 
   allowed-of : every (allowed (cfg .c)) held ≡ true
-  allowed-of = kept-allowed cfg (v .highest) (v .floor) held kept-of
+  allowed-of = within-allowed cfg (v .highest) (v .floor) held within-of
 
   small-of : (t : Tag) → among t received ≡ true → Small t
   small-of t h = small (cfg .c) t high (every-in (allowed (cfg .c)) received t (k .allowed) h)

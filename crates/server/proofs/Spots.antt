@@ -16,8 +16,8 @@ use Rattle.laws.proofs.Xor.{by-digit}
 use Rattle.tag.specs.declared.Tag.{Tag}
 use Rattle.tag.specs.Tag.{allowed, same}
 use Rattle.tag.proofs.Order.{same-one}
-use Rattle.server.specs.Inner.{Risen, Spread, overFloor, spotOf}
-use Rattle.server.specs.Kept.{among, every, once}
+use Rattle.server.specs.inner.Spread.{RisenPost, SpreadPost, overFloor, spotOf}
+use Rattle.server.specs.Within.{among, every, once}
 use Rattle.server.specs.View.{each}
 use Rattle.server.proofs.Each.{every-yes, once-yes}
 
@@ -60,7 +60,7 @@ one-bit s h = shl-exact {a = 1} 1 s 64 (lit< tt) (omega arith) ∙ one-mul (2 ^ 
 
 -- ---- a no
 
-pub spread-no : (clients : ℕ) (floor : Option Tag) (ts : List Tag) → Spread clients floor ts false
+pub spread-no : (clients : ℕ) (floor : Option Tag) (ts : List Tag) → SpreadPost clients floor ts false
 spread-no clients floor ts =
     record { limits = λ e. absurd (true≢false (sym e)); over = λ e. absurd (true≢false (sym e)); differ = λ e. absurd (true≢false (sym e)) }
 
@@ -123,10 +123,10 @@ module _ (clients : ℕ) (floor : Option Tag) (f : ℕ → Tag) where
             ∙ stays-marked x (2 ^ spotOf (f i)) rest (s .3),
       )
 
-  pub seen-all : (x i n : ℕ) → i ≡ 0 → Seen clients floor f x i n → (r : Bool) → Spread clients floor (each f 0 n) r
+  pub seen-all : (x i n : ℕ) → i ≡ 0 → Seen clients floor f x i n → (r : Bool) → SpreadPost clients floor (each f 0 n) r
   seen-all x i n e s r =
       let same : each f i (n - i) ≡ each f 0 n = rw (e, sub-zero n) in
-      subst (λ (ts : List Tag). Spread clients floor ts r) same (record { limits = λ _. s .0; over = λ _. s .1; differ = λ _. s .2 })
+      subst (λ (ts : List Tag). SpreadPost clients floor ts r) same (record { limits = λ _. s .0; over = λ _. s .1; differ = λ _. s .2 })
 
 -- ---- a tag with a higher rank than the floor's
 
@@ -177,5 +177,5 @@ module _ (clients low : ℕ) (f : ℕ → Tag) where
       (rank-fits clients low g t few sixteen h higher-rank (within .0) (within .1))
       (λ z. new (sym (ap (λ (m : ℕ). bitOr x m) bit ∙ z))))
 
-  pub over-all : (x i n : ℕ) → i ≡ 0 → SeenOver clients low f x i n → (r : Bool) → Risen clients low (each f 0 n) r
+  pub over-all : (x i n : ℕ) → i ≡ 0 → SeenOver clients low f x i n → (r : Bool) → RisenPost clients low (each f 0 n) r
   over-all x i n e s r g h = seen-all clients (some g) f x i n e (s g h) r

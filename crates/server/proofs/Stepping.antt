@@ -1,48 +1,52 @@
 -- What a step leaves, by the question that decides or by the kind of request. Assumes nothing.
 use mathlib.Core.Path.{_≡_, refl, sym, _∙_, ap, subst₂}
 use mathlib.Core.Bool.{Bool, true, false, cond, _&&_}
-use mathlib.Core.List.{List, [], _∷_, _++_}
+use mathlib.Core.List.{List}
 use mathlib.Core.Option.{Option, none, some}
-use Prim.Native.Nat.{ℕ, _+_, _≤_}
+use Prim.Native.Nat.{ℕ, _≤_}
 use native.Mathlib.Omega.{arith}
 use borrow.Author.Tests.{eq-eqb, le-leb, ne-eqb}
 use lib.Dec.{eqb, leb}
 use lib.ListN.{length, getD}
 use Rattle.config.specs.declared.Config.{Config}
+use Rattle.config.specs.declared.Refusal.{Refusal}
+use Rattle.config.specs.declared.Refusal.the-variants.{Misdirected}
 use Rattle.config.specs.declared.Server.{Server as ServerNumber}
-use Rattle.config.specs.declared.Verdict.{Verdict}
-use Rattle.config.specs.Config.{Valid, questions}
+use Rattle.config.specs.Config.{questions, storeLength}
 use Rattle.config.specs.Number.{clientNumber, serverNumber}
-use Rattle.config.specs.Questions.{ask, firstNo, within}
-use Rattle.config.specs.Refusal.{verdictNumber}
-use Rattle.tag.specs.declared.Tag.{Tag}
+use Rattle.config.specs.Questions.{firstNo, within}
+use Rattle.config.specs.Refusal.{refusalNumber, verdictNumber}
+use Rattle.config.proofs.Refusals.{refusal-low}
 use Rattle.tag.specs.Tag.{allowed, key}
 use Rattle.record.specs.declared.Header.{Header}
 use Rattle.record.specs.declared.Kind.{Kind}
-use Rattle.record.specs.declared.Kind.the-variants.{Query, QueryAnswer, PreWrite, PreWriteAnswer, WriteFinalise, WriteFinaliseAnswer, ReadFinalise, ReadFinaliseAnswer}
+use Rattle.record.specs.declared.Kind.the-variants.{Query, QueryAnswer, PreWrite, PreWriteAnswer, WriteFinalise, WriteFinaliseAnswer, ReadFinalise}
 use Rattle.record.specs.Calls.{withElement}
+use Rattle.record.specs.Kinds.{isForServer}
 use Rattle.record.specs.Message.{Message}
-use Rattle.record.specs.Record.{all, elementAt as elementIn, highestNumber, isPresent, kindNumber, messageClauses, ofConfig, ownTag, presence, recordOf, sized}
+use Rattle.record.specs.Record.{elementIn, highestNumber, isPresent, kindNumber, messageClauses, ofConfig, ownTag, presence, recordOf}
 use Rattle.record.proofs.Clauses.{all-at}
 use Rattle.protocol.specs.Server.{Served, answerTo, elementOf, finalised, preWrite, query, readAnswer, readFinalise, serverStep, serverStepOf, storeElement, writeFinalise}
 use Rattle.server.specs.declared.State.{State}
 use Rattle.server.specs.declared.Stepped.{Stepped}
-use Rattle.server.specs.Calls.{Steps, answerBytes, answers, outcome, raised, receives, stateQuestions, stays, storeLength}
-use Rattle.server.specs.Inner.{Finalised, Finalising, Keeping, Keeps, Replied, Replying, Request, readAnswered, reply, requestNumber}
-use Rattle.server.specs.Kept.{stateKept}
+use Rattle.server.specs.Calls.{Steps, answerBytes, answers, outcome, raised, stateQuestions}
+use Rattle.server.specs.inner.Keep.{KeepPost}
+use Rattle.server.specs.inner.Serve.{ReadFinalisePost, ReadFinalisePre, RespondPost, RespondPre, RequestPre, readAnswered, reply, requestNumber, unchanged}
+use Rattle.server.specs.Within.{stateWithin}
 use Rattle.server.specs.View.{view}
 use Rattle.server.proofs.Answering.{reply-of-config}
-use Rattle.server.proofs.Held.{state-highest, state-me}
+use Rattle.server.proofs.Limits.{state-highest, state-me}
 
 -- refused, but not by 15: all holds
-pub steps-refused : (cfg : Config) (s : State) (n : ℕ) (m : Message (List ℕ)) (store answer : List ℕ) (r : Stepped) → (n ≡ 0 → ⊥) → (n ≡ 15 → ⊥)
-    → verdictNumber (r .verdict) ≡ n → r .state ≡ s → Steps cfg s n m store answer store answer r
-steps-refused cfg s n m store answer r refuses other v e =
+pub steps-refused : (cfg : Config) (s : State) (n : ℕ) (m : Message (List ℕ)) (store answer : List ℕ) (r : Stepped) (why : Refusal)
+    → r ≡ unchanged s why → refusalNumber why ≡ n → (n ≡ 15 → ⊥) → Steps cfg s n m store answer store answer r
+steps-refused cfg s n m store answer r why e v other =
+    let refuses : n ≡ 0 → ⊥ = λ z. omega (arith, refusal-low why) in
     record {
-      number = v;
-      me = ap (λ (x : State). x .me) e;
-      view = λ z. absurd (refuses z);
-      state = λ _. e ∙ rw (ne-eqb n 15 other);
+      number = ap (λ (x : Stepped). verdictNumber (x .verdict)) e ∙ v;
+      me = ap (λ (x : Stepped). x .state .me) e;
+      seen = λ z. absurd (refuses z);
+      state = λ _. ap (λ (x : Stepped). x .state) e ∙ rw (ne-eqb n 15 other);
       store = λ _. refl;
       long = refl;
       answer = rw (ne-eqb n 0 refuses);
@@ -66,7 +70,7 @@ state-low cfg s long =
     (low-by (within 1 (cfg .n) (cfg .k)) _ 2
     (low-by (leb (cfg .d) 7) _ 3
     (low-by (within 1 64 (cfg .e)) _ 4
-    (low-by (within 1 16 (cfg .c)) _ 5 (low-by (eqb long (storeLength cfg) && stateKept cfg s) 0 6 (omega arith) (omega arith)) (omega arith))
+    (low-by (within 1 16 (cfg .c)) _ 5 (low-by (eqb long (storeLength cfg) && stateWithin cfg s) 0 6 (omega arith) (omega arith)) (omega arith))
     (omega arith))
     (omega arith))
     (omega arith))
@@ -96,15 +100,15 @@ module _ (cfg : Config) (s : State) (h : Header) (handed store answer : List ℕ
     answer-of : (o : Option (Message (List ℕ))) → stepOf k .answer ≡ o → outcome cfg s store m .answer ≡ o
     answer-of o a = ap (λ (x : Served (List ℕ)). x .answer) (outcome-of k e) ∙ a
 
-    number-of : (b : Bool) → receives k ≡ b → (o : Option (Message (List ℕ))) → stepOf k .answer ≡ o
+    number-of : (b : Bool) → isForServer k ≡ b → (o : Option (Message (List ℕ))) → stepOf k .answer ≡ o
         → requestNumber cfg s store m ≡ cond b (cond (answers o) 0 15) 16
     number-of b v o a =
         let said = outcome cfg s store m .answer in
-        ap (λ (x : Kind). cond (receives x) (cond (answers said) 0 15) 16) (kind-of k e) ∙ ap (λ (x : Bool). cond x (cond (answers said) 0 15) 16) v
+        ap (λ (x : Kind). cond (isForServer x) (cond (answers said) 0 15) 16) (kind-of k e) ∙ ap (λ (x : Bool). cond x (cond (answers said) 0 15) 16) v
         ∙ ap (λ (x : Option (Message (List ℕ))). cond b (cond (answers x) 0 15) 16) (answer-of o a)
 
     -- answered
-    pub steps-answered : receives k ≡ true → (a : Message (List ℕ)) → stepOf k .answer ≡ some a → (storeAfter answerAfter : List ℕ) (r : Stepped)
+    pub steps-answered : isForServer k ≡ true → (a : Message (List ℕ)) → stepOf k .answer ≡ some a → (storeAfter answerAfter : List ℕ) (r : Stepped)
         → verdictNumber (r .verdict) ≡ 0 → r .state .me ≡ s .me → view cfg (r .state) storeAfter ≡ stepOf k .server → length storeAfter ≡ length store
         → answerAfter ≡ recordOf cfg a → Steps cfg s (requestNumber cfg s store m) m store answer storeAfter answerAfter r
     steps-answered v a is storeAfter answerAfter r n me w l b =
@@ -112,7 +116,7 @@ module _ (cfg : Config) (s : State) (h : Header) (handed store answer : List ℕ
         record {
           number = n ∙ sym zero-is;
           me = me;
-          view = λ _. w ∙ sym (ap (λ (x : Served (List ℕ)). x .server) (outcome-of k e));
+          seen = λ _. w ∙ sym (ap (λ (x : Served (List ℕ)). x .server) (outcome-of k e));
           state = λ f. absurd (f zero-is);
           store = λ f. absurd (f zero-is);
           long = l;
@@ -120,7 +124,7 @@ module _ (cfg : Config) (s : State) (h : Header) (handed store answer : List ℕ
         }
 
     -- no answer, 15
-    pub steps-silent : receives k ≡ true → stepOf k .answer ≡ none → (answerAfter : List ℕ) (r : Stepped) → verdictNumber (r .verdict) ≡ 15
+    pub steps-silent : isForServer k ≡ true → stepOf k .answer ≡ none → (answerAfter : List ℕ) (r : Stepped) → verdictNumber (r .verdict) ≡ 15
         → r .state ≡ raised s (h .tag) → answerAfter ≡ answer → Steps cfg s (requestNumber cfg s store m) m store answer store answerAfter r
     unfolding raised
     steps-silent v is answerAfter r n w b =
@@ -129,7 +133,7 @@ module _ (cfg : Config) (s : State) (h : Header) (handed store answer : List ℕ
         record {
           number = n ∙ sym fifteen;
           me = ap (λ (x : State). x .me) w;
-          view = λ z. absurd (some-number z);
+          seen = λ z. absurd (some-number z);
           state = λ _. w ∙ ap (raised s) (sym tag-of) ∙ rw (eq-eqb (requestNumber cfg s store m) 15 fifteen);
           store = λ _. refl;
           long = refl;
@@ -137,14 +141,14 @@ module _ (cfg : Config) (s : State) (h : Header) (handed store answer : List ℕ
         }
 
     -- a kind that a server does not receive, 16
-    pub steps-misdirected : receives k ≡ false → (r : Stepped) → verdictNumber (r .verdict) ≡ 16 → r .state ≡ s
+    pub steps-misdirected : isForServer k ≡ false → (r : Stepped) → r ≡ unchanged s Misdirected
         → Steps cfg s (requestNumber cfg s store m) m store answer store answer r
-    steps-misdirected v r n w =
+    steps-misdirected v r is =
         let sixteen : requestNumber cfg s store m ≡ 16 = number-of false v (stepOf k .answer) refl in
-        steps-refused cfg s (requestNumber cfg s store m) m store answer r (λ z. omega arith) (λ z. omega arith) (n ∙ sym sixteen) w
+        steps-refused cfg s (requestNumber cfg s store m) m store answer r Misdirected is (sym sixteen) (λ z. omega arith)
 
   -- what a request's clauses say
-  module _ (q : Request cfg s h handed store answer) where
+  module _ (q : RequestPre cfg s h handed store answer) where
     rule : (i : ℕ) → getD (messageClauses cfg m) i true ≡ true
     unfolding ofConfig
     rule i = all-at (messageClauses cfg m) (q .ofConfig) i
@@ -170,7 +174,7 @@ module _ (cfg : Config) (s : State) (h : Header) (handed store answer : List ℕ
     tag-in = rule 8
 
     me-in : within 1 (cfg .n) (serverNumber (s .me)) ≡ true
-    me-in = state-me cfg s (q .held .kept)
+    me-in = state-me cfg s (q .held .within)
 
     -- its answers are messages of the configuration
     module _ (me : ServerNumber) (is : me ≡ s .me) where
@@ -178,17 +182,17 @@ module _ (cfg : Config) (s : State) (h : Header) (handed store answer : List ℕ
       within-me = ap (λ (x : ServerNumber). within 1 (cfg .n) (serverNumber x)) is ∙ me-in
 
       pub query-reply : s .highest .number ≤ highestNumber → (after : List ℕ) → length after ≡ 80
-          → Replying cfg (reply me h QueryAnswer (s .highest) none) after
+          → RespondPre cfg (reply me h QueryAnswer (s .highest) none) after
       query-reply n after e =
           record {
             valid = q .held .valid;
             eighty = e;
             ofConfig =
                 reply-of-config cfg me h QueryAnswer (s .highest) none operation-in (le-leb (s .highest .number) highestNumber n) refl refl refl refl
-                client-in within-me (state-highest cfg s (q .held .kept));
+                client-in within-me (state-highest cfg s (q .held .within));
           }
 
-      pub pre-write-reply : h .kind ≡ PreWrite → (after : List ℕ) → length after ≡ 80 → Replying cfg (reply me h PreWriteAnswer (h .tag) none) after
+      pub pre-write-reply : h .kind ≡ PreWrite → (after : List ℕ) → length after ≡ 80 → RespondPre cfg (reply me h PreWriteAnswer (h .tag) none) after
       pre-write-reply k after e =
           record {
             valid = q .held .valid;
@@ -198,7 +202,7 @@ module _ (cfg : Config) (s : State) (h : Header) (handed store answer : List ℕ
           }
 
       pub write-reply : h .kind ≡ WriteFinalise → (after : List ℕ) → length after ≡ 80
-          → Replying cfg (reply me h WriteFinaliseAnswer (h .tag) none) after
+          → RespondPre cfg (reply me h WriteFinaliseAnswer (h .tag) none) after
       write-reply k after e =
           record {
             valid = q .held .valid;
@@ -208,7 +212,7 @@ module _ (cfg : Config) (s : State) (h : Header) (handed store answer : List ℕ
                 tag-in;
           }
 
-    pub finalising : Finalising cfg s h store answer
+    pub finalising : ReadFinalisePre cfg s h store answer
     finalising =
         record {
           held = q .held;
@@ -236,7 +240,7 @@ module _ (cfg : Config) (s : State) (h : Header) (handed store answer : List ℕ
         ∙ ap (λ (x : Kind). presence (kindNumber x) (isPresent (cond (h .present) (some (elementIn cfg handed)) none))) (sym k) ∙ rule 5)
 
     -- each kind of request, served
-    pub serve-query : h .kind ≡ Query → (answerAfter : List ℕ) (r : Stepped) → Replied cfg s (reply (s .me) h QueryAnswer (s .highest) none) answerAfter r
+    pub serve-query : h .kind ≡ Query → (answerAfter : List ℕ) (r : Stepped) → RespondPost cfg s (reply (s .me) h QueryAnswer (s .highest) none) answerAfter r
         → Steps cfg s (requestNumber cfg s store m) m store answer store answerAfter r
     unfolding serverStepOf query answerTo withElement reply view
     serve-query k answerAfter r p =
@@ -244,7 +248,7 @@ module _ (cfg : Config) (s : State) (h : Header) (handed store answer : List ℕ
         (ap (λ (x : State). view cfg x store) (p .state)) refl (p .answer)
 
     pub serve-write : h .kind ≡ WriteFinalise → (after : State) → after ≡ raised s (h .tag) → (answerAfter : List ℕ) (r : Stepped)
-        → Replied cfg after (reply (after .me) h WriteFinaliseAnswer (h .tag) none) answerAfter r
+        → RespondPost cfg after (reply (after .me) h WriteFinaliseAnswer (h .tag) none) answerAfter r
         → Steps cfg s (requestNumber cfg s store m) m store answer store answerAfter r
     unfolding serverStepOf writeFinalise finalised answerTo withElement reply view raised
     serve-write k after is answerAfter r p =
@@ -253,14 +257,14 @@ module _ (cfg : Config) (s : State) (h : Header) (handed store answer : List ℕ
         (ap (λ (x : State). view cfg x store) (p .state ∙ is)) refl
         (p .answer ∙ ap (λ (x : ServerNumber). recordOf cfg (reply x h WriteFinaliseAnswer (h .tag) none)) me)
 
-    pub serve-pre-write : h .kind ≡ PreWrite → (after : State) (storeAfter : List ℕ) → Keeps cfg s (h .tag) (elementIn cfg handed) store storeAfter after
-        → (answerAfter : List ℕ) (r : Stepped) → Replied cfg after (reply (after .me) h PreWriteAnswer (h .tag) none) answerAfter r
+    pub serve-pre-write : h .kind ≡ PreWrite → (after : State) (storeAfter : List ℕ) → KeepPost cfg s (h .tag) (elementIn cfg handed) store storeAfter after
+        → (answerAfter : List ℕ) (r : Stepped) → RespondPost cfg after (reply (after .me) h PreWriteAnswer (h .tag) none) answerAfter r
         → Steps cfg s (requestNumber cfg s store m) m store answer storeAfter answerAfter r
     unfolding serverStepOf preWrite storeElement answerTo withElement reply
-    serve-pre-write k after storeAfter kept answerAfter r p =
-        steps-answered PreWrite k refl _ refl storeAfter answerAfter r (p .number) (ap (λ (x : State). x .me) (p .state) ∙ kept .me)
-        (ap (λ (x : State). view cfg x storeAfter) (p .state) ∙ kept .view ∙ rw (present-in k)) (kept .long)
-        (p .answer ∙ ap (λ (x : ServerNumber). recordOf cfg (reply x h PreWriteAnswer (h .tag) none)) (kept .me))
+    serve-pre-write k after storeAfter post answerAfter r p =
+        steps-answered PreWrite k refl _ refl storeAfter answerAfter r (p .number) (ap (λ (x : State). x .me) (p .state) ∙ post .me)
+        (ap (λ (x : State). view cfg x storeAfter) (p .state) ∙ post .seen ∙ rw (present-in k)) (post .long)
+        (p .answer ∙ ap (λ (x : ServerNumber). recordOf cfg (reply x h PreWriteAnswer (h .tag) none)) (post .me))
 
     -- the answer of a read finalise, by the header or by the record's message
     same-answer : (o : Option (List ℕ)) → readAnswer key (serverNumber (s .me)) (view cfg s store .floor) m o
@@ -281,7 +285,7 @@ module _ (cfg : Config) (s : State) (h : Header) (handed store answer : List ℕ
     unfolding raised
     me-of e = ap (λ (x : State). x .me) e
 
-    pub serve-read : h .kind ≡ ReadFinalise → (answerAfter : List ℕ) (r : Stepped) → Finalised cfg s h store answer answerAfter r
+    pub serve-read : h .kind ≡ ReadFinalise → (answerAfter : List ℕ) (r : Stepped) → ReadFinalisePost cfg s h store answer answerAfter r
         → Steps cfg s (requestNumber cfg s store m) m store answer store answerAfter r
     serve-read k answerAfter r f = go (readAnswered s h store cfg) refl
       where

@@ -1,21 +1,21 @@
 -- Lists of tags: what is among them, the lowest of them, one replaced. Assumes nothing.
-use mathlib.Core.Path.{_≡_, refl, sym, _∙_, ap, ap₂}
+use mathlib.Core.Path.{_≡_, refl, sym, _∙_, ap}
 use mathlib.Core.Bool.{Bool, true, false, cond, not, _&&_, _||_, true≢false}
 use mathlib.Core.List.{List, [], _∷_, _++_}
 use mathlib.Core.Logic.{_⊎_, inl, inr, ⊎-elim}
-use Prim.Native.Nat.{ℕ, zero, suc, _+_, _≤_, _<_}
+use Prim.Native.Nat.{ℕ, suc, _+_, _≤_}
 use native.Mathlib.Omega.{arith}
-use borrow.Author.Tests.{eq-eqb, eqb-false, eqb-true, le-leb, leb-true, lt-ltb, ltb-false, ltb-true, ne-eqb, not-true}
+use borrow.Author.Tests.{eqb-false, eqb-true, le-leb, ltb-false, ltb-true, not-true}
 use lib.Dec.{eqb, leb, ltb}
-use lib.ListN.{length, length-append}
+use lib.ListN.{length}
 use Rattle.laws.proofs.Bools.{and-left, and-right}
 use Rattle.tag.specs.declared.Tag.{Tag}
-use Rattle.tag.specs.Tag.{above, allowed, key, same}
-use Rattle.tag.proofs.Order.{Small, key-above, key-one, same-one, same-self}
+use Rattle.tag.specs.Tag.{allowed, key, same}
+use Rattle.tag.proofs.Order.{Small, key-one, same-one, same-self}
 use Rattle.protocol.specs.Tags.{lower}
-use Rattle.server.specs.Kept.{among, every, once}
+use Rattle.server.specs.Within.{among, every, once}
 use Rattle.server.proofs.Each.{or-left, or-right}
-use Rattle.server.proofs.Keys.{same-eqb, small}
+use Rattle.server.proofs.Keys.{small}
 
 -- tests that are joined
 pub or-true : (a b : Bool) → (a || b) ≡ true → (a ≡ true) ⊎ (b ≡ true)

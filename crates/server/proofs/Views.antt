@@ -1,27 +1,26 @@
 -- What storing does to the view: one more place, or one place taken by another. Assumes nothing.
-use mathlib.Core.Path.{_≡_, refl, sym, _∙_, ap, ap₂}
-use mathlib.Core.Bool.{Bool, true, false, cond, _||_}
+use mathlib.Core.Path.{_≡_, sym, _∙_, ap, ap₂}
+use mathlib.Core.Bool.{true, false}
 use mathlib.Core.List.{List, [], _∷_, _++_}
-use mathlib.Core.Logic.{_⊎_, inl, inr, ⊎-elim}
-use mathlib.Core.Option.{Option, none, some}
-use Prim.Native.Nat.{ℕ, zero, suc, _+_, _-_, _*_, _≤_, _<_}
+use mathlib.Core.Logic.{inl, inr}
+use mathlib.Core.Option.{some}
+use Prim.Native.Nat.{ℕ, _+_, _-_, _*_, _≤_, _<_}
 use native.Mathlib.Decide.{decLt}
 use native.Mathlib.Nat.{zero-add}
 use native.Mathlib.Omega.{arith}
-use borrow.Author.Tests.{eq-eqb, le-leb, lt-leb, leb-true}
-use lib.Dec.{eqb, leb, ltb}
-use lib.ListN.{length, getD, set, take, drop}
+use borrow.Author.Tests.{eq-eqb, le-leb, lt-leb}
+use lib.Dec.{eqb}
+use lib.ListN.{length, set}
 use lib.Seq.{getD-set-other, getD-set-same}
 use Rattle.config.specs.declared.Config.{Config}
 use Rattle.tag.specs.declared.Tag.{Tag}
-use Rattle.tag.specs.Tag.{allowed, key, same, start}
+use Rattle.tag.specs.Tag.{allowed, key, start}
 use Rattle.tag.proofs.Order.{Small}
 use Rattle.protocol.specs.Server.{Server, Stored, addLast, dropSmallest, inPlaceOf, others, smallest}
-use Rattle.server.specs.declared.Floor.{Floor}
 use Rattle.server.specs.declared.State.{State}
-use Rattle.server.specs.declared.places.Least.{Least}
-use Rattle.server.specs.Inner.{appended, dropped, floored, leastFrom, lowest, putAt}
-use Rattle.server.specs.Kept.{among, every, once}
+use Rattle.server.specs.inner.Keep.{appended, dropped, lowest}
+use Rattle.server.specs.inner.Places.{putAt}
+use Rattle.server.specs.Within.{among, every, once}
 use Rattle.server.specs.View.{each, elementAt, floorOf, placeAt, tagAt, tagsUsed, view}
 use Rattle.server.proofs.Each.{Lowest, among-at, each-last, each-same, every-at, lowest-place}
 use Rattle.server.proofs.Keys.{same-eqb, small}

@@ -1,5 +1,5 @@
 -- A server's calls: what each asks, and what it answers.
-use Prim.Native.Nat.{ℕ, _+_, _*_}
+use Prim.Native.Nat.{ℕ, _+_}
 use mathlib.Core.Bool.{Bool, true, false, cond, _&&_}
 use mathlib.Core.Path.{_≡_}
 use mathlib.Core.List.{List, [], _∷_, _++_}
@@ -8,14 +8,13 @@ use lib.Dec.{eqb}
 use lib.ListN.{length, drop, replicate}
 use Rattle.config.specs.declared.Config.{Config}
 use Rattle.config.specs.declared.Server.{Server as ServerNumber}
-use Rattle.config.specs.Config.{questions}
+use Rattle.config.specs.Config.{questions, storeLength}
 use Rattle.config.specs.Number.{serverNumber}
 use Rattle.config.specs.Questions.{Question, ask, firstNo, within}
 use Rattle.config.specs.Refusal.{verdictNumber}
 use Rattle.tag.specs.declared.Tag.{Tag}
 use Rattle.tag.specs.Tag.{key, start}
-use Rattle.record.specs.declared.Kind.{Kind}
-use Rattle.record.specs.declared.Kind.the-variants.{Query, QueryAnswer, PreWrite, PreWriteAnswer, WriteFinalise, WriteFinaliseAnswer, ReadFinalise, ReadFinaliseAnswer}
+use Rattle.record.specs.Kinds.{isForServer}
 use Rattle.record.specs.Message.{Message}
 use Rattle.record.specs.Record.{messageOf, recordOf, wellFormed}
 use Rattle.protocol.specs.Server.{Served, elementOf, serverStep}
@@ -23,22 +22,20 @@ use Rattle.protocol.specs.Tags.{higher}
 use Rattle.server.specs.declared.Floor.{Floor}
 use Rattle.server.specs.declared.State.{State}
 use Rattle.server.specs.declared.Stepped.{Stepped}
-use Rattle.server.specs.Kept.{stateKept}
+use Rattle.server.specs.Within.{stateWithin}
 use Rattle.server.specs.View.{view}
-
--- "(D + 1) × E for each server's store"
-abbrev pub storeLength : Config → ℕ
-storeLength cfg = (cfg .d + 1) * cfg .e
 
 -- A state: questions 1 to 5; 6, the length of its store, and the state.
 unfoldable pub stateQuestions : Config → State → ℕ → List Question
-stateQuestions cfg s long = questions cfg ++ ask 6 (eqb long (storeLength cfg) && stateKept cfg s) ∷ []
+stateQuestions cfg s long = questions cfg ++ ask 6 (eqb long (storeLength cfg) && stateWithin cfg s) ∷ []
 
--- Fresh: questions 1 to 5; 6, the lengths of element and store, and the server's number.
+-- Fresh: questions 1 to 5; 6, the lengths of element and store; 8, is it a server's number?
 unfoldable pub freshQuestions : Config → ServerNumber → List ℕ → List ℕ → List Question
 freshQuestions cfg me element store =
     questions cfg
-    ++ ask 6 (eqb (length element) (cfg .e) && eqb (length store) (storeLength cfg) && within 1 (cfg .n) (serverNumber me)) ∷ []
+    ++ ask 6 (eqb (length element) (cfg .e) && eqb (length store) (storeLength cfg))
+    ∷ ask 8 (within 1 (cfg .n) (serverNumber me))
+    ∷ []
 
 -- "Fresh: H = (0, 0), with the starting board's element stored at (0, 0)": the one place in use is the first.
 unfoldable pub freshState : ServerNumber → State
@@ -49,20 +46,9 @@ pub record FreshPost (cfg : Config) (me : ServerNumber) (element before after : 
   pub state : r .state ≡ freshState me
   pub store : after ≡ cond (eqb (firstNo (freshQuestions cfg me element before)) 0) (element ++ drop (cfg .e) before) before
 
--- the kinds that a server receives
-abbrev pub receives : Kind → Bool
-receives Query = true
-receives QueryAnswer = false
-receives PreWrite = true
-receives PreWriteAnswer = false
-receives WriteFinalise = true
-receives WriteFinaliseAnswer = false
-receives ReadFinalise = true
-receives ReadFinaliseAnswer = false
-
 -- "16. .. is the record for this party, in a kind it receives?"
 abbrev pub forServer : ℕ → Message (List ℕ) → Bool
-forServer me m = eqb (m .server) me && receives (m .kind)
+forServer me m = eqb (m .server) me && isForServer (m .kind)
 
 -- the protocol's step of this server on a message: its server afterwards, and its answer
 abbrev pub outcome : Config → State → List ℕ → Message (List ℕ) → Served (List ℕ)
@@ -77,7 +63,7 @@ answers (some m) = true
 unfoldable pub stepQuestions : Config → State → List ℕ → List ℕ → List ℕ → List Question
 stepQuestions cfg s handed store answer =
     questions cfg
-    ++ ask 6 (eqb (length handed) 80 && eqb (length store) (storeLength cfg) && eqb (length answer) 80 && stateKept cfg s)
+    ++ ask 6 (eqb (length handed) 80 && eqb (length store) (storeLength cfg) && eqb (length answer) 80 && stateWithin cfg s)
     ∷ ask 12 (wellFormed cfg handed)
     ∷ ask 16 (forServer (serverNumber (s .me)) (messageOf cfg handed))
     ∷ ask 15 (answers (outcome cfg s store (messageOf cfg handed) .answer))
@@ -102,7 +88,7 @@ pub record Steps (cfg : Config) (s : State) (first : ℕ) (m : Message (List ℕ
   pub number : verdictNumber (r .verdict) ≡ first
   pub me : r .state .me ≡ s .me
   -- accepted: the protocol's step
-  pub view : first ≡ 0 → view cfg (r .state) storeAfter ≡ outcome cfg s storeBefore m .server
+  pub seen : first ≡ 0 → view cfg (r .state) storeAfter ≡ outcome cfg s storeBefore m .server
   -- refused: all holds, but for H at 15
   pub state : (first ≡ 0 → ⊥) → r .state ≡ stays first s (m .tag)
   pub store : (first ≡ 0 → ⊥) → storeAfter ≡ storeBefore
@@ -114,10 +100,6 @@ abbrev pub StepPost : Config → State → List ℕ → List ℕ → List ℕ �
 StepPost cfg s handed store answer storeAfter answerAfter r =
     Steps cfg s (firstNo (stepQuestions cfg s handed store answer)) (messageOf cfg handed) store answer storeAfter answerAfter r
 
--- Lending: questions 1 to 5; 6, the length of the store, and the state.
-unfoldable pub lendQuestions : Config → State → List ℕ → List Question
-lendQuestions cfg s store = questions cfg ++ ask 6 (eqb (length store) (storeLength cfg) && stateKept cfg s) ∷ []
-
 -- an element's bytes; "an empty part if there is none"
 abbrev pub lentBytes : Option (List ℕ) → List ℕ
 lentBytes none = []
@@ -125,6 +107,6 @@ lentBytes (some e) = e
 
 -- the part that is lent, and the lent number afterwards
 pub record LendPost (cfg : Config) (s : State) (t : Tag) (store lent : List ℕ) (told : ℕ) : Type 0 where
-  pub number : told ≡ firstNo (lendQuestions cfg s store)
+  pub number : told ≡ firstNo (stateQuestions cfg s (length store))
   pub part : lent
-      ≡ cond (eqb (firstNo (lendQuestions cfg s store)) 0) (lentBytes (elementOf key t (view cfg s store .stored))) []
+      ≡ cond (eqb (firstNo (stateQuestions cfg s (length store))) 0) (lentBytes (elementOf key t (view cfg s store .stored))) []

@@ -1,6 +1,6 @@
 pub mod Calls
-pub mod Inner
-pub mod Kept
 pub mod Order
 pub mod Received
 pub mod View
+pub mod Within
+pub mod inner

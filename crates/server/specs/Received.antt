@@ -11,7 +11,7 @@ use Rattle.record.specs.declared.Kind.{Kind}
 use Rattle.record.specs.declared.Kind.the-variants.{Query, QueryAnswer, PreWrite, PreWriteAnswer, WriteFinalise, WriteFinaliseAnswer, ReadFinalise, ReadFinaliseAnswer}
 use Rattle.record.specs.Message.{Message}
 use Rattle.protocol.specs.Server.{Server, serverStep}
-use Rattle.server.specs.Kept.{among, tagsOf}
+use Rattle.server.specs.Within.{among, tagsOf}
 
 module _ {Element : Type 0} where
   -- a pre-write with an element adds its tag

@@ -1,8 +1,8 @@
 // A server: its state by value, its store lent by the host. Every function is proved, nothing is assumed, and no public function
 // has a `requires`.
-mod kept;
 mod places;
 mod serve;
+mod within;
 
 use config::Config;
 use config::Refusal;
@@ -13,6 +13,7 @@ use tag::Tag;
 ghost use mathlib.Core.Path.{_≡_};
 ghost use Rattle.config.specs.Questions.{firstNo};
 ghost use Rattle.server.specs.Calls.{FreshPost, LendPost, StepPost, stateQuestions};
+ghost use Rattle.server.specs.inner.Serve.{unchanged};
 
 // No floor, or the highest tag that was dropped.
 pub enum Floor {
@@ -36,6 +37,16 @@ pub struct Stepped {
     pub state: State,
 }
 
+// A refusal, with all as it was.
+fn refused(s: State, why: Refusal) -> Stepped
+    ensures { λ r. ⌜ r ≡ unchanged s why ⌝ }
+{
+    Stepped {
+        verdict: Verdict::No(why),
+        state: s,
+    }
+}
+
 // Questions 1 to 5, and 6 of a state and of its store's length: the number of the first that is answered no, or 0.
 pub fn ask(cfg: Config, state: State, long: usize) -> u8
     ensures { λ r. ⌜ r ≡ firstNo (stateQuestions cfg state long) ⌝ }
@@ -44,19 +55,19 @@ pub fn ask(cfg: Config, state: State, long: usize) -> u8
     if no != 0 {
         return no;
     }
-    if long != kept::store_length(cfg) {
+    if long != within::store_length(cfg) {
         return 6;
     }
-    if kept::quick(cfg, state) {
+    if within::quick(cfg, state) {
         return 0;
     }
-    if !kept::state_kept(cfg, state) {
+    if !within::state_within(cfg, state) {
         return 6;
     }
     0
 }
 
-// A fresh server, with the starting board's element in the store: questions 1 to 5 and 6.
+// A fresh server, with the starting board's element in the store: questions 1 to 5, 6 and 8.
 pub fn fresh(cfg: Config, me: Server, element: &[u8], store: &mut [u8]) -> Stepped
     ensures { λ r. ⌜ FreshPost cfg me (now (element .entry)) (now (store .entry)) (now (store .exit)) r ⌝ }
 {
@@ -73,28 +84,16 @@ pub fn fresh(cfg: Config, me: Server, element: &[u8], store: &mut [u8]) -> Stepp
     };
     let no = cfg.ask();
     if no != 0 {
-        return Stepped {
-            verdict: Verdict::of(no),
-            state,
-        };
+        return refused(state, Refusal::of(no));
     }
     if element.len() != cfg.e {
-        return Stepped {
-            verdict: Verdict::No(Refusal::Shape),
-            state,
-        };
+        return refused(state, Refusal::Shape);
     }
-    if store.len() != kept::store_length(cfg) {
-        return Stepped {
-            verdict: Verdict::No(Refusal::Shape),
-            state,
-        };
+    if store.len() != within::store_length(cfg) {
+        return refused(state, Refusal::Shape);
     }
-    if !kept::server_within(cfg, me) {
-        return Stepped {
-            verdict: Verdict::No(Refusal::Shape),
-            state,
-        };
+    if !within::server_within(cfg, me) {
+        return refused(state, Refusal::Missing);
     }
     bytes::copy(element, store);
     Stepped {
@@ -113,38 +112,23 @@ pub fn step(
 ) -> Stepped
     ensures { λ r. ⌜ StepPost cfg state (now (handed .entry)) (now (store .entry)) (now (answer .entry)) (now (store .exit)) (now (answer .exit)) r ⌝ }
 {
-    let no = kept::ask(cfg, state, store.len());
+    let no = ask(cfg, state, store.len());
     if no != 0 {
-        return Stepped {
-            verdict: Verdict::of(no),
-            state,
-        };
+        return refused(state, Refusal::of(no));
     }
     if handed.len() != 80 {
-        return Stepped {
-            verdict: Verdict::No(Refusal::Shape),
-            state,
-        };
+        return refused(state, Refusal::Shape);
     }
     if answer.len() != 80 {
-        return Stepped {
-            verdict: Verdict::No(Refusal::Shape),
-            state,
-        };
+        return refused(state, Refusal::Shape);
     }
     let Reading::Message(h) = record::read(cfg, handed) else {
-        return Stepped {
-            verdict: Verdict::No(Refusal::IllFormed),
-            state,
-        };
+        return refused(state, Refusal::IllFormed);
     };
     let server = h.server;
     let me = state.me;
     if server.number() != me.number() {
-        return Stepped {
-            verdict: Verdict::No(Refusal::Misdirected),
-            state,
-        };
+        return refused(state, Refusal::Misdirected);
     }
     serve::request(cfg, state, h, handed, store, answer)
 }
@@ -154,7 +138,7 @@ pub fn step(
 pub fn lend<'a>(cfg: Config, state: State, tag: Tag, store: &'a [u8], no: &mut u8) -> &'a [u8]
     ensures { λ r. ⌜ LendPost cfg state tag (now (store .entry)) (now r) (now (no .exit)) ⌝ }
 {
-    let asked = kept::ask(cfg, state, store.len());
+    let asked = ask(cfg, state, store.len());
     *no = asked;
     if asked != 0 {
         return &store[0..0];

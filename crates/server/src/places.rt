@@ -2,7 +2,7 @@
 use tag::Tag;
 ghost use mathlib.Core.Path.{_≡_};
 ghost use Prim.Native.Nat.{_+_, _-_, _*_, _≤_};
-ghost use Rattle.server.specs.Inner.{Room, leastFrom, placeIn, putAt};
+ghost use Rattle.server.specs.inner.Places.{Room, leastFrom, placeIn, putAt};
 ghost use Rattle.server.specs.View.{each, tagAt};
 use config::Config;
 

@@ -16,7 +16,9 @@ ghost use Rattle.record.specs.Calls.{withElement};
 ghost use Rattle.protocol.specs.Server.{atOrBelowFloor};
 ghost use Rattle.protocol.specs.Tags.{higher as higherOf};
 ghost use Rattle.server.specs.Calls.{Steps, raised};
-ghost use Rattle.server.specs.Inner.{Appended, Dropped, Finalised, Finalising, Keeping, Keeps, Misdirected, Replied, Replying, Request, Room, present, reply, requestNumber};
+ghost use Rattle.server.specs.inner.Keep.{AppendPost, DropSmallestPost, KeepPre, KeepPost};
+ghost use Rattle.server.specs.inner.Places.{Room};
+ghost use Rattle.server.specs.inner.Serve.{ReadFinalisePost, ReadFinalisePre, RespondPost, RespondPre, RequestPre, present, reply, requestNumber};
 ghost use Rattle.server.specs.View.{floorOf};
 
 // The higher of two tags.
@@ -66,8 +68,8 @@ fn respond(
     there: bool,
     answer: &mut [u8],
 ) -> Stepped
-    requires { ⌜ Replying cfg (reply (s .me) h kind tag (present cfg there (now answer))) (now answer) ⌝ }
-    ensures { λ r. ⌜ Replied cfg s (reply (s .me) h kind tag (present cfg there (now (answer .entry)))) (now (answer .exit)) r ⌝ }
+    requires { ⌜ RespondPre cfg (reply (s .me) h kind tag (present cfg there (now answer))) (now answer) ⌝ }
+    ensures { λ r. ⌜ RespondPost cfg s (reply (s .me) h kind tag (present cfg there (now (answer .entry)))) (now (answer .exit)) r ⌝ }
 {
     let client = h.client;
     let server = s.me;
@@ -89,7 +91,7 @@ fn respond(
 // Stores a tag and its element at the first free place.
 fn append(cfg: Config, s: State, t: Tag, element: &[u8], store: &mut [u8]) -> State
     requires { ⌜ Room cfg (s .count + 1) (now element) (now store) ⌝ }
-    ensures { λ r. ⌜ Appended cfg s t (now (element .entry)) (now (store .entry)) (now (store .exit)) r ⌝ }
+    ensures { λ r. ⌜ AppendPost cfg s t (now (element .entry)) (now (store .entry)) (now (store .exit)) r ⌝ }
 {
     let me = s.me;
     let highest = s.highest;
@@ -110,7 +112,7 @@ fn append(cfg: Config, s: State, t: Tag, element: &[u8], store: &mut [u8]) -> St
 // Of the stored tags and this one, the smallest is dropped and becomes the floor; the others are stored.
 fn drop_smallest(cfg: Config, s: State, t: Tag, element: &[u8], store: &mut [u8]) -> State
     requires { ⌜ Room cfg (s .count) (now element) (now store) ⌝ }
-    ensures { λ r. ⌜ Dropped cfg s t (now (element .entry)) (now (store .entry)) (now (store .exit)) r ⌝ }
+    ensures { λ r. ⌜ DropSmallestPost cfg s t (now (element .entry)) (now (store .entry)) (now (store .exit)) r ⌝ }
 {
     let me = s.me;
     let highest = s.highest;
@@ -142,8 +144,8 @@ fn drop_smallest(cfg: Config, s: State, t: Tag, element: &[u8], store: &mut [u8]
 
 // A pre-write's tag and element: nothing is stored if the tag is stored or at or below the floor.
 fn keep(cfg: Config, s: State, t: Tag, element: &[u8], store: &mut [u8]) -> State
-    requires { ⌜ Keeping cfg s t (now element) (now store) ⌝ }
-    ensures { λ r. ⌜ Keeps cfg s t (now (element .entry)) (now (store .entry)) (now (store .exit)) r ⌝ }
+    requires { ⌜ KeepPre cfg s t (now element) (now store) ⌝ }
+    ensures { λ r. ⌜ KeepPost cfg s t (now (element .entry)) (now (store .entry)) (now (store .exit)) r ⌝ }
 {
     let count = s.count;
     let tags = s.tags;
@@ -162,8 +164,8 @@ fn keep(cfg: Config, s: State, t: Tag, element: &[u8], store: &mut [u8]) -> Stat
 
 // Read finalise: the stored element of the tag, or an answer without one, or 15 where the tag is at or below the floor.
 fn read_finalise(cfg: Config, s: State, h: Header, store: &[u8], answer: &mut [u8]) -> Stepped
-    requires { ⌜ Finalising cfg s h (now store) (now answer) ⌝ }
-    ensures { λ r. ⌜ Finalised cfg s h (now (store .entry)) (now (answer .entry)) (now (answer .exit)) r ⌝ }
+    requires { ⌜ ReadFinalisePre cfg s h (now store) (now answer) ⌝ }
+    ensures { λ r. ⌜ ReadFinalisePost cfg s h (now (store .entry)) (now (answer .entry)) (now (answer .exit)) r ⌝ }
 {
     let t = h.tag;
     let floor = s.floor;
@@ -178,22 +180,9 @@ fn read_finalise(cfg: Config, s: State, h: Header, store: &[u8], answer: &mut [u
         return respond(cfg, after, h, Kind::ReadFinaliseAnswer, t, true, answer);
     }
     if at_or_below(t, floor) {
-        return Stepped {
-            verdict: Verdict::No(Refusal::Cleared),
-            state: after,
-        };
+        return crate::refused(after, Refusal::Cleared);
     }
     respond(cfg, after, h, Kind::ReadFinaliseAnswer, t, false, answer)
-}
-
-// 16, with all as it was.
-fn misdirected(s: State) -> Stepped
-    ensures { λ r. ⌜ Misdirected s r ⌝ }
-{
-    Stepped {
-        verdict: Verdict::No(Refusal::Misdirected),
-        state: s,
-    }
 }
 
 // A request of any kind; 16 if it is none that a server receives.
@@ -205,7 +194,7 @@ pub(crate) fn request(
     store: &mut [u8],
     answer: &mut [u8],
 ) -> Stepped
-    requires { ⌜ Request cfg s h (now handed) (now store) (now answer) ⌝ }
+    requires { ⌜ RequestPre cfg s h (now handed) (now store) (now answer) ⌝ }
     ensures { λ r. ⌜ Steps cfg s (requestNumber cfg s (now (store .entry)) (withElement cfg h (now (handed .entry)))) (withElement cfg h (now (handed .entry))) (now (store .entry)) (now (answer .entry)) (now (store .exit)) (now (answer .exit)) r ⌝ }
 {
     let kind = h.kind;
@@ -225,9 +214,9 @@ pub(crate) fn request(
             respond(cfg, after, h, Kind::WriteFinaliseAnswer, t, false, answer)
         }
         Kind::ReadFinalise => read_finalise(cfg, s, h, store, answer),
-        Kind::QueryAnswer => misdirected(s),
-        Kind::PreWriteAnswer => misdirected(s),
-        Kind::WriteFinaliseAnswer => misdirected(s),
-        Kind::ReadFinaliseAnswer => misdirected(s),
+        Kind::QueryAnswer => crate::refused(s, Refusal::Misdirected),
+        Kind::PreWriteAnswer => crate::refused(s, Refusal::Misdirected),
+        Kind::WriteFinaliseAnswer => crate::refused(s, Refusal::Misdirected),
+        Kind::ReadFinaliseAnswer => crate::refused(s, Refusal::Misdirected),
     }
 }

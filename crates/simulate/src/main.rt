@@ -10,12 +10,7 @@ fn main() {
         return;
     }
     let cfg = configured(header[0], header[1], header[2], header[3], header[4]);
-    begin(cfg, little(header[5], header[6]));
-}
-
-// A number of two bytes, the low one first.
-fn little(low: u8, high: u8) -> usize {
-    low as usize + 256 * high as usize
+    begin(cfg, lines::little(header[5], header[6]));
 }
 
 // The configuration of the header's first five bytes.

@@ -5,49 +5,34 @@ use mathlib.Core.Option.{none}
 use Prim.Native.Nat.{_*_}
 use borrow.Author.Tests.{eqb-true}
 use lib.ListN.{length}
-use Rattle.client.specs.Questions.{isSends}
-use Rattle.client.proofs.Answers.{begin-refused, begin-sized, begins, begun}
+use Rattle.config.specs.Questions.{firstNo}
+use Rattle.client.specs.Questions.{beginReadQuestions}
+use Rattle.client.proofs.Answers.{announces, begin-refused, begun, is-sized, operation-below}
 use borrow.Author.Needs.{needs}
 use Rattle.client.proofs.begin_read.Statement.{statement}
 use Rattle.client.proofs.begin_read.Tie as tie
 
-begin-read-requires : tie.Need-begin-read-requires
-begin-read-requires c κs = search needs
+-- all questions are answered yes
+module _ (c : tie.Else1) where
+  abbrev s : tie.Start
+  s = c .before .before .before
 
-held-requires : tie.Need-held-requires
-held-requires c κs = search needs
+  pass : firstNo (beginReadQuestions (s .args .cfg) (s .args .state) (now (s .args .sends))) ≡ 0
+  pass = sym (c .before .begin-read .ensures) ∙ c .if1 .left
 
-returns : tie.Need-returns
-returns c = λ kept es. let a = c .before .before .before .before .args in
-    begin-refused (a .cfg) (isSends (a .cfg) (length (now (a .sends)))) (a .state) kept es (now (a .sends)) _ none (c .held .result) (c .before .before .begin-read .ensures) (c .before .if1 .taken) (c .held .ensures)
-
-slice-aggregate-begin : tie.Need-slice-aggregate-begin
-slice-aggregate-begin c = search needs
-
-begin-requires : tie.Need-begin-requires
-begin-requires c κs = let a = c .before .before .before .before .before .args in
-    let sized = isSends (a .cfg) (length (now (a .sends))) in
-    let pass = sym (c .before .before .before .begin-read .ensures) ∙ c .before .before .if1 .left in
-    begins (a .cfg) sized (a .state) pass (now (a .sends)) (eqb-true (length (now (a .sends))) (80 * a .cfg .n) (begin-sized (a .cfg) sized (a .state) pass))
-
-same-length : tie.Need-same-length
-same-length c = search needs
-
-returns-2 : tie.Need-returns-2
-returns-2 c = λ kept es. let a = c .before .before .before .before .before .before .before .before .args in
-    let sized = isSends (a .cfg) (length (now (a .sends))) in
-    let pass = sym (c .before .before .before .before .before .before .begin-read .ensures) ∙ c .before .before .before .before .before .if1 .left in
-    begun (a .cfg) sized (a .state) kept es (now (a .sends)) pass (eqb-true (length (now (a .sends))) (80 * a .cfg .n) (begin-sized (a .cfg) sized (a .state) pass)) false _ kept
-    (c .before .before .begin .last .1 .1 .1 .1 .0) (c .before .before .begin .result) (c .before .before .begin .ensures) refl
+  sends-length : length (now (s .args .sends)) ≡ 80 * s .args .cfg .n
+  sends-length = eqb-true (length (now (s .args .sends))) (80 * s .args .cfg .n) (is-sized _ _ _ pass)
 
 pub begin-read-spec : {M : Type 1} → statement M
 begin-read-spec =
     tie.close
     (tie.spec
-    begin-read-requires
-    held-requires
-    returns
-    slice-aggregate-begin
-    begin-requires
-    same-length
-    returns-2)
+    (λ c κs. search needs)
+    (λ c κs. search needs)
+    (λ c kept es. begin-refused _ _ _ none kept es _ (c .before .before .begin-read .ensures) (c .before .if1 .taken) (c .refused .ensures))
+    (λ c κs. operation-below _ _ _ (pass c))
+    (λ c. search needs)
+    (λ c κs. let e = c .before .before .before in rw (c .before .before .begun .ensures) (announces _ _ _ (pass e) false _ _ (sends-length e)))
+    (λ c. search needs)
+    (λ c kept es. let e = c .before .before .before .before .before .before in
+    begun _ _ _ (pass e) false none kept kept _ es _ refl refl (rw (c .before .before .before .before .before .begun .ensures) at (c .before .before .announce .ensures))))

@@ -1,97 +1,66 @@
 use denote.Ref.{now}
-use mathlib.Core.Path.{_≡_, refl, sym, _∙_, subst}
+use mathlib.Core.Path.{_≡_, sym, ap, _∙_}
 use mathlib.Core.Bool.{true, _&&_}
-use mathlib.Core.List.{List}
 use mathlib.Core.Option.{some}
 use Prim.Native.Nat.{ℕ, _*_}
 use native.Mathlib.Nat.{le-of-eq}
 use borrow.Author.Tests.{eqb-true}
 use lib.ListN.{length}
 use Rattle.laws.proofs.Bools.{and-left, and-right}
-use Rattle.config.specs.declared.Config.{Config}
 use Rattle.config.specs.Config.{boardLength}
 use Rattle.config.specs.Questions.{firstNo}
-use Rattle.tag.specs.Tag.{start}
-use Rattle.client.specs.declared.Moved.{Moved}
-use Rattle.client.specs.declared.Phase.{Phase}
-use Rattle.client.specs.declared.State.{State}
-use Rattle.client.specs.Calls.{BeginPost}
-use Rattle.client.specs.Questions.{beginWriteQuestions, isBoard, isSends, writeSized}
-use Rattle.client.specs.Settle.{Announced, queries}
-use Rattle.client.proofs.Answers.{begin-refused, begin-sized, begins, begun, copied}
+use Rattle.client.specs.Questions.{beginWriteQuestions, isBoard, isSends}
+use Rattle.client.proofs.Answers.{announces, begin-refused, begun, copied, is-sized, operation-below}
 use borrow.Author.Needs.{needs}
 use Rattle.client.proofs.begin_write.Statement.{statement}
 use Rattle.client.proofs.begin_write.Tie as tie
 
--- the buffers have their lengths
-module _ (cfg : Config) (x : State) (board kept sends : List ℕ) (pass : firstNo (beginWriteQuestions cfg x board kept sends) ≡ 0) where
-  sized : writeSized cfg (length board) (length kept) (length sends) ≡ true
-  sized = begin-sized cfg (writeSized cfg (length board) (length kept) (length sends)) x pass
+-- all questions are answered yes: the buffers have their lengths
+module _ (c : tie.Else1) where
+  abbrev s : tie.Start
+  s = c .before .before .before .before .before
 
-  others : (isBoard cfg (length kept) && isSends cfg (length sends)) ≡ true
-  others = and-right (isBoard cfg (length board)) (isBoard cfg (length kept) && isSends cfg (length sends)) sized
+  abbrev b : ℕ
+  b = length (now (s .args .board))
 
-  sized-copy : length board ≡ length kept
-  sized-copy =
-      eqb-true (length board) (boardLength cfg) (and-left (isBoard cfg (length board)) (isBoard cfg (length kept) && isSends cfg (length sends)) sized)
-      ∙ sym (eqb-true (length kept) (boardLength cfg) (and-left (isBoard cfg (length kept)) (isSends cfg (length sends)) others))
+  abbrev k : ℕ
+  k = length (now (s .args .kept))
 
-  sized-sends : length sends ≡ 80 * cfg .n
-  sized-sends = eqb-true (length sends) (80 * cfg .n) (and-right (isBoard cfg (length kept)) (isSends cfg (length sends)) others)
+  abbrev n : ℕ
+  n = length (now (s .args .sends))
 
-  -- the board is kept, and the queries are sent
-  write-begun : (es kept′ : List ℕ) → kept′ ≡ board → (sends′ : List ℕ) (r : Moved)
-      → Announced cfg (queries x) (Phase.Asking true start 0) board sends sends′ r
-      → BeginPost cfg (firstNo (beginWriteQuestions cfg x board kept sends)) x (some board) kept kept′ es sends sends′ r
-  write-begun es kept′ same sends′ r done =
-      subst (λ (l : List ℕ). BeginPost cfg (firstNo (beginWriteQuestions cfg x board kept sends)) x (some l) kept kept′ es sends sends′ r) same
-      (begun cfg (writeSized cfg (length board) (length kept) (length sends)) x kept es sends pass sized-sends true board kept′ sends′ r done refl)
+  pass : firstNo (beginWriteQuestions (s .args .cfg) (s .args .state) (now (s .args .board)) (now (s .args .kept)) (now (s .args .sends))) ≡ 0
+  pass = sym (c .before .begin-write .ensures) ∙ c .if1 .left
 
-begin-write-requires : tie.Need-begin-write-requires
-begin-write-requires c κs = search needs
+  others : (isBoard (s .args .cfg) k && isSends (s .args .cfg) n) ≡ true
+  others = and-right (isBoard (s .args .cfg) b) (isBoard (s .args .cfg) k && isSends (s .args .cfg) n) (is-sized _ _ _ pass)
 
-held-requires : tie.Need-held-requires
-held-requires c κs = search needs
+  copy-length : b ≡ k
+  copy-length =
+      eqb-true b (boardLength (s .args .cfg)) (and-left (isBoard (s .args .cfg) b) (isBoard (s .args .cfg) k && isSends (s .args .cfg) n) (is-sized _ _ _ pass))
+      ∙ sym (eqb-true k (boardLength (s .args .cfg)) (and-left (isBoard (s .args .cfg) k) (isSends (s .args .cfg) n) others))
 
-returns : tie.Need-returns
-returns c = λ es. let a = c .before .before .before .before .before .before .args in
-    begin-refused (a .cfg) (writeSized (a .cfg) (length (now (a .board))) (length (now (a .kept))) (length (now (a .sends)))) (a .state) (now (a .kept)) es (now (a .sends)) _ (some (now (a .board)))
-    (c .held .result) (c .before .before .begin-write .ensures) (c .before .if1 .taken) (c .held .ensures)
-
-copy-requires : tie.Need-copy-requires
-copy-requires c κs = let a = c .before .before .before .before .before .before .args in
-    let pass = sym (c .before .before .begin-write .ensures) ∙ c .before .if1 .left in
-    le-of-eq (sized-copy (a .cfg) (a .state) (now (a .board)) (now (a .kept)) (now (a .sends)) pass)
-
-begin-requires : tie.Need-begin-requires
-begin-requires c κs = let a = c .before .before .before .before .before .before .before .before .before .before .args in
-    let pass = sym (c .before .before .before .before .before .before .begin-write .ensures) ∙ c .before .before .before .before .before .if1 .left in
-    begins (a .cfg) (writeSized (a .cfg) (length (now (a .board))) (length (now (a .kept))) (length (now (a .sends)))) (a .state) pass (now (a .sends))
-    (sized-sends (a .cfg) (a .state) (now (a .board)) (now (a .kept)) (now (a .sends)) pass)
-
-same-length : tie.Need-same-length
-same-length c = search needs
-
-same-length-2 : tie.Need-same-length-2
-same-length-2 c = search needs
+  sends-length : n ≡ 80 * s .args .cfg .n
+  sends-length = eqb-true n (80 * s .args .cfg .n) (and-right (isBoard (s .args .cfg) k) (isSends (s .args .cfg) n) others)
 
 returns-2 : tie.Need-returns-2
-returns-2 c = λ es. let a = c .before .before .before .before .before .before .before .before .before .before .before .before .before .args in
-    let pass = sym (c .before .before .before .before .before .before .before .before .before .begin-write .ensures) ∙ c .before .before .before .before .before .before .before .before .if1 .left in
-    let b = c .before .before .begin in
-    let k = c .before .before .before .before .before .before .copy in
-    let same = k .ensures .1 ∙ copied (now (a .board)) (now (a .kept)) (sized-copy (a .cfg) (a .state) (now (a .board)) (now (a .kept)) (now (a .sends)) pass) in
-    write-begun (a .cfg) (a .state) (now (a .board)) (now (a .kept)) (now (a .sends)) pass es (k .last .1 .0) same (b .last .1 .1 .1 .1 .0) (b .result) (b .ensures)
+returns-2 c es = let e = c .before .before .before .before .before .before .before .before .before in
+    let a = s e .args in
+    let k = c .before .before .before .before .before .before .before in
+    let same = k .copy .ensures .1 ∙ copied (now (a .board)) (now (a .kept)) (copy-length e) in
+    begun _ _ _ (pass e) true (some (now (a .board))) (now (a .kept)) _ (now (a .board)) es (now (a .sends)) (ap some same) same
+    (rw (c .before .before .before .before .begun .ensures) at (c .before .before .announce .ensures))
 
 pub begin-write-spec : {M : Type 1} → statement M
 begin-write-spec =
     tie.close
     (tie.spec
-    begin-write-requires
-    held-requires
-    returns
-    copy-requires
-    begin-requires
-    same-length
-    same-length-2
+    (λ c κs. search needs)
+    (λ c κs. search needs)
+    (λ c es. begin-refused _ _ _ _ _ es _ (c .before .before .begin-write .ensures) (c .before .if1 .taken) (c .refused .ensures))
+    (λ c κs. le-of-eq (copy-length (c .before)))
+    (λ c κs. operation-below _ _ _ (pass (c .before .before .before .before)))
+    (λ c κs. let e = c .before .before .before .before .before .before in rw (c .before .begun .ensures) (announces _ _ _ (pass e) true _ _ (sends-length e)))
+    (λ c. search needs)
+    (λ c. search needs)
     returns-2)

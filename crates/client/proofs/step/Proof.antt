@@ -1,46 +1,58 @@
 use denote.Ref.{now}
-use mathlib.Core.Path.{sym, _∙_}
-use Rattle.client.proofs.Stepping.{as-number, asked-later, heeds, unasked}
+use mathlib.Core.Path.{_≡_, subst}
+use Rattle.client.specs.declared.questions.Asked.{Asked}
+use Rattle.client.specs.State.{Lent, lent}
+use Rattle.client.specs.inner.Questions.{ReceivePost}
+use Rattle.client.proofs.Stepping.{not-awaited, server-small, settles, sizesOf, step-refused, stepped, takes}
 use borrow.Author.Needs.{needs}
 use Rattle.client.proofs.step.Statement.{statement}
 use Rattle.client.proofs.step.Tie as tie
 
-step-requires : tie.Need-step-requires
-step-requires c κs = search needs
+-- the buffers
+abbrev l : tie.Start → Lent
+l s = lent (now (s .args .kept)) (now (s .args .elements)) (now (s .args .sends)) (now (s .args .board))
 
-held-requires : tie.Need-held-requires
-held-requires c κs = search needs
+-- what the questions told
+module _ (c : tie.After-receive) where
+  abbrev s : tie.Start
+  s = c .before .before .before .before .before .before
 
-returns : tie.Need-returns
-returns c = let s = c .before .before .before .before .before .before .before .before in
-    unasked (s .args .cfg) (s .args .state) (now (s .args .message)) (now (s .args .kept)) (now (s .args .elements)) (now (s .args .sends)) (now (s .args .board)) _ (c .before .before .step .ensures) (c .before .if1 .taken) (c .held .result) (c .held .ensures)
-
-hear-requires : tie.Need-hear-requires
-hear-requires c κs = let s = c .before .before .before .before .before .before .before .before .before .before in
-    heeds (s .args .cfg) (s .args .state) (now (s .args .message)) (now (s .args .kept)) (now (s .args .elements)) (now (s .args .sends)) (now (s .args .board)) (sym (c .before .before .before .before .step .ensures) ∙ c .before .before .before .if1 .left)
-
-same-length : tie.Need-same-length
-same-length c = search needs
-
-same-length-2 : tie.Need-same-length-2
-same-length-2 c = search needs
-
-same-length-3 : tie.Need-same-length-3
-same-length-3 c = search needs
-
-returns-2 : tie.Need-returns-2
-returns-2 c = let s = c .before .before .before .before .before .before .before .before .before .before .before .before .before .before .before .before .before in
-    as-number (asked-later (s .args .cfg) (s .args .state) (now (s .args .message)) (now (s .args .kept)) (now (s .args .elements)) (now (s .args .sends)) (now (s .args .board)) (sym (c .before .before .before .before .before .before .before .before .before .before .before .step .ensures) ∙ c .before .before .before .before .before .before .before .before .before .before .if1 .left)) (c .before .before .before .before .before .before .hear .ensures)
+  told : {a : Asked} → c .receive .result ≡ a → ReceivePost (s .args .cfg) (s .args .state) (now (s .args .message)) (sizesOf (l s)) a
+  told e = subst (ReceivePost (s .args .cfg) (s .args .state) (now (s .args .message)) (sizesOf (l s))) e (c .receive .ensures)
 
 pub step-spec : {M : Type 1} → statement M
 step-spec =
     tie.close
     (tie.spec
-    step-requires
-    held-requires
-    returns
-    hear-requires
-    same-length
-    same-length-2
-    same-length-3
-    returns-2)
+    (λ c κs. search needs)
+    (λ c. search needs)
+    (λ c κs. search needs)
+    (λ c. search needs)
+    (λ c κs. let t = told (c .before .before .before) (c .before .asked2 .given .1) in server-small _ _ _ (l (s (c .before .before .before))) (t .0) _ (t .1))
+    (λ c. search needs)
+    (λ c. search needs)
+    (λ c κs. search needs)
+    (λ c. let a = c .before .before .before .before .before in
+    let t = told (a .before .before) (a .asked2 .given .1) in
+    not-awaited _ _ _ (l (s (a .before .before))) (t .0) _ (t .1) (c .before .before .before .count .ensures) (c .before .enum-told .given .1) (c .refused2 .ensures))
+    (λ c κs. let a = c .before .before .before .before .before .before in
+    let t = told (a .before .before) (a .asked2 .given .1) in
+    takes _ _ _ (l (s (a .before .before))) (t .0) _ (t .1))
+    (λ c κs. search needs)
+    (λ c κs. let k = c .before .before .before .before .before .before in
+    let n = k .before .before .before .before .before in
+    let a = n .before .before in
+    let t = told (a .before .before) (a .asked2 .given .1) in
+    rw (c .before .before .before .in-phase .ensures)
+    (settles _ _ _ (l (s (a .before .before))) (t .0) _ (t .1) (n .count .ensures) (k .before .before .before .phase .given .1) _ (k .take .ensures) (k .take .kept .1 .1 .1 .0)))
+    (λ c. let t = told (c .before .before .before .before) (c .before .before .asked .given .1) in
+    step-refused _ _ _ (l (s (c .before .before .before .before))) (t .1 _) (t .0) (c .refused .ensures))
+    (λ c. search needs)
+    (λ c. search needs)
+    (λ c. search needs)
+    (λ c. let k = c .before .before .before .before .before .before .before .before .before .before .before in
+    let n = k .before .before .before .before .before in
+    let a = n .before .before in
+    let t = told (a .before .before) (a .asked2 .given .1) in
+    stepped _ _ _ (l (s (a .before .before))) (t .0) _ (t .1) (n .count .ensures) (k .before .before .before .phase .given .1) _ (k .take .ensures) (k .take .kept .1 .1 .1 .0)
+    (rw (c .before .before .before .before .before .before .before .before .in-phase .ensures) at (c .before .before .before .before .settle .ensures))))

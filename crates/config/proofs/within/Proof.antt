@@ -1,7 +1,4 @@
-use mathlib.Core.Path.{sym, ap}
-use mathlib.Core.Bool.{_&&_, true, false}
 use borrow.Author.Tests.{lt-leb, le-leb}
-use lib.Dec.{leb}
 use Rattle.config.proofs.within.Statement.{statement}
 use Rattle.config.proofs.within.Tie as tie
 

@@ -15,14 +15,14 @@ returns c = sym (ap inverseOf (c .if1 .taken) ∙ inverse-zero)
 logarithm-requires : tie.Need-logarithm-requires
 logarithm-requires c κs = search needs
 
-cast-power : tie.Need-cast-power
-cast-power c = search needs
+cast-power-of-two : tie.Need-cast-power-of-two
+cast-power-of-two c = search needs
 
-sub-power : tie.Need-sub-power
-sub-power c = search needs
+sub-power-of-two : tie.Need-sub-power-of-two
+sub-power-of-two c = search needs
 
-power-requires : tie.Need-power-requires
-power-requires c κs = search needs
+power-of-two-requires : tie.Need-power-of-two-requires
+power-of-two-requires c κs = search needs
 
 returns-2 : tie.Need-returns-2
 returns-2 c =
@@ -33,8 +33,8 @@ returns-2 c =
     ∙ sym (power-add 2 log (255 - log) (lit< tt))
     ∙ ap (power 2) (omega arith)
     ∙ power-period in
-    c .power .ensures ∙ sym (inverse-only a (power 2 (255 - log)) (omega arith) (power-lt 2 (255 - log) (lit< tt)) one)
+    c .power-of-two .ensures ∙ sym (inverse-only a (power 2 (255 - log)) (omega arith) (power-lt 2 (255 - log) (lit< tt)) one)
 
 pub inverse-spec : {M : Type 1} → statement M
 inverse-spec =
-    tie.close (tie.spec returns logarithm-requires cast-power sub-power power-requires returns-2)
+    tie.close (tie.spec returns logarithm-requires cast-power-of-two sub-power-of-two power-of-two-requires returns-2)

@@ -23,26 +23,26 @@ returns-2 c = search (zero-left, zero-right)
 logarithm-requires : tie.Need-logarithm-requires
 logarithm-requires c κs = search needs
 
-cast-power : tie.Need-cast-power
-cast-power c = search needs
+cast-power-of-two : tie.Need-cast-power-of-two
+cast-power-of-two c = search needs
 
 logarithm-requires-2 : tie.Need-logarithm-requires-2
 logarithm-requires-2 c κs = search needs
 
-cast-power-2 : tie.Need-cast-power-2
-cast-power-2 c = search needs
+cast-power-of-two-2 : tie.Need-cast-power-of-two-2
+cast-power-of-two-2 c = search needs
 
-add-power : tie.Need-add-power
-add-power c = search needs
+add-power-of-two : tie.Need-add-power-of-two
+add-power-of-two c = search needs
 
-power-requires : tie.Need-power-requires
-power-requires c κs = search needs
+power-of-two-requires : tie.Need-power-of-two-requires
+power-of-two-requires c κs = search needs
 
 returns-3 : tie.Need-returns-3
 returns-3 c =
     let one = c .before .before .logarithm in
     let two = c .before .logarithm2 in
-    c .power .ensures
+    c .power-of-two .ensures
     ∙ power-add 2 (one .result) (two .result) (lit< tt)
     ∙ ap₂ times
     (one .ensures .exponent (c .before .before .before .before .if1 .left))
@@ -55,9 +55,9 @@ product-spec =
     returns
     returns-2
     logarithm-requires
-    cast-power
+    cast-power-of-two
     logarithm-requires-2
-    cast-power-2
-    add-power
-    power-requires
+    cast-power-of-two-2
+    add-power-of-two
+    power-of-two-requires
     returns-3)

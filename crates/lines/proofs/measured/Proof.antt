@@ -1,6 +1,7 @@
 -- `lines::measured` meets its contract. Assumes nothing.
 use native.Mathlib.Omega.{arith}
-use Rattle.rig.proofs.Sizes.{board-small, boards-small, elements-small, received-small, store-small, stores-small}
+use Rattle.config.proofs.Sizes.{board-small, elements-small, store-small}
+use Rattle.rig.proofs.Sizes.{all-elements-small, boards-small, stores-small}
 use borrow.Author.Needs.{needs}
 use Rattle.lines.proofs.measured.Statement.{statement}
 use Rattle.lines.proofs.measured.Tie as tie
@@ -27,16 +28,16 @@ mul-t9 : tie.Need-mul-t9
 mul-t9 c = let s = c .before .before .before .before .before .before in record { fits = omega (arith, boards-small (s .args .cfg) (s .pre .0)) }
 
 mul-t10 : tie.Need-mul-t10
-mul-t10 c = let s = c .before .before .before .before .before .before .before in record { fits = omega (arith, received-small (s .args .cfg) (s .pre .0)) }
+mul-t10 c = let s = c .before .before .before .before .before .before .before in record { fits = omega (arith, elements-small (s .args .cfg) (s .pre .0)) }
 
 mul-t11 : tie.Need-mul-t11
-mul-t11 c = let s = c .before .before .before .before .before .before .before .before in record { fits = omega (arith, elements-small (s .args .cfg) (s .pre .0)) }
+mul-t11 c = let s = c .before .before .before .before .before .before .before .before in record { fits = omega (arith, all-elements-small (s .args .cfg) (s .pre .0)) }
 
 returns : tie.Need-returns
 returns c =
     let s = c .before .before .before .before .before .before .before .before in
     let v = s .pre .0 in
-    (board-small (s .args .cfg) v, omega (arith, s .pre .1), stores-small (s .args .cfg) v, boards-small (s .args .cfg) v, elements-small (s .args .cfg) v)
+    (board-small (s .args .cfg) v, omega (arith, s .pre .1), stores-small (s .args .cfg) v, boards-small (s .args .cfg) v, all-elements-small (s .args .cfg) v)
 
 pub measured-spec : {M : Type 1} → statement M
 measured-spec =

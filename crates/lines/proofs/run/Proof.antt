@@ -2,7 +2,7 @@
 use mathlib.Core.Path.{sym}
 use native.Mathlib.Omega.{arith}
 use lib.Seq.{length-take-le}
-use Rattle.rig.proofs.Shaped.{five-most, five-valid}
+use Rattle.config.proofs.Valid.{rig-most, rig-valid}
 use borrow.Author.Needs.{needs}
 use Rattle.lines.proofs.run.Statement.{statement}
 use Rattle.lines.proofs.run.Tie as tie
@@ -32,8 +32,8 @@ measured-requires : tie.Need-measured-requires
 measured-requires c κs =
     let s = c .before .before .before .before .before .before .before in
     let a = c .before .before .before .before .before .ask-rig in (
-      five-valid (s .args .cfg) (s .args .m) (a .result) (a .ensures) (c .before .before .before .before .if1 .left),
-      five-most (s .args .cfg) (s .args .m) (a .result) (a .ensures) (c .before .before .before .before .if1 .left),
+      rig-valid (s .args .cfg) (s .args .m) (a .ensures) (c .before .before .before .before .if1 .left),
+      rig-most (s .args .cfg) (s .args .m) (a .ensures) (c .before .before .before .before .if1 .left) .1,
     )
 
 array-borrow-prefix-messages : tie.Need-array-borrow-prefix-messages

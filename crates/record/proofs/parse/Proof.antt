@@ -4,7 +4,6 @@ use borrow.Author.Needs.{needs}
 use borrow.Author.Tests.{not-true, not-false}
 use Prim.Native.Nat.{ℕ}
 use lib.ListN.{getD}
-use Rattle.tag.specs.declared.Tag.{Tag}
 use Rattle.tag.specs.Tag.{allowed}
 use Rattle.record.specs.declared.Header.{Header}
 use Rattle.record.specs.Record.{presentAt, tagAt}
@@ -14,13 +13,13 @@ use Rattle.record.proofs.Answers.{accepted, refused}
 use Rattle.record.proofs.parse.Statement.{statement}
 use Rattle.record.proofs.parse.Tie as tie
 
-kept-requires : tie.Need-kept-requires
-kept-requires c κs = search needs
+laid-out-requires : tie.Need-laid-out-requires
+laid-out-requires c κs = search needs
 
 returns : tie.Need-returns
 returns c =
     let s = c .before .before .before in
-    refused (s .args .cfg) _ (not-so _ _ (its-layout (s .args .cfg) _) (sym (c .before .kept .ensures) ∙ not-true _ (c .if1 .taken)))
+    refused (s .args .cfg) _ (not-so _ _ (its-layout (s .args .cfg) _) (sym (c .before .laid-out .ensures) ∙ not-true _ (c .if1 .taken)))
 
 shared-slice-read-new : tie.Need-shared-slice-read-new
 shared-slice-read-new c = search needs
@@ -131,7 +130,7 @@ returns-6 c =
     ∙ sym (d .before .before .allowed .ensures) ∙ not-false _ (d .before .if2 .left) in
     accepted (s .args .cfg) _ _ (says d)
     (well-formed (s .args .cfg) _ _ (says d) (s .pre .eighty)
-    (sym (d .before .before .before .before .before .before .before .before .before .before .before .before .before .before .before .before .before .before .before .before .kept .ensures) ∙ not-false _ (d .before .before .before .before .before .before .before .before .before .before .before .before .before .before .before .before .before .before .before .if1 .left))
+    (sym (d .before .before .before .before .before .before .before .before .before .before .before .before .before .before .before .before .before .before .before .before .laid-out .ensures) ∙ not-false _ (d .before .before .before .before .before .before .before .before .before .before .before .before .before .before .before .before .before .before .before .if1 .left))
     (some-client (s .args .cfg) _ _ _ (d .before .before .before .before .before .before .before .before .before .before .before .before .before .before .before .before .before .new .ensures) (d .before .before .before .before .before .before .before .before .before .before .before .before .before .before .before .client .given .1) .0)
     (some-server (s .args .cfg) _ _ _ (d .before .before .before .before .before .before .before .before .before .before .before .before .new2 .ensures) (d .before .before .before .before .before .before .before .before .before .before .server .given .1) .0)
     t
@@ -141,7 +140,7 @@ pub parse-spec : {M : Type 1} → statement M
 parse-spec =
     tie.close
     (tie.spec
-    kept-requires
+    laid-out-requires
     returns
     shared-slice-read-new
     new-requires

@@ -1,6 +1,6 @@
 use mathlib.Core.Path.{_≡_, refl, sym, _∙_, ap}
 use mathlib.Core.Bool.{Bool, cond}
-use Prim.Native.Nat.{ℕ, _≤_}
+use Prim.Native.Nat.{_≤_}
 use native.Mathlib.Omega.{arith}
 use borrow.Author.Needs.{needs}
 use borrow.Author.Tests.{not-true, not-false}
@@ -40,7 +40,7 @@ limits-requires c κs = search needs
 returns-3 : tie.Need-returns-3
 returns-3 c =
     let a = c .before .before .before .before .before .before .args in
-    not-written (a .cfg) (a .h) _ 6 _
+    not-written (a .cfg) (a .h) _ 12 _
     (write-limits (a .cfg) (a .h) _ (sym (c .before .before .before .before .ask .ensures) ∙ c .before .before .before .if1 .left) (c .before .before .if2 .left) (sym (c .before .limits .ensures) ∙ not-true _ (c .if3 .taken)))
     (λ z. search needs) refl
 

@@ -32,22 +32,22 @@ returns-3 c =
     by-state (a .cfg) (a .state) (a .long) (sym (c .before .before .before .before .before .ask .ensures) ∙ c .before .before .before .before .if1 .left) true (c .before .before .if2 .left ∙ c .before .before .before .store-length .ensures)
     (c .before .quick .ensures (c .if3 .taken))
 
-state-kept-requires : tie.Need-state-kept-requires
-state-kept-requires c κs = valid (c .before .before .before .before .before .before .args .cfg) (sym (c .before .before .before .before .before .ask .ensures) ∙ c .before .before .before .before .if1 .left)
+state-within-requires : tie.Need-state-within-requires
+state-within-requires c κs = valid (c .before .before .before .before .before .before .args .cfg) (sym (c .before .before .before .before .before .ask .ensures) ∙ c .before .before .before .before .if1 .left)
 
 returns-4 : tie.Need-returns-4
 unfolding firstNo
 returns-4 c =
     let a = c .before .before .before .before .before .before .before .before .args in
     by-state (a .cfg) (a .state) (a .long) (sym (c .before .before .before .before .before .before .before .ask .ensures) ∙ c .before .before .before .before .before .before .if1 .left) false (c .before .before .before .before .if2 .left ∙ c .before .before .before .before .before .store-length .ensures)
-    (sym (c .before .state-kept .ensures) ∙ not-true _ (c .if4 .taken))
+    (sym (c .before .state-within .ensures) ∙ not-true _ (c .if4 .taken))
 
 returns-5 : tie.Need-returns-5
 unfolding firstNo
 returns-5 c =
     let a = c .before .before .before .before .before .before .before .before .args in
     by-state (a .cfg) (a .state) (a .long) (sym (c .before .before .before .before .before .before .before .ask .ensures) ∙ c .before .before .before .before .before .before .if1 .left) true (c .before .before .before .before .if2 .left ∙ c .before .before .before .before .before .store-length .ensures)
-    (sym (c .before .state-kept .ensures) ∙ not-false _ (c .if4 .left))
+    (sym (c .before .state-within .ensures) ∙ not-false _ (c .if4 .left))
 
 pub ask-spec : {M : Type 1} → statement M
 ask-spec =
@@ -59,6 +59,6 @@ ask-spec =
     returns-2
     quick-requires
     returns-3
-    state-kept-requires
+    state-within-requires
     returns-4
     returns-5)

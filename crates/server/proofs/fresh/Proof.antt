@@ -1,11 +1,8 @@
 use borrow.Author.Needs.{needs}
-use mathlib.Core.Path.{_≡_, refl, sym, _∙_}
-use mathlib.Core.List.{_++_}
-use Prim.Native.Nat.{ℕ}
-use native.Mathlib.Omega.{arith}
+use mathlib.Core.Path.{refl, sym, _∙_}
 use borrow.Author.Tests.{not-true, not-false}
+use Rattle.config.specs.declared.Refusal.the-variants.{Missing, Shape}
 use Rattle.config.specs.Config.{questions}
-use Rattle.config.specs.Refusal.{clamped, verdictNumber}
 use Rattle.config.proofs.Questions.{questions-numbered}
 use Rattle.config.proofs.Valid.{valid}
 use Rattle.record.proofs.Answers.{first-stops}
@@ -20,42 +17,52 @@ ask-requires c κs = search needs
 of-requires : tie.Need-of-requires
 of-requires c κs = search needs
 
+refused-requires : tie.Need-refused-requires
+refused-requires c κs = search needs
+
 returns : tie.Need-returns
 unfolding freshQuestions freshState
 returns c =
-    let a = c .before .before .before .before .before .args in
-    let k : verdictNumber (c .of .result) ≡ clamped (c .before .before .ask .result) = omega (arith, c .of .ensures, c .before .if1 .taken) in
-    let f = first-stops (questions (a .cfg)) _ _ _ (questions-numbered (a .cfg)) (c .before .before .ask .ensures) (c .before .if1 .taken) k in
-    not-fresh (a .cfg) (a .me) _ _ _ _ (f .0) (c .before .if1 .taken) (f .1) refl
+    let a = c .before .before .before .before .before .before .args in
+    let f = first-stops (questions (a .cfg)) _ _ _ (questions-numbered (a .cfg)) (c .before .before .before .ask .ensures) (c .before .before .if1 .taken) (c .before .of .ensures) in
+    not-fresh (a .cfg) (a .me) _ _ _ _ (c .refused .ensures) (f .1 ∙ sym (f .0))
+
+refused-requires-2 : tie.Need-refused-requires-2
+refused-requires-2 c κs = search needs
 
 returns-2 : tie.Need-returns-2
 unfolding freshState
 returns-2 c =
-    let a = c .before .before .before .before .before .before .args in
-    not-fresh (a .cfg) (a .me) _ _ 6 _ (fresh-element (a .cfg) (a .me) _ _ (sym (c .before .before .before .ask .ensures) ∙ c .before .before .if1 .left) (c .if2 .taken)) (λ z. search needs) refl refl
+    let a = c .before .before .before .before .before .before .before .args in
+    not-fresh (a .cfg) (a .me) _ _ _ Shape (c .refused2 .ensures)
+    (sym (fresh-element (a .cfg) (a .me) _ _ (sym (c .before .before .before .before .ask .ensures) ∙ c .before .before .before .if1 .left) (c .before .if2 .taken)))
 
 store-length-requires : tie.Need-store-length-requires
 store-length-requires c κs = valid _ (sym (c .before .before .before .ask .ensures) ∙ c .before .before .if1 .left)
 
+refused-requires-3 : tie.Need-refused-requires-3
+refused-requires-3 c κs = search needs
+
 returns-3 : tie.Need-returns-3
 unfolding freshState
 returns-3 c =
-    let a = c .before .before .before .before .before .before .before .before .args in
-    not-fresh (a .cfg) (a .me) _ _ 6 _
-    (fresh-store (a .cfg) (a .me) _ _ (sym (c .before .before .before .before .before .ask .ensures) ∙ c .before .before .before .before .if1 .left) (c .before .before .if2 .left) (λ z. c .if3 .taken (z ∙ sym (c .before .store-length .ensures))))
-    (λ z. search needs) refl refl
+    let a = c .before .before .before .before .before .before .before .before .before .args in
+    not-fresh (a .cfg) (a .me) _ _ _ Shape (c .refused3 .ensures)
+    (sym (fresh-store (a .cfg) (a .me) _ _ (sym (c .before .before .before .before .before .before .ask .ensures) ∙ c .before .before .before .before .before .if1 .left) (c .before .before .before .if2 .left) (λ z. c .before .if3 .taken (z ∙ sym (c .before .before .store-length .ensures)))))
 
 server-within-requires : tie.Need-server-within-requires
 server-within-requires c κs = search needs
 
+refused-requires-4 : tie.Need-refused-requires-4
+refused-requires-4 c κs = search needs
+
 returns-4 : tie.Need-returns-4
 unfolding freshState
 returns-4 c =
-    let a = c .before .before .before .before .before .before .before .before .before .before .args in
-    not-fresh (a .cfg) (a .me) _ _ 6 _
-    (fresh-number (a .cfg) (a .me) _ _ (sym (c .before .before .before .before .before .before .before .ask .ensures) ∙ c .before .before .before .before .before .before .if1 .left) (c .before .before .before .before .if2 .left) (c .before .before .if3 .left ∙ c .before .before .before .store-length .ensures)
-    (sym (c .before .server-within .ensures) ∙ not-true _ (c .if4 .taken)))
-    (λ z. search needs) refl refl
+    let a = c .before .before .before .before .before .before .before .before .before .before .before .args in
+    not-fresh (a .cfg) (a .me) _ _ _ Missing (c .refused4 .ensures)
+    (sym (fresh-number (a .cfg) (a .me) _ _ (sym (c .before .before .before .before .before .before .before .before .ask .ensures) ∙ c .before .before .before .before .before .before .before .if1 .left) (c .before .before .before .before .before .if2 .left) (c .before .before .before .if3 .left ∙ c .before .before .before .before .store-length .ensures)
+    (sym (c .before .before .server-within .ensures) ∙ not-true _ (c .before .if4 .taken))))
 
 copy-requires : tie.Need-copy-requires
 copy-requires c κs = search needs
@@ -76,11 +83,15 @@ fresh-spec =
     (tie.spec
     ask-requires
     of-requires
+    refused-requires
     returns
+    refused-requires-2
     returns-2
     store-length-requires
+    refused-requires-3
     returns-3
     server-within-requires
+    refused-requires-4
     returns-4
     copy-requires
     same-length

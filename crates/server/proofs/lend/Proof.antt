@@ -1,14 +1,11 @@
 use borrow.Author.Needs.{needs}
-use mathlib.Core.Path.{_≡_, refl, sym, _∙_}
+use mathlib.Core.Path.{refl, sym, _∙_}
 use mathlib.Core.Option.{none, some}
-use Prim.Native.Nat.{ℕ, _+_, _*_, _≤_, _<_}
 use native.Mathlib.Omega.{arith}
-use lib.ListN.{length}
 use Rattle.tag.proofs.Order.{Small}
-use Rattle.server.specs.Inner.{Held}
 use Rattle.server.specs.View.{tagAt}
-use Rattle.server.proofs.Asked.{lend-asked, state-held}
-use Rattle.server.proofs.Held.{state-eight}
+use Rattle.server.proofs.Asked.{state-valid}
+use Rattle.server.proofs.Limits.{state-eight}
 use Rattle.server.proofs.Keep.{from-zero}
 use Rattle.server.proofs.Lending.{element-nowhere, element-there, lent-part, not-lent, part-fits, part-is, part-low}
 use Rattle.server.proofs.lend.Statement.{statement}
@@ -29,12 +26,12 @@ part-result-end c = search needs
 returns : tie.Need-returns
 returns c =
     let a = c .before .before .before .before .args in
-    not-lent (a .cfg) (a .state) (a .tag) (a .store .now) _ (c .before .before .ask .ensures ∙ lend-asked (a .cfg) (a .state) (a .store .now)) (c .before .if1 .taken)
+    not-lent (a .cfg) (a .state) (a .tag) (a .store .now) _ (c .before .before .ask .ensures) (c .before .if1 .taken)
 
 place-of-requires : tie.Need-place-of-requires
 place-of-requires c κs =
-    let held = state-held (c .before .before .before .before .args .cfg) (c .before .before .before .before .args .state) (c .before .before .before .before .args .store .now) (sym (c .before .before .ask .ensures) ∙ c .before .if1 .left) in
-    (search needs, state-eight (c .before .before .before .before .args .cfg) (c .before .before .before .before .args .state) (held .kept) (held .valid))
+    let held = state-valid (c .before .before .before .before .args .cfg) (c .before .before .before .before .args .state) (c .before .before .before .before .args .store .now) (sym (c .before .before .ask .ensures) ∙ c .before .if1 .left) in
+    (search needs, state-eight (c .before .before .before .before .args .cfg) (c .before .before .before .before .args .state) (held .within) (held .valid))
 
 sub-result-2 : tie.Need-sub-result-2
 sub-result-2 c = search needs
@@ -48,19 +45,19 @@ part-result-end-2 c = search needs
 returns-2 : tie.Need-returns-2
 returns-2 c =
     let a = c .before .before .before .before .before .before .before .args in
-    let held = state-held (c .before .before .before .before .before .before .before .args .cfg) (c .before .before .before .before .before .before .before .args .state) (c .before .before .before .before .before .before .before .args .store .now) (sym (c .before .before .before .before .before .ask .ensures) ∙ c .before .before .before .before .if1 .left) in
+    let held = state-valid (c .before .before .before .before .before .before .before .args .cfg) (c .before .before .before .before .before .before .before .args .state) (c .before .before .before .before .before .before .before .args .store .now) (sym (c .before .before .before .before .before .ask .ensures) ∙ c .before .before .before .before .if1 .left) in
     let st : Small (a .tag) = omega arith in
-    lent-part (a .cfg) (a .state) (a .tag) (a .store .now) _ (c .before .before .before .before .before .ask .ensures ∙ lend-asked (a .cfg) (a .state) (a .store .now)) (c .before .before .before .before .if1 .left) none _
+    lent-part (a .cfg) (a .state) (a .tag) (a .store .now) _ (c .before .before .before .before .before .ask .ensures) (c .before .before .before .before .if1 .left) none _
     (element-nowhere (a .cfg) (a .state) (a .tag) (a .store .now) held _ st (from-zero (c .before .before .before .before .before .before .before .args .tag) (tagAt (c .before .before .before .before .before .before .before .args .state .tags)) (c .before .before .before .before .before .before .before .args .state .count) _ (c .before .before .place-of .ensures)) (c .before .if2 .taken)) refl
 
 mul-from : tie.Need-mul-from
 mul-from c =
-    let held = state-held (c .before .before .before .before .before .before .before .args .cfg) (c .before .before .before .before .before .before .before .args .state) (c .before .before .before .before .before .before .before .args .store .now) (sym (c .before .before .before .before .before .ask .ensures) ∙ c .before .before .before .before .if1 .left) in
+    let held = state-valid (c .before .before .before .before .before .before .before .args .cfg) (c .before .before .before .before .before .before .before .args .state) (c .before .before .before .before .before .before .before .args .store .now) (sym (c .before .before .before .before .before .ask .ensures) ∙ c .before .before .before .before .if1 .left) in
     omega (arith, part-low (c .before .before .before .before .before .before .before .args .cfg) (c .before .before .before .before .before .before .before .args .state) (c .before .before .before .before .before .before .before .args .tag) (c .before .before .before .before .before .before .before .args .store .now) held _ (c .before .if2 .left))
 
 add-end : tie.Need-add-end
 add-end c =
-    let held = state-held (c .before .before .before .before .before .before .before .before .args .cfg) (c .before .before .before .before .before .before .before .before .args .state) (c .before .before .before .before .before .before .before .before .args .store .now) (sym (c .before .before .before .before .before .before .ask .ensures) ∙ c .before .before .before .before .before .if1 .left) in
+    let held = state-valid (c .before .before .before .before .before .before .before .before .args .cfg) (c .before .before .before .before .before .before .before .before .args .state) (c .before .before .before .before .before .before .before .before .args .store .now) (sym (c .before .before .before .before .before .before .ask .ensures) ∙ c .before .before .before .before .before .if1 .left) in
     omega (arith, part-low (c .before .before .before .before .before .before .before .before .args .cfg) (c .before .before .before .before .before .before .before .before .args .state) (c .before .before .before .before .before .before .before .before .args .tag) (c .before .before .before .before .before .before .before .before .args .store .now) held _ (c .before .before .if2 .left))
 
 sub-result-3 : tie.Need-sub-result-3
@@ -71,15 +68,15 @@ part-result-start-3 c = search needs
 
 part-result-end-3 : tie.Need-part-result-end-3
 part-result-end-3 c =
-    let held = state-held (c .before .before .before .before .before .before .before .before .args .cfg) (c .before .before .before .before .before .before .before .before .args .state) (c .before .before .before .before .before .before .before .before .args .store .now) (sym (c .before .before .before .before .before .before .ask .ensures) ∙ c .before .before .before .before .before .if1 .left) in
+    let held = state-valid (c .before .before .before .before .before .before .before .before .args .cfg) (c .before .before .before .before .before .before .before .before .args .state) (c .before .before .before .before .before .before .before .before .args .store .now) (sym (c .before .before .before .before .before .before .ask .ensures) ∙ c .before .before .before .before .before .if1 .left) in
     part-fits (c .before .before .before .before .before .before .before .before .args .cfg) (c .before .before .before .before .before .before .before .before .args .state) (c .before .before .before .before .before .before .before .before .args .tag) (c .before .before .before .before .before .before .before .before .args .store .now) held _ (c .before .before .if2 .left)
 
 returns-3 : tie.Need-returns-3
 returns-3 c =
     let a = c .before .before .before .before .before .before .before .before .before .args in
-    let held = state-held (c .before .before .before .before .before .before .before .before .before .args .cfg) (c .before .before .before .before .before .before .before .before .before .args .state) (c .before .before .before .before .before .before .before .before .before .args .store .now) (sym (c .before .before .before .before .before .before .before .ask .ensures) ∙ c .before .before .before .before .before .before .if1 .left) in
+    let held = state-valid (c .before .before .before .before .before .before .before .before .before .args .cfg) (c .before .before .before .before .before .before .before .before .before .args .state) (c .before .before .before .before .before .before .before .before .before .args .store .now) (sym (c .before .before .before .before .before .before .before .ask .ensures) ∙ c .before .before .before .before .before .before .if1 .left) in
     let st : Small (a .tag) = omega arith in
-    lent-part (a .cfg) (a .state) (a .tag) (a .store .now) _ (c .before .before .before .before .before .before .before .ask .ensures ∙ lend-asked (a .cfg) (a .state) (a .store .now)) (c .before .before .before .before .before .before .if1 .left) (some _) _
+    lent-part (a .cfg) (a .state) (a .tag) (a .store .now) _ (c .before .before .before .before .before .before .before .ask .ensures) (c .before .before .before .before .before .before .if1 .left) (some _) _
     (element-there (a .cfg) (a .state) (a .tag) (a .store .now) held _ st (from-zero (c .before .before .before .before .before .before .before .before .before .args .tag) (tagAt (c .before .before .before .before .before .before .before .before .before .args .state .tags)) (c .before .before .before .before .before .before .before .before .before .args .state .count) _ (c .before .before .before .before .place-of .ensures)) (c .before .before .before .if2 .left))
     (part-is (a .cfg) (a .state) (a .tag) (a .store .now) held _)
 

@@ -3,8 +3,8 @@ use Prim.Native.Nat.{_*_}
 use mathlib.Core.Path.{sym}
 use native.Mathlib.Omega.{arith}
 use lib.Seq.{length-take-le}
-use Rattle.rig.proofs.Shaped.{five-valid}
-use Rattle.rig.proofs.Sizes.{board-small}
+use Rattle.config.proofs.Sizes.{board-small}
+use Rattle.config.proofs.Valid.{rig-valid}
 use borrow.Author.Needs.{needs}
 use Rattle.simulate.proofs.begin.Statement.{statement}
 use Rattle.simulate.proofs.begin.Tie as tie
@@ -25,21 +25,21 @@ mul-v : tie.Need-mul-v
 mul-v c =
     let s = c .before .before .before .before in
     let a = c .before .before .before .ask-rig in
-    let small = board-small (s .args .cfg) (five-valid (s .args .cfg) (s .args .m) (a .result) (a .ensures) (c .before .before .if1 .left)) in
+    let small = board-small (s .args .cfg) (rig-valid (s .args .cfg) (s .args .m) (a .ensures) (c .before .before .if1 .left)) in
     record { fits = omega (arith, small) }
 
 array-borrow-prefix-start : tie.Need-array-borrow-prefix-start
 array-borrow-prefix-start c =
     let s = c .before .before .before .before in
     let a = c .before .before .before .ask-rig in
-    let small = board-small (s .args .cfg) (five-valid (s .args .cfg) (s .args .m) (a .result) (a .ensures) (c .before .before .if1 .left)) in
+    let small = board-small (s .args .cfg) (rig-valid (s .args .cfg) (s .args .m) (a .ensures) (c .before .before .if1 .left)) in
     omega (arith, small)
 
 slice-aggregate-play : tie.Need-slice-aggregate-play
 slice-aggregate-play c =
     let s = c .before .before .before .before .before in
     let a = c .before .before .before .before .ask-rig in
-    let small = board-small (s .args .cfg) (five-valid (s .args .cfg) (s .args .m) (a .result) (a .ensures) (c .before .before .before .if1 .left)) in
+    let small = board-small (s .args .cfg) (rig-valid (s .args .cfg) (s .args .m) (a .ensures) (c .before .before .before .if1 .left)) in
     let r = c .before .before .buffer in
     sym (length-take-le (s .args .cfg .k * s .args .cfg .e) (r .result) (omega (arith, small, r .ensures)))
 

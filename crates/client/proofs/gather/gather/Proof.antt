@@ -1,41 +1,47 @@
 use denote.Ref.{now}
 use mathlib.Core.Path.{_≡_, refl, sym, _∙_, ap, subst}
 use mathlib.Core.List.{List}
-use Prim.Native.Nat.{ℕ, _-_, _*_, _≤_}
+use Prim.Native.Nat.{ℕ, _-_, _≤_}
 use native.Mathlib.Nat.{zero-mul}
 use native.Mathlib.Omega.{arith}
 use native.Mathlib.Numerals.{add-one}
 use lib.ListN.{length, drop, length-take}
 use lib.Seq.{take-nil}
 use Rattle.config.specs.declared.Config.{Config}
-use Rattle.code.specs.Lists.{joined}
+use Rattle.laws.specs.Bytes.{joined}
 use Rattle.protocol.specs.Number.{present}
 use Rattle.client.specs.State.{received}
-use Rattle.client.specs.Gather.{Gathered, Gathers, lowest}
-use Rattle.client.proofs.Gathering.{gathered-more}
+use Rattle.client.specs.inner.Gather.{GatherPost, GatherPre, lowest}
+use Rattle.client.proofs.Gathering.{gathered-all, gathered-more}
 use Rattle.client.proofs.gather.gather.Statement.{statement}
 use Rattle.client.proofs.gather.gather.Tie as tie
 
 -- the servers 1 to s are done
 record Now (cfg : Config) (sent : ℕ) (es numbers₀ packed₀ numbers packed : List ℕ) (found s : ℕ) : Type 0 where
-  done : Gathered cfg (lowest cfg es sent s) numbers₀ numbers packed₀ packed found
+  done : GatherPost cfg (lowest cfg es sent s) numbers₀ numbers packed₀ packed found
   high : s ≤ cfg .n
   same-numbers : length numbers ≡ length numbers₀
   same-packed : length packed ≡ length packed₀
 
-none-yet : (cfg : Config) (sent : ℕ) (es numbers packed : List ℕ) → Gathered cfg (lowest cfg es sent 0) numbers numbers packed packed 0
+none-yet : (cfg : Config) (sent : ℕ) (es numbers packed : List ℕ) → GatherPost cfg (lowest cfg es sent 0) numbers numbers packed packed 0
 unfolding present joined
 none-yet cfg sent es numbers packed =
-    subst (λ (ps : List (ℕ × List ℕ)). Gathered cfg ps numbers numbers packed packed 0) (sym (take-nil (cfg .k)))
-    (record { count = refl; numbered = refl; joint = ap (λ (n : ℕ). drop n packed) (sym (zero-mul (cfg .e))) })
+    subst (λ (ps : List (ℕ × List ℕ)). GatherPost cfg ps numbers numbers packed packed 0) (sym (take-nil (cfg .k)))
+    (record {
+      count = refl;
+      numbered = refl;
+      joint = ap (λ (n : ℕ). drop n packed) (sym (zero-mul (cfg .e)));
+      long = sym (zero-mul (cfg .e));
+    })
 
 module _ {cfg : Config} {sent : ℕ} {es numbers₀ packed₀ numbers packed : List ℕ} {found s : ℕ} where
-  still : Gathers cfg sent es numbers₀ packed₀ → Now cfg sent es numbers₀ packed₀ numbers packed found s → Gathers cfg sent es numbers packed
+  still : GatherPre cfg sent es numbers₀ packed₀ → Now cfg sent es numbers₀ packed₀ numbers packed found s → GatherPre cfg sent es numbers packed
   still g n =
       record {
         valid = g .valid;
         within = g .within;
         elements = g .elements;
+        enough = g .enough;
         numbers-room = omega (arith, g .numbers-room, n .same-numbers);
         packed-room = omega (arith, g .packed-room, n .same-packed);
       }
@@ -101,11 +107,8 @@ same-length-2 c = c .before .before .loop .inv .same-packed
 returns : tie.Need-returns Inv-loop μ-loop
 returns c =
     let l = c .before .before .loop in
-    let a = c .before .before .before .before .before .before .args in
-    let end : l .s ≡ a .cfg .n = omega (arith, l .inv .high, c .if1 .left) in
-    subst
-    (λ (i : ℕ). Gathered (a .cfg) (lowest (a .cfg) (now (a .elements)) (a .sent) i) (now (a .numbers)) (l .numbers) (now (a .packed)) (l .packed) (l .found))
-    end (l .inv .done)
+    let s = c .before .before .before .before .before .before in
+    gathered-all (s .args .cfg) (s .args .sent) (now (s .args .elements)) (omega (arith, l .inv .high, c .if1 .left)) (s .pre .enough) (l .inv .done)
 
 pub gather-spec : {M : Type 1} → statement M
 gather-spec =

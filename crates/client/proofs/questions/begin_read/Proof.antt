@@ -1,28 +1,17 @@
-use mathlib.Core.Path.{_≡_, sym, _∙_}
 use native.Mathlib.Omega.{arith}
-use Rattle.client.specs.Questions.{beginQuestions}
-use Rattle.client.proofs.Asked.{early, later, sound}
+use borrow.Author.Tests.{eq-eqb, ne-eqb}
 use borrow.Author.Needs.{needs}
+use Rattle.client.proofs.Asked.{others, passed, short, stopped}
 use Rattle.client.proofs.questions.begin_read.Statement.{statement}
 use Rattle.client.proofs.questions.begin_read.Tie as tie
 
-ask-requires : tie.Need-ask-requires
-ask-requires c κs = search needs
-
-returns : tie.Need-returns
-unfolding beginQuestions
-returns c = let a = c .before .before .args in early (a .cfg) (c .before .ask .ensures) (c .if1 .taken) _
-
-mul-sized : tie.Need-mul-sized
-mul-sized c = let v = sound (c .before .before .before .args .cfg) (c .before .before .ask .ensures) (c .before .if1 .left) in omega arith
-
-begin-requires : tie.Need-begin-requires
-begin-requires c κs = sound (c .before .before .before .args .cfg) (c .before .before .ask .ensures) (c .before .if1 .left)
-
-returns-2 : tie.Need-returns-2
-unfolding beginQuestions
-returns-2 c = let a = c .before .before .before .before .args in
-    c .begin .ensures ∙ sym (later (a .cfg) (c .before .before .before .ask .ensures) (c .before .before .if1 .left) _)
-
 pub begin-read-spec : {M : Type 1} → statement M
-begin-read-spec = tie.close (tie.spec ask-requires returns mul-sized begin-requires returns-2)
+begin-read-spec =
+    tie.close
+    (tie.spec
+    (λ c κs. search needs)
+    (λ c. stopped _ _ (c .before .ask .ensures) (c .if1 .taken) _ _)
+    (λ c. omega (arith, passed _ _ (c .before .before .ask .ensures) (c .before .if1 .left) .0))
+    (λ c. short _ _ (c .before .before .before .ask .ensures) (c .before .before .if1 .left) (ne-eqb _ _ (c .if2 .taken)) _)
+    (λ c κs. search needs)
+    (λ c. others _ _ (c .before .before .before .before .ask .ensures) (c .before .before .before .if1 .left) (eq-eqb _ _ (c .before .if2 .left)) _ (c .idle .ensures _)))

@@ -2,7 +2,7 @@ use Prim.Native.Nat.{_*_}
 use native.Mathlib.Nat.{lt-of-le-of-lt}
 use lib.Dec.{lit<}
 use borrow.Author.Tests.{eq-eqb, ne-eqb}
-use Rattle.client.proofs.Bounds.{board-small}
+use Rattle.config.proofs.Sizes.{board-small}
 use borrow.Author.Needs.{needs}
 use Rattle.client.proofs.questions.write_sized.Statement.{statement}
 use Rattle.client.proofs.questions.write_sized.Tie as tie

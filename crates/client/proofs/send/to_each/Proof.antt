@@ -6,57 +6,52 @@ use native.Mathlib.Numerals.{add-one}
 use native.Mathlib.Omega.{arith}
 use borrow.Author.Needs.{needs}
 use borrow.Rule.Slice.PartMut.{same-len-mid}
-use lib.ListN.{length, take, drop, length-drop, drop-of-length-le}
-use lib.Seq.{length-take-le}
+use lib.ListN.{length, drop, drop-of-length-le}
+use Rattle.laws.proofs.Parts.{lent-length}
 use Rattle.config.specs.declared.Config.{Config}
-use Rattle.record.specs.Message.{Message}
-use Rattle.record.specs.Record.{recordOf}
+use Rattle.protocol.specs.Boards.{BoardMessage}
 use Rattle.protocol.specs.Number.{toEach}
-use Rattle.client.specs.declared.send.Letter.{Letter}
-use Rattle.client.specs.Send.{messageTo, records}
+use Rattle.client.specs.declared.send.Broadcast.{Broadcast}
+use Rattle.client.specs.Send.{recordsOf}
+use Rattle.client.specs.inner.Send.{messageTo}
 use Rattle.client.proofs.Sending.{sent-more}
 use Rattle.client.proofs.send.to_each.Statement.{statement}
 use Rattle.client.proofs.send.to_each.Tie as tie
 
 -- the servers 1 to s have their records
-record Now (cfg : Config) (letter : Letter) (board sends₀ sends : List ℕ) (s : ℕ) : Type 0 where
-  done : sends ≡ records cfg (toEach s (messageTo cfg letter board)) ++ drop (80 * s) sends₀
+record Now (cfg : Config) (b : Broadcast) (board sends₀ sends : List ℕ) (s : ℕ) : Type 0 where
+  done : sends ≡ recordsOf cfg (toEach s (messageTo cfg b board)) ++ drop (80 * s) sends₀
   high : s ≤ cfg .n
   same : length sends ≡ length sends₀
 
--- the part for one record has 80 bytes
-part-long : (s : ℕ) (sends : List ℕ) → 80 * s + 80 ≤ length sends → length (take (80 * s + 80 - 80 * s) (drop (80 * s) sends)) ≡ 80
-part-long s sends h =
-    length-take-le (80 * s + 80 - 80 * s) (drop (80 * s) sends) (omega (arith, length-drop (80 * s) sends)) ∙ omega arith
-
 -- once all have theirs, the buffer holds nothing else
-all : (cfg : Config) (f : ℕ → Message (List ℕ)) (s : ℕ) (sends₀ sends : List ℕ) → sends ≡ records cfg (toEach s f) ++ drop (80 * s) sends₀
-    → s ≡ cfg .n → length sends₀ ≡ 80 * cfg .n → sends ≡ records cfg (toEach (cfg .n) f)
+all : (cfg : Config) (f : ℕ → BoardMessage) (s : ℕ) (sends₀ sends : List ℕ) → sends ≡ recordsOf cfg (toEach s f) ++ drop (80 * s) sends₀
+    → s ≡ cfg .n → length sends₀ ≡ 80 * cfg .n → sends ≡ recordsOf cfg (toEach (cfg .n) f)
 all cfg f s sends₀ sends done end room =
-    done ∙ ap (λ (l : List ℕ). records cfg (toEach s f) ++ l) (drop-of-length-le sends₀ {i = 80 * s} (omega arith)) ∙ append-nil (records cfg (toEach s f))
-    ∙ ap (λ (i : ℕ). records cfg (toEach i f)) end
+    done ∙ ap (λ (l : List ℕ). recordsOf cfg (toEach s f) ++ l) (drop-of-length-le sends₀ {i = 80 * s} (omega arith)) ∙ append-nil (recordsOf cfg (toEach s f))
+    ∙ ap (λ (i : ℕ). recordsOf cfg (toEach i f)) end
 
 abbrev Inv-loop : tie.InvT-loop
-Inv-loop cfg letter board sends₀ s₀ sends s = Now cfg letter board sends₀ sends s
+Inv-loop cfg b board sends₀ s₀ sends s = Now cfg b board sends₀ sends s
 
 abbrev μ-loop : tie.MeasureT-loop
-μ-loop cfg letter board sends₀ s₀ sends s = cfg .n - s
+μ-loop cfg b board sends₀ s₀ sends s = cfg .n - s
 
 loop-holds : tie.Need-loop-holds Inv-loop μ-loop
-unfolding toEach records
+unfolding toEach recordsOf
 loop-holds c = record { done = refl; high = omega arith; same = refl }
 
 mul-at : tie.Need-mul-at Inv-loop μ-loop
-mul-at c = omega (arith, c .if1 .taken, c .before .before .before .before .before .pre .letter .valid .n-high)
+mul-at c = omega (arith, c .if1 .taken, c .before .before .before .before .before .pre .goes .valid .n-high)
 
 add-end : tie.Need-add-end Inv-loop μ-loop
-add-end c = omega (arith, c .if1 .taken, c .before .before .before .before .before .pre .letter .valid .n-high)
+add-end c = omega (arith, c .if1 .taken, c .before .before .before .before .before .pre .goes .valid .n-high)
 
 add-s : tie.Need-add-s Inv-loop μ-loop
-add-s c = omega (arith, c .if1 .taken, c .before .before .before .before .before .pre .letter .valid .n-high)
+add-s c = omega (arith, c .if1 .taken, c .before .before .before .before .before .pre .goes .valid .n-high)
 
 cast-to-one : tie.Need-cast-to-one Inv-loop μ-loop
-cast-to-one c = omega (arith, c .if1 .taken, c .before .before .before .before .before .pre .letter .valid .n-high)
+cast-to-one c = omega (arith, c .if1 .taken, c .before .before .before .before .before .pre .goes .valid .n-high)
 
 sub-to-one : tie.Need-sub-to-one Inv-loop μ-loop
 sub-to-one c = search needs
@@ -72,10 +67,11 @@ to-one-requires c κs =
     let s = c .before .before .before .before .before .before in
     let l = c .before .before .before .loop in
     record {
-      letter = s .pre .letter;
+      goes = s .pre .goes;
+      board-length = s .pre .board-length;
       low = omega arith;
       high = omega (arith, c .before .if1 .taken);
-      room = part-long (l .s) (l .sends) (omega (arith, c .before .if1 .taken, l .inv .same, s .pre .room));
+      room = lent-length (l .sends) (80 * l .s) 80 (omega (arith, c .before .if1 .taken, l .inv .same, s .pre .room));
     }
 
 loop-less : tie.Need-loop-less Inv-loop μ-loop
@@ -87,12 +83,11 @@ loop-again c =
     let l = c .before .before .before .before .before .before .loop in
     let o = c .before .before .to-one in
     let below = c .before .before .before .before .if1 .taken in
-    let f = messageTo (s .args .cfg) (s .args .letter) (now (s .args .board)) in
+    let f = messageTo (s .args .cfg) (s .args .b) (now (s .args .board)) in
     record {
       done =
           rw (add-one (l .s))
-          (sent-more (s .args .cfg) f (l .s) (now (s .args .sends)) (l .sends) _ (l .inv .done) (l .inv .same) (omega (arith, below, s .pre .room))
-          (o .ensures ∙ ap (λ (i : ℕ). recordOf (s .args .cfg) (f i)) (add-one (l .s))));
+          (sent-more (s .args .cfg) f (l .s) (now (s .args .sends)) (l .sends) _ (l .inv .done) (l .inv .same) (omega (arith, below, s .pre .room)) (add-one (l .s)) (o .ensures));
       high = omega (arith, below);
       same = same-len-mid (80 * l .s) (80 * l .s + 80 - 80 * l .s) (l .sends) (o .last .1 .1 .1 .1 .0) (o .kept .1 .1 .1 .1 .0) ∙ l .inv .same;
     }
@@ -104,7 +99,7 @@ returns : tie.Need-returns Inv-loop μ-loop
 returns c =
     let s = c .before .before .before .before .before in
     let l = c .before .before .loop in
-    all (s .args .cfg) (messageTo (s .args .cfg) (s .args .letter) (now (s .args .board))) (l .s) (now (s .args .sends)) (l .sends) (l .inv .done)
+    all (s .args .cfg) (messageTo (s .args .cfg) (s .args .b) (now (s .args .board))) (l .s) (now (s .args .sends)) (l .sends) (l .inv .done)
     (omega (arith, l .inv .high, c .if1 .left)) (s .pre .room)
 
 pub to-each-spec : {M : Type 1} → statement M

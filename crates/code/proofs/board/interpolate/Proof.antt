@@ -3,8 +3,8 @@ use Prim.Native.Nat.{_-_, _≤_}
 use mathlib.Core.Path.{_≡_, sym, ap, _∙_}
 use native.Mathlib.Omega.{arith}
 use lib.ListN.{length}
-use Rattle.code.specs.Row.{zeros}
-use Rattle.code.specs.Table.{Ready}
+use Rattle.code.specs.inner.Row.{zeros}
+use Rattle.code.specs.inner.Table.{Ready}
 use Rattle.code.proofs.Combined.{combined, combined-none, combined-length, combined-turn, combined-decoded}
 use Rattle.code.proofs.Interpolated.{usable, element-fits, element-part, spreadable, ready-clear}
 use Rattle.code.proofs.board.interpolate.Statement.{statement}

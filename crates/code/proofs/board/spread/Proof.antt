@@ -4,7 +4,7 @@ use mathlib.Core.Path.{_≡_, sym, ap, _∙_}
 use native.Mathlib.Omega.{arith}
 use lib.ListN.{length}
 use Rattle.code.proofs.Filled.{filled, length-filled}
-use Rattle.code.proofs.Parts.{part-length}
+use Rattle.code.proofs.Lent.{lent-row-length}
 use Rattle.code.proofs.Spreading.{each, row-fits, spread-none, spread-more, spread-all}
 use Rattle.code.proofs.board.spread.Statement.{statement}
 use Rattle.code.proofs.board.spread.Tie as tie
@@ -68,7 +68,7 @@ add-requires c κs =
     let x = c .before .before .before .before .before .before .before .before .before .before .before .before .args in
     let h = c .before .before .before .before .before .before .before .before .before .before .before .before .pre in
     let at = c .before .before .before .before .loop in
-    let size = part-length (x .k) (length (x .x .now)) (at .i) (at .board) (omega arith) (omega arith) in
+    let size = lent-row-length (x .k) (length (x .x .now)) (at .i) (at .board) (omega arith) (omega arith) in
     (omega (arith, size, h .e-high), c .before .before .before .before .before .before .before .multiply .ensures .ready .size)
 
 add-i : tie.Need-add-i Inv-loop μ-loop
@@ -84,7 +84,7 @@ loop-again c =
     let x = c .before .before .before .before .before .before .before .before .before .before .before .before .before .before .before .args in
     let h = c .before .before .before .before .before .before .before .before .before .before .before .before .before .before .before .pre in
     let at = c .before .before .before .before .before .before .before .loop in
-    let size = part-length (x .k) (length (x .x .now)) (at .i) (at .board) (omega arith) (omega arith) in
+    let size = lent-row-length (x .k) (length (x .x .now)) (at .i) (at .board) (omega arith) (omega arith) in
     let turned =
     spread-more (x .k) (x .r) (x .x .now) (x .table .now) (x .board .now) h (x .inverse .now) (at .i) (at .i * length (x .x .now) + length (x .x .now) - at .i * length (x .x .now)) (at .board) _ (omega arith) (at .inv .1) (omega arith) (at .inv .2)
     (c .before .before .add .ensures (x .x .now) (sym size) (c .before .before .before .before .before .before .before .before .before .before .multiply .ensures)) in (

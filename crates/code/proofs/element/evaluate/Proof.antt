@@ -1,12 +1,12 @@
 -- `code::element::evaluate` meets its contract: the row is the value of the rows from i on.
-use Prim.Native.Nat.{suc, _<_, _≤_, _-_}
+use Prim.Native.Nat.{suc, _≤_, _-_}
 use mathlib.Core.Path.{_≡_, refl, sym, ap, _∙_}
 use native.Mathlib.Omega.{arith}
 use lib.ListN.{length, take}
 use lib.Seq.{length-front, length-take-le, take-at}
-use Rattle.code.specs.Row.{stepped}
+use Rattle.code.specs.inner.Row.{stepped}
 use Rattle.code.proofs.Horner.{rows, row-fits, row-part, row-none, row-step, row-all}
-use Rattle.code.proofs.Parts.{copied, part}
+use Rattle.code.proofs.Lent.{copied, lentRow}
 use Rattle.code.proofs.element.evaluate.Statement.{statement}
 use Rattle.code.proofs.element.evaluate.Tie as tie
 
@@ -75,7 +75,7 @@ loop-again c =
     let one : at .i ≡ suc (at .i - 1) = omega arith in
     let made =
     c .before .step .ensures
-    ∙ ap (λ l. stepped l (x .s) (part (x .cfg .e) (x .board .now) (at .i - 1)))
+    ∙ ap (λ l. stepped l (x .s) (lentRow (x .cfg .e) (x .board .now) (at .i - 1)))
     (at .inv .2 ∙ ap (rows (x .cfg .k) (x .cfg .e) (x .board .now) (x .s)) one)
     ∙ row-step (x .cfg .k) (x .cfg .e) (x .board .now) (x .s) (at .i - 1) (omega arith) in
     let size = c .before .step .kept .0 in (

@@ -1,14 +1,14 @@
 -- `code::inverse::advance` meets its contract.
-use Prim.Native.Nat.{ℕ, _≤_, _<_, _-_}
-use mathlib.Core.Path.{_≡_, refl, sym, ap, ap₂, _∙_}
-use mathlib.Core.List.{List, [], _∷_}
+use Prim.Native.Nat.{ℕ, _≤_, _-_}
+use mathlib.Core.Path.{_≡_, refl, ap, _∙_}
+use mathlib.Core.List.{List}
 use borrow.Author.Needs.{needs}
 use native.Mathlib.Omega.{arith}
 use lib.Bits.{bitXor}
 use lib.ListN.{length, getD, length-set, replicate}
-use Rattle.code.proofs.Filled.{filled, filled-none, filled-at, turn, done}
+use Rattle.code.proofs.Filled.{filled, filled-none, turn, done}
 use Rattle.field.specs.Field.{plus, times}
-use Rattle.code.specs.Lanes.{advanced}
+use Rattle.code.specs.inner.Lanes.{advanced}
 use Rattle.code.proofs.inverse.advance.Statement.{statement}
 use Rattle.code.proofs.inverse.advance.Tie as tie
 

@@ -4,7 +4,7 @@ use mathlib.Core.Path.{_≡_, refl, ap, subst, _∙_}
 use borrow.Author.Needs.{needs}
 use native.Mathlib.Omega.{arith}
 use lib.ListN.{getD, take, replicate}
-use Rattle.code.specs.Element.{bytes}
+use Rattle.code.specs.Element.{byteField}
 use Rattle.code.specs.Polynomial.{roots}
 use Rattle.code.proofs.Advanced.{numbers-at, numbers-small}
 use Rattle.code.proofs.Division.{Divided, begins, turns, ends}
@@ -12,7 +12,7 @@ use Rattle.code.proofs.inverse.invert.Statement.{statement}
 use Rattle.code.proofs.inverse.invert.Tie as tie
 
 abbrev Inv-loop : tie.InvT-loop
-Inv-loop k servers s p inverse₀ q₀ v₀ i₀ inverse q v i = Divided k (roots bytes (take k servers)) s i inverse q v
+Inv-loop k servers s p inverse₀ q₀ v₀ i₀ inverse q v i = Divided k (roots byteField (take k servers)) s i inverse q v
 
 abbrev μ-loop : tie.MeasureT-loop
 μ-loop k servers s p inverse₀ q₀ v₀ i₀ inverse q v i = i
@@ -78,7 +78,7 @@ returns c =
     let s = c .before .before .before .before .before .before .lanes .result in
     let last : at .i ≡ 0 = omega arith in
     ends (c .before .before .before .before .before .before .before .before .args .k) (c .before .before .before .before .before .before .before .before .args .servers .now) (c .before .before .before .before .before .before .before .before .pre) s (at .inverse) (c .scale .last .1 .1 .0) (at .q) (at .v) (c .before .before .inverted .result)
-    (subst (λ n. Divided (start .args .k) (roots bytes (take (start .args .k) (start .args .servers .now))) s n (at .inverse) (at .q) (at .v)) last (at .inv))
+    (subst (λ n. Divided (start .args .k) (roots byteField (take (start .args .k) (start .args .servers .now))) s n (at .inverse) (at .q) (at .v)) last (at .inv))
     (λ r h. ap (λ l. getD l r 0) (c .before .before .before .before .before .before .lanes .ensures) ∙ numbers-at (start .args .k) (start .args .servers .now) r (start .pre .high) h)
     (c .before .before .inverted .ensures) (c .scale .ensures)
 

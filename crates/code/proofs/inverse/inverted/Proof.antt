@@ -1,12 +1,10 @@
 -- `code::inverse::inverted` meets its contract.
-use Prim.Native.Nat.{ℕ, _≤_, _<_, _-_}
-use mathlib.Core.Path.{_≡_, refl, sym, ap, ap₂, _∙_}
-use mathlib.Core.List.{List, [], _∷_}
+use Prim.Native.Nat.{_≤_, _-_}
+use mathlib.Core.Path.{_≡_, refl, ap, _∙_}
 use borrow.Author.Needs.{needs}
 use native.Mathlib.Omega.{arith}
-use lib.Bits.{bitXor}
 use lib.ListN.{length, getD, length-set, replicate}
-use Rattle.code.proofs.Filled.{filled, filled-none, filled-at, turn, done}
+use Rattle.code.proofs.Filled.{filled, filled-none, filled-at, turn}
 use Rattle.field.specs.Field.{inverseOf}
 use Rattle.code.proofs.inverse.inverted.Statement.{statement}
 use Rattle.code.proofs.inverse.inverted.Tie as tie

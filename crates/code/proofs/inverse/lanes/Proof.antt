@@ -1,11 +1,11 @@
 -- `code::inverse::lanes` meets its contract.
-use Prim.Native.Nat.{ℕ, _≤_, _<_, _-_}
+use Prim.Native.Nat.{_≤_, _-_}
 use mathlib.Core.Path.{_≡_, refl, sym, _∙_}
 use borrow.Author.Needs.{needs}
 use native.Mathlib.Omega.{arith}
 use lib.ListN.{length, getD, length-set, replicate, take, List·getD-eq-default}
 use lib.Seq.{getD-take, length-take-le}
-use Rattle.code.specs.Lanes.{numbers}
+use Rattle.code.specs.inner.Lanes.{numbers}
 use Rattle.code.proofs.Filled.{filled, filled-none, filled-zeros, turn}
 use Rattle.code.proofs.inverse.lanes.Statement.{statement}
 use Rattle.code.proofs.inverse.lanes.Tie as tie

@@ -1,13 +1,12 @@
 -- `code::inverse::multiply` meets its contract.
-use Prim.Native.Nat.{ℕ, _≤_, _<_, _-_}
-use mathlib.Core.Path.{_≡_, refl, sym, ap, _∙_}
+use Prim.Native.Nat.{ℕ, _≤_, _-_}
+use mathlib.Core.Path.{_≡_, refl, _∙_}
 use mathlib.Core.List.{List}
 use borrow.Author.Needs.{needs}
 use native.Mathlib.Omega.{arith}
-use lib.Bits.{bitXor}
 use lib.ListN.{length, getD, length-set, replicate}
 use Rattle.field.specs.Field.{times}
-use Rattle.code.specs.Lanes.{scaledLanes}
+use Rattle.code.specs.inner.Lanes.{scaledLanes}
 use Rattle.code.proofs.Filled.{filled, filled-none, turn, done}
 use Rattle.code.proofs.inverse.multiply.Statement.{statement}
 use Rattle.code.proofs.inverse.multiply.Tie as tie

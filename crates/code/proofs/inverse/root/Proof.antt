@@ -2,10 +2,9 @@
 use Prim.Native.Nat.{_≤_, _-_}
 use mathlib.Core.Path.{_≡_, refl, ap, _∙_}
 use mathlib.Core.List.{_∷_}
-use borrow.Author.Needs.{needs}
 use native.Mathlib.Omega.{arith}
 use lib.ListN.{length, getD, length-set, replicate}
-use Rattle.code.specs.Lists.{listOf}
+use Rattle.laws.specs.Bytes.{tabulate}
 use Rattle.code.proofs.Advanced.{same-small}
 use Rattle.code.proofs.Filled.{filled, filled-at, turn}
 use Rattle.code.proofs.FirstRoots.{below-at, shifted}
@@ -20,7 +19,7 @@ abbrev μ-loop : tie.MeasureT-loop
 μ-loop s p below₀ i₀ below i = 16 - i
 
 loop-holds : tie.Need-loop-holds Inv-loop μ-loop
-unfolding listOf
+unfolding tabulate
 loop-holds c = (omega arith, omega arith, refl, refl)
 
 sub-below : tie.Need-sub-below Inv-loop μ-loop

@@ -4,7 +4,7 @@ use mathlib.Core.Path.{_≡_, ap, _∙_}
 use borrow.Author.Needs.{needs}
 use native.Mathlib.Omega.{arith}
 use lib.ListN.{getD}
-use Rattle.code.specs.Lanes.{firstRoots, rootedOnce}
+use Rattle.code.specs.inner.Lanes.{firstRoots, rootedOnce}
 use Rattle.code.proofs.FirstRoots.{roots-one, roots-more}
 use Rattle.code.proofs.inverse.roots.Statement.{statement}
 use Rattle.code.proofs.inverse.roots.Tie as tie

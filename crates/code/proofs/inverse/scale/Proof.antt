@@ -5,7 +5,7 @@ use mathlib.Core.List.{List, []}
 use borrow.Author.Needs.{needs}
 use native.Mathlib.Omega.{arith}
 use lib.ListN.{length, getD, length-set}
-use Rattle.code.specs.Lanes.{scaledLanes}
+use Rattle.code.specs.inner.Lanes.{scaledLanes}
 use Rattle.code.proofs.Advanced.{multiplied-at}
 use Rattle.code.proofs.Filled.{filled, filled-none, filled-at, was, turn}
 use Rattle.code.proofs.inverse.scale.Statement.{statement}

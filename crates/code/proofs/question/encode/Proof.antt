@@ -2,10 +2,11 @@
 use mathlib.Core.Path.{sym, _∙_}
 use native.Mathlib.Nat.{lt-of-le-of-lt}
 use native.Mathlib.Omega.{arith}
+use borrow.Author.Tests.{not-true, not-false}
 use lib.Dec.{lit<}
 use Rattle.config.proofs.Valid.{valid}
 use Rattle.code.proofs.Asked.{rows-small}
-use Rattle.code.proofs.Encodable.{refused, wrong-board, wrong-buffer, server-below, server-above, accepted}
+use Rattle.code.proofs.Encodable.{refused, wrong-board, wrong-buffer, no-server, some-server}
 use borrow.Author.Needs.{needs}
 use Rattle.code.proofs.question.encode.Statement.{statement}
 use Rattle.code.proofs.question.encode.Tie as tie
@@ -33,22 +34,24 @@ returns-3 c =
     let x = c .before .before .before .before .before .before .args in
     wrong-buffer (x .cfg) (x .board) (x .s) (x .buffer) (sym (c .before .before .before .before .before .ask .ensures) ∙ c .before .before .before .before .if1 .left) (c .if3 .taken)
 
+server-exists-requires : tie.Need-server-exists-requires
+server-exists-requires c κs = search needs
+
 returns-4 : tie.Need-returns-4
 returns-4 c =
-    let x = c .before .before .before .before .before .before .before .args in
-    server-below (x .cfg) (x .board) (x .s) (x .buffer) (sym (c .before .before .before .before .before .before .ask .ensures) ∙ c .before .before .before .before .before .if1 .left) (c .before .before .before .if2 .left) (c .before .if3 .left) (c .if4 .taken)
+    let d = c .before .before in
+    let x = d .before .before .before .before .before .before .args in
+    no-server (x .cfg) (x .board) (x .s) (x .buffer) (sym (d .before .before .before .before .before .ask .ensures) ∙ d .before .before .before .before .if1 .left) (d .before .before .if2 .left) (d .if3 .left)
+    (sym (c .before .server-exists .ensures) ∙ not-true _ (c .if4 .taken))
 
 returns-5 : tie.Need-returns-5
 returns-5 c =
-    let x = c .before .before .before .before .before .before .before .before .before .args in
-    server-above (x .cfg) (x .board) (x .s) (x .buffer) (sym (c .before .before .before .before .before .before .before .before .ask .ensures) ∙ c .before .before .before .before .before .before .before .if1 .left) (c .before .before .before .before .before .if2 .left) (c .before .before .before .if3 .left) (c .if5 .taken)
-
-returns-6 : tie.Need-returns-6
-returns-6 c =
-    let x = c .before .before .before .before .before .before .before .before .before .args in
-    accepted (x .cfg) (x .board) (x .s) (x .buffer) (sym (c .before .before .before .before .before .before .before .before .ask .ensures) ∙ c .before .before .before .before .before .before .before .if1 .left) (c .before .before .before .before .before .if2 .left) (c .before .before .before .if3 .left) (c .before .before .if4 .left) (c .if5 .left)
+    let d = c .before .before in
+    let x = d .before .before .before .before .before .before .args in
+    some-server (x .cfg) (x .board) (x .s) (x .buffer) (sym (d .before .before .before .before .before .ask .ensures) ∙ d .before .before .before .before .if1 .left) (d .before .before .if2 .left) (d .if3 .left)
+    (sym (c .before .server-exists .ensures) ∙ not-false _ (c .if4 .left))
 
 pub encode-spec : {M : Type 1} → statement M
 encode-spec =
     tie.close
-    (tie.spec ask-requires returns mul-if2 returns-2 returns-3 returns-4 returns-5 returns-6)
+    (tie.spec ask-requires returns mul-if2 returns-2 returns-3 server-exists-requires returns-4 returns-5)

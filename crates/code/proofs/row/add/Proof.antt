@@ -6,9 +6,9 @@ use borrow.Author.Needs.{needs}
 use native.Mathlib.Omega.{arith}
 use lib.ListN.{length, getD, length-set}
 use Rattle.field.specs.Field.{plus, times}
-use Rattle.code.specs.Row.{added}
+use Rattle.code.specs.inner.Row.{added}
 use Rattle.code.proofs.Filled.{filled, filled-none, was, turn, done}
-use Rattle.code.proofs.Listed.{listOf-cong}
+use Rattle.laws.proofs.Bytes.{tabulate-cong}
 use Rattle.code.proofs.Tabled.{chosen, chosen-times}
 use Rattle.code.proofs.row.add.Statement.{statement}
 use Rattle.code.proofs.row.add.Tie as tie
@@ -117,7 +117,7 @@ returns c = λ x hx m.
     let at = c .before .loop in
     let a = c .before .before .args in
     done _ (at .j) _ (at .row) (at .inv .2) (omega arith)
-    ∙ listOf-cong (length (a .row .now)) (each (a .row .now) (a .c) (a .table .now))
+    ∙ tabulate-cong (length (a .row .now)) (each (a .row .now) (a .c) (a .table .now))
     (λ j. plus (getD (a .row .now) j 0) (times (a .c) (getD x j 0)))
     (λ j h. ap (plus (getD (a .row .now) j 0)) (chosen-times x (a .table .now) (length x) (m .rows) (a .c) j (omega arith) (omega arith)))
 

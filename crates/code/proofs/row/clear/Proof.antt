@@ -4,7 +4,7 @@ use mathlib.Core.Path.{_≡_, refl, _∙_}
 use borrow.Author.Needs.{needs}
 use native.Mathlib.Omega.{arith}
 use lib.ListN.{length, length-set}
-use Rattle.code.specs.Row.{zeros}
+use Rattle.code.specs.inner.Row.{zeros}
 use Rattle.code.proofs.Filled.{filled, filled-none, turn, done}
 use Rattle.code.proofs.row.clear.Statement.{statement}
 use Rattle.code.proofs.row.clear.Tie as tie

@@ -4,7 +4,7 @@ use mathlib.Core.Path.{sym, _∙_}
 use borrow.Author.Needs.{needs}
 use native.Mathlib.Omega.{arith}
 use lib.ListN.{length}
-use Rattle.code.specs.Table.{Ready, Rows}
+use Rattle.code.specs.inner.Table.{Ready, Rows}
 use Rattle.code.proofs.Tabled.{rows-more}
 use Rattle.code.proofs.row.multiply.Statement.{statement}
 use Rattle.code.proofs.row.multiply.Tie as tie

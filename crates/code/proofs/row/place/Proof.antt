@@ -22,11 +22,11 @@ what c =
 abbrev so-far : tie.After-double7 → List ℕ → List ℕ
 so-far c ns = written ns (what c) (c .before .before .before .before .before .before .before .before .args .j) (c .before .before .before .before .before .before .before .before .args .table .now)
 
-keeps : (c : tie.After-double7) (ns : List ℕ) → length (so-far c ns) ≡ length (c .before .before .before .before .before .before .before .before .args .table .now)
-keeps c ns = length-written (what c) (c .before .before .before .before .before .before .before .before .args .j) (c .before .before .before .before .before .before .before .before .args .table .now) ns
+homomorphism : (c : tie.After-double7) (ns : List ℕ) → length (so-far c ns) ≡ length (c .before .before .before .before .before .before .before .before .args .table .now)
+homomorphism c ns = length-written (what c) (c .before .before .before .before .before .before .before .before .args .j) (c .before .before .before .before .before .before .before .before .args .table .now) ns
 
 next : (c : tie.After-double7) (ns : List ℕ) (n : ℕ) → n < 16 → 64 * n + c .before .before .before .before .before .before .before .before .args .j < length (so-far c ns)
-next c ns n h = inside (so-far c ns) (keeps c ns ∙ c .before .before .before .before .before .before .before .before .pre .0 .size) n (c .before .before .before .before .before .before .before .before .args .j) h (c .before .before .before .before .before .before .before .before .pre .1)
+next c ns n h = inside (so-far c ns) (homomorphism c ns ∙ c .before .before .before .before .before .before .before .before .pre .0 .size) n (c .before .before .before .before .before .before .before .before .args .j) h (c .before .before .before .before .before .before .before .before .pre .1)
 
 double-requires : tie.Need-double-requires
 double-requires c κs = search needs
@@ -135,7 +135,7 @@ slice-write-table-12 c = next c (14 ∷ 13 ∷ 11 ∷ 10 ∷ 9 ∷ 7 ∷ 6 ∷ 5
 
 same-length : tie.Need-same-length
 unfolding written rows multiple
-same-length c = keeps c rows
+same-length c = homomorphism c rows
 
 returns : tie.Need-returns
 unfolding written rows multiple

@@ -1,19 +1,15 @@
 -- `code::row::step` meets its contract: the bytes before j are stepped, those from j on are as they were.
 use Prim.Native.Nat.{ℕ, _≤_, _<_, _-_}
-use mathlib.Core.Path.{_≡_, refl, ap, ap₂, _∙_}
+use mathlib.Core.Path.{_≡_, refl, ap, _∙_}
 use mathlib.Core.List.{List}
-use borrow.Author.Needs.{needs}
 use native.Mathlib.Omega.{arith}
 use lib.Bits.{bitXor}
 use lib.ListN.{length, getD, length-set}
 use Rattle.field.specs.Field.{plus, times}
-use Rattle.code.specs.Row.{stepped}
+use Rattle.code.specs.inner.Row.{stepped}
 use Rattle.code.proofs.Filled.{filled, filled-none, was, turn, done}
 use Rattle.code.proofs.row.step.Statement.{statement}
 use Rattle.code.proofs.row.step.Tie as tie
-use Rattle.code.proofs.row.step.Reads as reads
-use Rattle.code.proofs.row.step.Lts as lts
-use Rattle.code.proofs.digit.by_server.Reads as by-server-reads
 
 -- byte j of the stepped row
 each : List ℕ → ℕ → List ℕ → ℕ → ℕ

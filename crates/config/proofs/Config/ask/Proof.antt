@@ -6,56 +6,43 @@ use Rattle.config.specs.Questions.{firstNo}
 use borrow.Author.Needs.{needs}
 use Rattle.config.proofs.Config.ask.Statement.{statement}
 use Rattle.config.proofs.Config.ask.Tie as tie
-use Rattle.config.proofs.Config.ask.Reads as reads
-use Rattle.config.proofs.Config.ask.Lts as lts
-use Rattle.config.proofs.within.Reads as within-reads
 
 -- what a test said of the result that it looked at
 was : {r a b : Bool} → r ≡ a → r ≡ b → a ≡ b
 was e f = sym e ∙ f
 
--- src/lib.rt:25:13
 within-requires : tie.Need-within-requires
 within-requires c κs = search needs
 
--- src/lib.rt:26:13
 returns : tie.Need-returns
 unfolding firstNo questions
 returns c = rw (was (c .before .within .ensures) (not-true _ (c .if1 .taken)))
 
--- src/lib.rt:28:13
 within-requires-2 : tie.Need-within-requires-2
 within-requires-2 c κs = search needs
 
--- src/lib.rt:29:13
 returns-2 : tie.Need-returns-2
 unfolding firstNo questions
 returns-2 c = rw (was (c .before .before .before .within .ensures) (not-false _ (c .before .before .if1 .left)), was (c .before .within2 .ensures) (not-true _ (c .if2 .taken)))
 
--- src/lib.rt:32:13
 returns-3 : tie.Need-returns-3
 unfolding firstNo questions
 returns-3 c = rw (was (c .before .before .before .before .before .within .ensures) (not-false _ (c .before .before .before .before .if1 .left)), was (c .before .before .before .within2 .ensures) (not-false _ (c .before .before .if2 .left)), lt-leb _ _ (c .if3 .taken))
 
--- src/lib.rt:34:13
 within-requires-3 : tie.Need-within-requires-3
 within-requires-3 c κs = search needs
 
--- src/lib.rt:35:13
 returns-4 : tie.Need-returns-4
 unfolding firstNo questions
 returns-4 c = rw (was (c .before .before .before .before .before .before .before .within .ensures) (not-false _ (c .before .before .before .before .before .before .if1 .left)), was (c .before .before .before .before .before .within2 .ensures) (not-false _ (c .before .before .before .before .if2 .left)), le-leb _ _ (c .before .before .if3 .left), was (c .before .within3 .ensures) (not-true _ (c .if4 .taken)))
 
--- src/lib.rt:37:13
 within-requires-4 : tie.Need-within-requires-4
 within-requires-4 c κs = search needs
 
--- src/lib.rt:38:13
 returns-5 : tie.Need-returns-5
 unfolding firstNo questions
 returns-5 c = rw (was (c .before .before .before .before .before .before .before .before .before .within .ensures) (not-false _ (c .before .before .before .before .before .before .before .before .if1 .left)), was (c .before .before .before .before .before .before .before .within2 .ensures) (not-false _ (c .before .before .before .before .before .before .if2 .left)), le-leb _ _ (c .before .before .before .before .if3 .left), was (c .before .before .before .within3 .ensures) (not-false _ (c .before .before .if4 .left)), was (c .before .within4 .ensures) (not-true _ (c .if5 .taken)))
 
--- src/lib.rt:22:5
 returns-6 : tie.Need-returns-6
 unfolding firstNo questions
 returns-6 c = rw (was (c .before .before .before .before .before .before .before .before .before .within .ensures) (not-false _ (c .before .before .before .before .before .before .before .before .if1 .left)), was (c .before .before .before .before .before .before .before .within2 .ensures) (not-false _ (c .before .before .before .before .before .before .if2 .left)), le-leb _ _ (c .before .before .before .before .if3 .left), was (c .before .before .before .within3 .ensures) (not-false _ (c .before .before .if4 .left)), was (c .before .within4 .ensures) (not-false _ (c .if5 .left)))

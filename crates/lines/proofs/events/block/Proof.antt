@@ -1,7 +1,6 @@
 -- `lines::events::block` is safe and ends: each turn uses a record. Assumes nothing.
 use Prim.Native.Nat.{ℕ, _+_, _-_, _*_, _≤_}
 use mathlib.Core.Path.{_≡_}
-use mathlib.Core.List.{[]}
 use lib.ListN.{length}
 use native.Mathlib.Omega.{arith}
 use borrow.Author.Needs.{needs}
@@ -53,29 +52,8 @@ add-next c = search needs
 add-bytes : tie.Need-add-bytes Inv-loop μ-loop
 add-bytes c = search needs
 
-add-little : tie.Need-add-little Inv-loop μ-loop
-add-little c = search needs
-
-shared-slice-read-little : tie.Need-shared-slice-read-little Inv-loop μ-loop
-shared-slice-read-little c = search needs
-
-add-little-2 : tie.Need-add-little-2 Inv-loop μ-loop
-add-little-2 c = search needs
-
-shared-slice-read-little-2 : tie.Need-shared-slice-read-little-2 Inv-loop μ-loop
-shared-slice-read-little-2 c = search needs
-
-little-requires : tie.Need-little-requires Inv-loop μ-loop
-little-requires c κs = search needs
-
-shared-slice-read-changes : tie.Need-shared-slice-read-changes Inv-loop μ-loop
-shared-slice-read-changes c = search needs
-
-add-changes : tie.Need-add-changes Inv-loop μ-loop
-add-changes c = search needs
-
-shared-slice-read-changes-2 : tie.Need-shared-slice-read-changes-2 Inv-loop μ-loop
-shared-slice-read-changes-2 c = search needs
+called-requires : tie.Need-called-requires Inv-loop μ-loop
+called-requires c κs = search needs
 
 sub-changes : tie.Need-sub-changes Inv-loop μ-loop
 sub-changes c = search needs
@@ -89,52 +67,52 @@ part-changes-end c = search needs
 changes-requires : tie.Need-changes-requires Inv-loop μ-loop
 changes-requires c κs = search needs
 
-mul-seat : tie.Need-mul-seat Inv-loop μ-loop
-mul-seat c = omega (arith, c .before .before .before .before .before .before .before .before .before .before .before .before .before .changes .ensures [] .inside .0)
+mul-node : tie.Need-mul-node Inv-loop μ-loop
+mul-node c = omega (arith, c .before .before .before .before .before .before .before .before .before .before .before .before .before .before .changes .ensures .inside .0)
 
-element-set-from-seat : tie.Need-element-set-from-seat Inv-loop μ-loop
-element-set-from-seat c = omega (arith, c .before .before .before .before .before .before .before .before .before .before .before .before .before .changes .ensures [] .inside .0)
+element-set-from-node : tie.Need-element-set-from-node Inv-loop μ-loop
+element-set-from-node c = omega (arith, c .before .before .before .before .before .before .before .before .before .before .before .before .before .before .changes .ensures .inside .0)
 
-mul-state : tie.Need-mul-state Inv-loop μ-loop
-mul-state c = omega (arith, c .before .before .before .before .before .before .before .before .before .before .before .before .before .changes .ensures [] .inside .1)
+mul-client : tie.Need-mul-client Inv-loop μ-loop
+mul-client c = omega (arith, c .before .before .before .before .before .before .before .before .before .before .before .before .before .before .changes .ensures .inside .1)
 
-element-set-from-state : tie.Need-element-set-from-state Inv-loop μ-loop
-element-set-from-state c = omega (arith, c .before .before .before .before .before .before .before .before .before .before .before .before .before .changes .ensures [] .inside .1)
+element-set-from-client : tie.Need-element-set-from-client Inv-loop μ-loop
+element-set-from-client c = omega (arith, c .before .before .before .before .before .before .before .before .before .before .before .before .before .before .changes .ensures .inside .1)
 
 line-requires : tie.Need-line-requires Inv-loop μ-loop
 line-requires c κs =
-    let l = c .before .before .before .before .before .before .before .before .before .before .before .before .before .before .before .before .before .before .before .before .before .before .before .before .before .before .before .before .before .before .loop in
-    let e = c .before .before .before .before .before .before .before .before .before .before .before .before .before .before .before .changes in
-    omega (arith, l .inv .0 .reads, l .inv .0 .writes, l .inv .0 .rooms, e .kept .1 .1 .1 .1 .1 .1 .1 .0, c .before .before .before .before .before .before .before .before .before .before .before .before .before .before .before .before .before .before .before .before .before .before .before .before .before .before .before .if2 .left)
+    let l = c .before .before .before .before .before .before .before .before .before .before .before .before .before .before .before .before .before .before .before .before .before .before .before .before .before .before .before .loop in
+    let e = c .before .before .before .before .before .before .before .before .before .before .before .before .before .before .before .before .changes in
+    omega (arith, l .inv .0 .reads, l .inv .0 .writes, l .inv .0 .rooms, e .kept .1 .1 .1 .1 .1 .0, c .before .before .before .before .before .before .before .before .before .before .before .before .before .before .before .before .before .before .before .before .before .before .before .before .if2 .left)
 
 wrapping-add-u64-requires : tie.Need-wrapping-add-u64-requires Inv-loop μ-loop
 wrapping-add-u64-requires c κs = search needs
 
 loop-less : tie.Need-loop-less Inv-loop μ-loop
 loop-less c =
-    let i = c .before .before .before .before .before .before .before .before .before .before .before .before .before .before .before .before .before .before .before .before .before .before .before .before .before .before .before .before .before .before .before .before .before .before .loop .inv .0 in
-    omega (arith, i .sizes, i .before, c .before .before .before .before .before .before .before .before .before .before .before .before .before .before .before .before .before .before .before .before .before .before .before .before .before .before .before .before .before .before .before .before .if1 .taken)
+    let i = c .before .before .before .before .before .before .before .before .before .before .before .before .before .before .before .before .before .before .before .before .before .before .before .before .before .before .before .before .before .before .before .loop .inv .0 in
+    omega (arith, i .sizes, i .before, c .before .before .before .before .before .before .before .before .before .before .before .before .before .before .before .before .before .before .before .before .before .before .before .before .before .before .before .before .before .if1 .taken)
 
 loop-again : tie.Need-loop-again Inv-loop μ-loop
 loop-again c =
-    let i = c .before .before .before .before .before .before .before .before .before .before .before .before .before .before .before .before .before .before .before .before .before .before .before .before .before .before .before .before .before .before .before .before .before .before .loop .inv in
-    let more = c .before .before .before .before .before .before .before .before .before .before .before .before .before .before .before .before .before .before .before .before .before .before .before .before .before .before .before .before .before .before .before .before .if1 .taken in
-    let room = c .before .before .before .before .before .before .before .before .before .before .before .before .before .before .before .before .before .before .before .before .before .before .before .before .before .before .before .before .before .before .before .if2 .left in
-    let e = c .before .before .before .before .before .before .before .before .before .before .before .before .before .before .before .before .before .before .before .changes in
+    let i = c .before .before .before .before .before .before .before .before .before .before .before .before .before .before .before .before .before .before .before .before .before .before .before .before .before .before .before .before .before .before .before .loop .inv in
+    let more = c .before .before .before .before .before .before .before .before .before .before .before .before .before .before .before .before .before .before .before .before .before .before .before .before .before .before .before .before .before .if1 .taken in
+    let room = c .before .before .before .before .before .before .before .before .before .before .before .before .before .before .before .before .before .before .before .before .before .before .before .before .before .before .before .before .if2 .left in
+    let e = c .before .before .before .before .before .before .before .before .before .before .before .before .before .before .before .before .before .before .before .before .changes in
     let l = c .before .before .before .line in (
       record {
-        reads = omega (arith, i .0 .reads, e .kept .1 .1 .1 .1 .1 .1 .1 .0);
+        reads = omega (arith, i .0 .reads, e .kept .1 .1 .1 .1 .1 .0);
         writes = omega (arith, i .0 .writes, l .kept .1 .1 .1 .0);
         sizes = i .0 .sizes;
         rooms = i .0 .rooms;
         before = omega (arith, i .0 .before, i .0 .sizes, more);
         within = i .0 .within;
-        used-within = omega (arith, i .0 .reads, i .0 .rooms, room, l .ensures .1, e .kept .1 .1 .1 .1 .1 .1 .1 .0);
+        used-within = omega (arith, i .0 .reads, i .0 .rooms, room, l .ensures .1, e .kept .1 .1 .1 .1 .1 .0);
       },
-      omega (arith, i .1, e .kept .1 .1 .1 .1 .1 .1 .1 .1 .0),
-      omega (arith, i .2, e .kept .1 .1 .1 .1 .1 .1 .1 .1 .1 .0),
-      omega (arith, i .3, e .kept .1 .1 .1 .1 .1 .1 .1 .1 .1 .1 .0),
-      omega (arith, i .4, e .kept .1 .1 .1 .1 .1 .1 .1 .1 .1 .1 .1 .0),
+      omega (arith, i .1, e .kept .1 .1 .1 .1 .1 .1 .0),
+      omega (arith, i .2, e .kept .1 .1 .1 .1 .1 .1 .1 .0),
+      omega (arith, i .3, e .kept .1 .1 .1 .1 .1 .1 .1 .1 .0),
+      omega (arith, i .4, e .kept .1 .1 .1 .1 .1 .1 .1 .1 .1 .0),
     )
 
 same-length : tie.Need-same-length Inv-loop μ-loop
@@ -193,22 +171,15 @@ block-spec =
     sub-if1
     add-next
     add-bytes
-    add-little
-    shared-slice-read-little
-    add-little-2
-    shared-slice-read-little-2
-    little-requires
-    shared-slice-read-changes
-    add-changes
-    shared-slice-read-changes-2
+    called-requires
     sub-changes
     part-changes-start
     part-changes-end
     changes-requires
-    mul-seat
-    element-set-from-seat
-    mul-state
-    element-set-from-state
+    mul-node
+    element-set-from-node
+    mul-client
+    element-set-from-client
     line-requires
     wrapping-add-u64-requires
     loop-less

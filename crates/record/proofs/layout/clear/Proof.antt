@@ -1,10 +1,10 @@
-use mathlib.Core.Path.{_≡_, refl, sym, _∙_, ap}
+use mathlib.Core.Path.{_≡_, refl, _∙_, ap}
 use mathlib.Core.List.{List}
 use Prim.Native.Nat.{ℕ, _-_, _≤_}
 use native.Mathlib.Omega.{arith}
 use lib.ListN.{length, set}
 use borrow.Author.Needs.{needs}
-use Rattle.record.proofs.Bytes.{zerosTo, zeros-none, zeros-more, zeros-all, zeros-long}
+use Rattle.record.proofs.Bytes.{zerosTo, zeros-more, zeros-all}
 use Rattle.record.proofs.layout.clear.Statement.{statement}
 use Rattle.record.proofs.layout.clear.Tie as tie
 

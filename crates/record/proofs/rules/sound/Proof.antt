@@ -1,15 +1,13 @@
 use mathlib.Core.Path.{_≡_, refl, sym, _∙_}
-use mathlib.Core.Bool.{Bool, true, false, _&&_}
-use Prim.Native.Nat.{ℕ, _≤_, _<_}
+use mathlib.Core.Bool.{true, false, and-true}
+use Prim.Native.Nat.{ℕ}
 use native.Mathlib.Omega.{arith}
-use lib.Dec.{leb}
 use borrow.Author.Needs.{needs}
 use borrow.Author.Tests.{le-leb, lt-leb, not-true, not-false}
 use Rattle.config.specs.Number.{clientNumber}
 use Rattle.record.specs.declared.Header.{Header}
-use Rattle.record.specs.Inner.{isSound}
+use Rattle.record.specs.Calls.{isSound}
 use Rattle.record.specs.Record.{all, kindNumber, ownTag, presence, queryTag}
-use Rattle.record.proofs.Clauses.{and-true}
 use Rattle.record.proofs.rules.sound.Statement.{statement}
 use Rattle.record.proofs.rules.sound.Tie as tie
 

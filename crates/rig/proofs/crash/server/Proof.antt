@@ -1,48 +1,34 @@
-use mathlib.Core.Path.{_≡_, sym, ap₂, subst, _∙_}
-use mathlib.Core.Bool.{true}
+use mathlib.Core.Path.{sym, _∙_}
+use borrow.Author.Needs.{needs}
 use borrow.Author.Tests.{not-true, not-false}
-use Rattle.config.specs.declared.Refusal.{Refusal}
-use Rattle.protocol.specs.Rig.{isWithin}
-use Rattle.rig.specs.Calls.{seatOf}
-use Rattle.rig.specs.Inner.{CrashServerPost, downSeat, quiet}
-use Rattle.rig.proofs.Crashed.{no-server, outside-high, outside-low, server-crashed, server-down}
-use Rattle.rig.proofs.Parted.{on-seat, on-same, place-at, seat-placed, seatRig}
-use Rattle.rig.proofs.Places.{within-both}
+use Rattle.rig.proofs.crash.Laws.{server-crashed, server-missing}
 use Rattle.rig.proofs.crash.server.Statement.{statement}
 use Rattle.rig.proofs.crash.server.Tie as tie
 
+exists-requires : tie.Need-exists-requires
+exists-requires c κs = search needs
+
+refused-requires : tie.Need-refused-requires
+refused-requires c κs = search needs
+
 returns : tie.Need-returns
 returns c =
-    let a = c .before .args in
-    on-same (a .part) _ Refusal.Missing (λ r _. no-server (a .cfg) r (a .party) (outside-low (a .party) (a .cfg .n) (c .if1 .taken)))
+    let a = c .before .before .before .args in
+    server-missing (a .cfg) (a .part) (a .call) (c .refused .result) (c .refused .ensures)
+    (sym (c .before .before .exists .ensures) ∙ not-true _ (c .before .if1 .taken))
+
+server-requires : tie.Need-server-requires
+server-requires c κs = search needs
+
+acted-requires : tie.Need-acted-requires
+acted-requires c κs = search needs
 
 returns-2 : tie.Need-returns-2
 returns-2 c =
-    let a = c .before .before .before .args in
-    on-same (a .part) _ Refusal.Missing (λ r _.
-    no-server (a .cfg) r (a .party) (outside-high (a .party) (a .cfg .n) (c .before .before .if1 .left) (c .if2 .taken)))
-
-returns-3 : tie.Need-returns-3
-returns-3 c =
-    let s = c .before .before .before .before .before in
-    let a = s .args in
-    let h : isWithin (a .party) (a .cfg .n) ≡ true =
-    within-both (a .party) (a .cfg .n) (c .before .before .before .before .if1 .left) (c .before .before .if2 .left) in
-    on-same (a .part) _ Refusal.Down (λ r o.
-    server-down (a .cfg) r (a .party) (seatOf (a .part)) h (seat-placed r (a .part) o (a .cfg .n) (a .party) (s .pre) h)
-    (not-true _ (c .if3 .taken)))
-
-returns-4 : tie.Need-returns-4
-returns-4 c =
-    let s = c .before .before .before .before .before in
-    let a = s .args in
-    let h : isWithin (a .party) (a .cfg .n) ≡ true =
-    within-both (a .party) (a .cfg .n) (c .before .before .before .before .if1 .left) (c .before .before .if2 .left) in
-    on-seat (a .part) _ (downSeat (seatOf (a .part))) (a .part .count) (λ r o.
-    subst (λ t. CrashServerPost (a .cfg) r (a .party) t)
-    (ap₂ (λ i n. quiet (seatRig r i (downSeat (seatOf (a .part))) n)) (sym (s .pre ∙ place-at (a .cfg .n) (a .party) h)) (o .count))
-    (server-crashed (a .cfg) r (a .party) (seatOf (a .part)) h (seat-placed r (a .part) o (a .cfg .n) (a .party) (s .pre) h)
-    (not-false _ (c .if3 .left))))
+    let a = c .before .before .before .before .before .args in
+    server-crashed (a .cfg) (a .part) (a .call) (c .acted .result) (c .before .server .result) (c .acted .ensures)
+    (sym (c .before .before .before .before .exists .ensures) ∙ not-false _ (c .before .before .before .if1 .left)) (c .before .server .ensures)
 
 pub server-spec : {M : Type 1} → statement M
-server-spec = tie.close (tie.spec returns returns-2 returns-3 returns-4)
+server-spec =
+    tie.close (tie.spec exists-requires refused-requires returns server-requires acted-requires returns-2)

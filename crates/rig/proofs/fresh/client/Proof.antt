@@ -1,11 +1,7 @@
-use mathlib.Core.Path.{_≡_, subst}
-use mathlib.Core.Option.{some}
-use Prim.Native.Nat.{ℕ, _+_}
+use Prim.Native.Nat.{ℕ}
+use mathlib.Core.Path.{_≡_}
 use native.Mathlib.Omega.{arith}
-use Rattle.config.proofs.Questions.{within-true}
-use Rattle.client.specs.declared.State as client
-use Rattle.rig.specs.Fresh.{FreshClient}
-use Rattle.rig.proofs.Making.{client-is, client-made}
+use Rattle.rig.proofs.Making.{client-is}
 use borrow.Author.Needs.{needs}
 use Rattle.rig.proofs.fresh.client.Statement.{statement}
 use Rattle.rig.proofs.fresh.client.Tie as tie
@@ -17,15 +13,8 @@ Inv-loop = ⊥
 abbrev μ-loop : tie.MeasureT-loop
 μ-loop = 0
 
-add-client-number : tie.Need-add-client-number Inv-loop μ-loop
-add-client-number c = search needs
-
-cast-client-number : tie.Need-cast-client-number Inv-loop μ-loop
-cast-client-number c = search needs
-
 client-number-requires : tie.Need-client-number-requires Inv-loop μ-loop
-client-number-requires c κs =
-    (c .pre .0, within-true 1 (c .args .cfg .c) (c .args .i + 1) (omega arith) (omega (arith, c .pre .1)))
+client-number-requires c κs = search needs
 
 fresh-requires : tie.Need-fresh-requires Inv-loop μ-loop
 fresh-requires c κs = search needs
@@ -39,7 +28,7 @@ enum-told c = search needs
 loop-holds : tie.Need-loop-holds Inv-loop μ-loop
 loop-holds c =
     let s = c .before .before .before .before in
-    let is = client-is (s .args .cfg) (s .pre .0) (s .args .i) (s .pre .1) _ (c .before .before .before .client-number .ensures) _ (c .before .before .fresh .ensures) in
+    let is = client-is (s .args .cfg) (s .args .c) (s .pre .0) (s .pre .1) _ (c .before .before .before .client-number .ensures) _ (c .before .before .fresh .ensures) in
     let z : _≡_ {A = ℕ} 0 1 = cc is in
     omega (arith, z)
 
@@ -52,12 +41,8 @@ loop-again c = c .loop .inv
 returns : tie.Need-returns Inv-loop μ-loop
 returns c =
     let s = c .before .before .before .before .before in
-    let own = c .before .before .before .before .client-number .ensures in
-    let post = c .before .before .before .fresh .ensures in
-    let is = client-is (s .args .cfg) (s .pre .0) (s .args .i) (s .pre .1) _ own _ post in
-    let x = c .before .x .given .1 in
-    subst (λ (y : client.State). FreshClient (s .args .cfg) (s .args .i) (some y)) (cc (is, x))
-    (client-made (s .args .cfg) (s .pre .0) (s .args .i) (s .pre .1) _ own _ post)
+    let is = client-is (s .args .cfg) (s .args .c) (s .pre .0) (s .pre .1) _ (c .before .before .before .before .client-number .ensures) _ (c .before .before .before .fresh .ensures) in
+    cc (is, c .before .x .given .1)
 
 pub client-spec : {M : Type 1} → statement M
 client-spec =
@@ -65,8 +50,6 @@ client-spec =
     (tie.spec
     Inv-loop
     μ-loop
-    add-client-number
-    cast-client-number
     client-number-requires
     fresh-requires
     enum-known-x

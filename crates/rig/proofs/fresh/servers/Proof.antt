@@ -6,27 +6,30 @@ use native.Mathlib.Omega.{arith}
 use borrow.Author.Needs.{needs}
 use borrow.Rule.Slice.PartMut.{same-len-mid}
 use lib.ListN.{length, length-set}
+use Rattle.laws.proofs.Parts.{lent-length, part-fits}
 use Rattle.config.specs.declared.Config.{Config}
-use Rattle.server.specs.Calls.{storeLength}
-use Rattle.rig.specs.declared.Seat.{Seat}
-use Rattle.rig.specs.Fresh.{FreshServers}
+use Rattle.config.proofs.Questions.{within-true}
+use Rattle.config.proofs.Sizes.{store-small}
+use Rattle.config.specs.Config.{storeLength}
+use Rattle.parties.specs.declared.Node.{Node}
+use Rattle.rig.specs.inner.Fresh.{FreshServers}
 use Rattle.rig.proofs.Making.{servers-more}
-use Rattle.rig.proofs.Sizes.{part-fits, part-length, store-small, stores-small}
+use Rattle.rig.proofs.Sizes.{stores-small}
 use Rattle.rig.proofs.fresh.servers.Statement.{statement}
 use Rattle.rig.proofs.fresh.servers.Tie as tie
 
 -- the servers of the places below i are fresh
-record Now (cfg : Config) (start stores₀ stores : List ℕ) (seats : List Seat) (i : ℕ) : Type 0 where
+record Now (cfg : Config) (start stores₀ stores : List ℕ) (nodes : List Node) (i : ℕ) : Type 0 where
   high : i ≤ cfg .n
-  fresh : FreshServers cfg start i seats stores
-  places : length seats ≡ 16
+  fresh : FreshServers cfg start i nodes stores
+  places : length nodes ≡ 16
   same : length stores ≡ length stores₀
 
 abbrev Inv-loop : tie.InvT-loop
-Inv-loop cfg start stores₀ seats₀ long i₀ stores seats i = Now cfg start stores₀ stores seats i
+Inv-loop cfg start stores₀ nodes₀ long i₀ stores nodes i = Now cfg start stores₀ stores nodes i
 
 abbrev μ-loop : tie.MeasureT-loop
-μ-loop cfg start stores₀ seats₀ long i₀ stores seats i = cfg .n - i
+μ-loop cfg start stores₀ nodes₀ long i₀ stores nodes i = cfg .n - i
 
 add-long : tie.Need-add-long Inv-loop μ-loop
 add-long c = omega (arith, c .before .before .before .pre .valid .d-high)
@@ -49,36 +52,42 @@ add-end c =
     let l = c .before .before .loop in
     omega (arith, part-fits (l .i) (s .args .cfg .n) (storeLength (s .args .cfg)) (c .if1 .taken), stores-small (s .args .cfg) (s .pre .valid), s .pre .stores-length, l .inv .same)
 
-sub-server : tie.Need-sub-server Inv-loop μ-loop
-sub-server c = omega arith
+add-node : tie.Need-add-node Inv-loop μ-loop
+add-node c = omega (arith, c .if1 .taken, c .before .before .before .before .before .before .before .pre .valid .n-high)
 
-part-server-start : tie.Need-part-server-start Inv-loop μ-loop
-part-server-start c = omega arith
+cast-node : tie.Need-cast-node Inv-loop μ-loop
+cast-node c = omega (arith, c .if1 .taken, c .before .before .before .before .before .before .before .pre .valid .n-high)
 
-part-server-end : tie.Need-part-server-end Inv-loop μ-loop
-part-server-end c =
+sub-node : tie.Need-sub-node Inv-loop μ-loop
+sub-node c = omega arith
+
+part-node-start : tie.Need-part-node-start Inv-loop μ-loop
+part-node-start c = omega arith
+
+part-node-end : tie.Need-part-node-end Inv-loop μ-loop
+part-node-end c =
     let s = c .before .before .before .before .before .before .before in
     let l = c .before .before .loop in
     omega (arith, part-fits (l .i) (s .args .cfg .n) (storeLength (s .args .cfg)) (c .if1 .taken), stores-small (s .args .cfg) (s .pre .valid), s .pre .stores-length, l .inv .same)
 
-server-requires : tie.Need-server-requires Inv-loop μ-loop
-server-requires c κs =
+node-requires : tie.Need-node-requires Inv-loop μ-loop
+node-requires c κs =
     let s = c .before .before .before .before .before .before .before .before in
     let l = c .before .before .before .loop in
     let wide = storeLength (s .args .cfg) in
     let below = c .before .if1 .taken in
     record {
       valid = s .pre .valid;
+      inside = within-true 1 (s .args .cfg .n) (l .i + 1) (omega arith) (omega (arith, below));
       start-length = s .pre .start-length;
-      inside = below;
-      store-length = part-length (l .stores) (l .i * wide) wide (omega (arith, part-fits (l .i) (s .args .cfg .n) wide below, s .pre .stores-length, l .inv .same));
+      store-length = lent-length (l .stores) (l .i * wide) wide (omega (arith, part-fits (l .i) (s .args .cfg .n) wide below, s .pre .stores-length, l .inv .same));
     }
 
-mul-seats : tie.Need-mul-seats Inv-loop μ-loop
-mul-seats c = search needs
+mul-nodes : tie.Need-mul-nodes Inv-loop μ-loop
+mul-nodes c = search needs
 
-array-set-from-seats : tie.Need-array-set-from-seats Inv-loop μ-loop
-array-set-from-seats c = omega (arith, c .before .before .before .before .if1 .taken, c .before .before .before .before .before .before .before .before .before .before .before .pre .valid .n-high)
+array-set-from-nodes : tie.Need-array-set-from-nodes Inv-loop μ-loop
+array-set-from-nodes c = omega (arith, c .before .before .before .before .if1 .taken, c .before .before .before .before .before .before .before .before .before .before .before .pre .valid .n-high)
 
 add-i : tie.Need-add-i Inv-loop μ-loop
 add-i c = omega (arith, c .before .before .before .before .if1 .taken, c .before .before .before .before .before .before .before .before .before .before .before .pre .valid .n-high)
@@ -90,18 +99,17 @@ loop-again : tie.Need-loop-again Inv-loop μ-loop
 loop-again c =
     let s = c .before .before .before .before .before .before .before .before .before .before .before in
     let l = c .before .before .before .before .before .before .loop in
-    let o = c .before .before .server in
+    let o = c .before .before .node in
     let below = c .before .before .before .before .if1 .taken in
     let wide = storeLength (s .args .cfg) in
     let at = l .i * wide in
-    let w : at + wide - at ≡ wide = omega arith in
     record {
       high = omega (arith, below);
       fresh =
-          servers-more (s .args .cfg) (now (s .args .start)) (l .i) (l .seats) (o .result) (l .stores) (o .last .1 .1 .1 .0) (at + wide - at) w
+          servers-more (s .args .cfg) (now (s .args .start)) (l .i) (l .nodes) (o .result) (l .stores) (o .last .1 .1 .1 .0)
           (omega (arith, part-fits (l .i) (s .args .cfg .n) wide below, s .pre .stores-length, l .inv .same)) (o .ensures)
           (omega (arith, below, s .pre .valid .n-high, l .inv .places)) (l .inv .fresh);
-      places = length-set (l .seats) (l .i) (o .result) ∙ l .inv .places;
+      places = length-set (l .nodes) (l .i) (o .result) ∙ l .inv .places;
       same = same-len-mid at (at + wide - at) (l .stores) (o .last .1 .1 .1 .0) (o .kept .1 .1 .1 .0) ∙ l .inv .same;
     }
 
@@ -113,7 +121,7 @@ returns c =
     let s = c .before .before .before .before .before .before .before in
     let l = c .before .before .loop in
     record {
-      fresh = subst (λ n. FreshServers (s .args .cfg) (now (s .args .start)) n (l .seats) (l .stores)) (omega (arith, l .inv .high, c .if1 .left)) (l .inv .fresh);
+      fresh = subst (λ n. FreshServers (s .args .cfg) (now (s .args .start)) n (l .nodes) (l .stores)) (omega (arith, l .inv .high, c .if1 .left)) (l .inv .fresh);
       long = l .inv .same;
     }
 
@@ -128,12 +136,14 @@ servers-spec =
     loop-holds
     mul-at
     add-end
-    sub-server
-    part-server-start
-    part-server-end
-    server-requires
-    mul-seats
-    array-set-from-seats
+    add-node
+    cast-node
+    sub-node
+    part-node-start
+    part-node-end
+    node-requires
+    mul-nodes
+    array-set-from-nodes
     add-i
     loop-less
     loop-again

@@ -1,11 +1,10 @@
-use mathlib.Core.Path.{_≡_, refl, sym, _∙_, ap, ap₂}
+use mathlib.Core.Path.{_≡_, sym, _∙_, ap, ap₂}
 use mathlib.Core.Logic.{⊎-elim}
 use Prim.Native.Nat.{ℕ, _+_, _-_, _≤_}
 use native.Mathlib.Nat.{sub-zero}
-use native.Mathlib.Omega.{arith}
 use borrow.Author.Needs.{needs}
 use Rattle.tag.specs.declared.Tag.{Tag}
-use Rattle.server.specs.Inner.{leastFrom}
+use Rattle.server.specs.inner.Places.{leastFrom}
 use Rattle.server.specs.View.{each, tagAt}
 use Rattle.server.proofs.Each.{least-end, least-lower, least-other}
 use Rattle.server.proofs.places.lowest.Statement.{statement}

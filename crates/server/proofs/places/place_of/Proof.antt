@@ -1,8 +1,8 @@
-use mathlib.Core.Path.{_≡_, refl, sym, _∙_, ap}
-use Prim.Native.Nat.{ℕ, _+_, _-_, _≤_, _<_}
+use mathlib.Core.Path.{_≡_, refl, sym, _∙_}
+use Prim.Native.Nat.{_+_, _-_, _≤_, _<_}
 use native.Mathlib.Omega.{arith}
 use borrow.Author.Needs.{needs}
-use Rattle.server.specs.Inner.{placeIn}
+use Rattle.server.specs.inner.Places.{placeIn}
 use Rattle.server.specs.View.{each, tagAt}
 use Rattle.server.proofs.Each.{place-end, place-hit, place-miss}
 use Rattle.server.proofs.places.place_of.Statement.{statement}

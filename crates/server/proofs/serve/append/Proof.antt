@@ -1,7 +1,7 @@
 use borrow.Author.Needs.{needs}
-use mathlib.Core.Path.{_≡_, refl, sym, _∙_}
+use mathlib.Core.Path.{refl, sym, _∙_}
 use lib.ListN.{length-map}
-use Rattle.server.specs.Inner.{appended}
+use Rattle.server.specs.inner.Keep.{appended}
 use Rattle.server.proofs.serve.append.Statement.{statement}
 use Rattle.server.proofs.serve.append.Tie as tie
 

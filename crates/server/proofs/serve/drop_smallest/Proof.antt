@@ -1,6 +1,6 @@
 use borrow.Author.Needs.{needs}
 use mathlib.Core.Path.{_≡_, refl, sym, _∙_, ap}
-use mathlib.Core.Bool.{Bool, cond}
+use mathlib.Core.Bool.{Bool}
 use mathlib.Core.List.{List}
 use Prim.Native.Nat.{ℕ, _+_, _*_, _≤_, _<_}
 use native.Mathlib.Nat.{mul-le-mul-right}
@@ -12,13 +12,14 @@ use Rattle.config.specs.declared.Config.{Config}
 use Rattle.tag.specs.declared.Tag.{Tag}
 use Rattle.server.specs.declared.State.{State}
 use Rattle.server.specs.declared.places.Least.{Least}
-use Rattle.server.specs.Inner.{Dropped, Room, dropped, floored, lowest, putAt}
+use Rattle.server.specs.inner.Keep.{DropSmallestPost, dropped, floored, lowest}
+use Rattle.server.specs.inner.Places.{putAt}
 use Rattle.server.proofs.serve.drop_smallest.Statement.{statement}
 use Rattle.server.proofs.serve.drop_smallest.Tie as tie
 
 -- the lowest is the tag itself, or another
 module _ (cfg : Config) (s : State) (t : Tag) (element before after : List ℕ) (l : Least) (is : l ≡ lowest s t) (eight : length (s .tags) ≡ 8) where
-  itself : s .count ≤ l .place → after ≡ before → Dropped cfg s t element before after (floored s (l .tag) (s .tags))
+  itself : s .count ≤ l .place → after ≡ before → DropSmallestPost cfg s t element before after (floored s (l .tag) (s .tags))
   unfolding dropped
   itself h e =
       let b : leb (s .count) (lowest s t .place) ≡ Bool.true = ap (λ (x : Least). leb (s .count) (x .place)) (sym is) ∙ le-leb (s .count) (l .place) h in
@@ -29,7 +30,7 @@ module _ (cfg : Config) (s : State) (t : Tag) (element before after : List ℕ) 
       }
 
   another : l .place < s .count → after ≡ putAt (l .place * cfg .e) element before
-      → Dropped cfg s t element before after (floored s (l .tag) (set (s .tags) (l .place) t))
+      → DropSmallestPost cfg s t element before after (floored s (l .tag) (set (s .tags) (l .place) t))
   unfolding dropped
   another h e =
       let b : leb (s .count) (lowest s t .place) ≡ Bool.false = ap (λ (x : Least). leb (s .count) (x .place)) (sym is) ∙ lt-leb (s .count) (l .place) h in

@@ -1,7 +1,6 @@
 use borrow.Author.Needs.{needs}
-use mathlib.Core.Path.{_≡_, sym, _∙_}
+use mathlib.Core.Path.{sym, _∙_}
 use native.Mathlib.Omega.{arith}
-use Prim.Native.Nat.{_<_}
 use Rattle.tag.proofs.Order.{Small}
 use Rattle.server.proofs.Keys.{higher-first, higher-second}
 use Rattle.server.proofs.serve.higher.Statement.{statement}

@@ -1,8 +1,7 @@
 use borrow.Author.Needs.{needs}
-use mathlib.Core.Path.{_≡_, refl, sym, _∙_}
-use native.Mathlib.Omega.{arith}
+use mathlib.Core.Path.{sym, _∙_}
 use Rattle.server.specs.View.{tagAt}
-use Rattle.server.proofs.Held.{state-eight}
+use Rattle.server.proofs.Limits.{state-eight}
 use Rattle.server.proofs.Keep.{from-zero, keep-append, keep-below, keep-drop, keep-stored, room-append, room-drop}
 use Rattle.server.proofs.serve.keep.Statement.{statement}
 use Rattle.server.proofs.serve.keep.Tie as tie
@@ -10,7 +9,7 @@ use Rattle.server.proofs.serve.keep.Tie as tie
 place-of-requires : tie.Need-place-of-requires
 place-of-requires c κs =
     let s = c .before .before .before in
-    (search needs, state-eight (s .args .cfg) (s .args .s) (s .pre .held .kept) (s .pre .held .valid))
+    (search needs, state-eight (s .args .cfg) (s .args .s) (s .pre .held .within) (s .pre .held .valid))
 
 returns : tie.Need-returns
 returns c =

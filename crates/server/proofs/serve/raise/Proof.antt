@@ -1,5 +1,4 @@
 use borrow.Author.Needs.{needs}
-use mathlib.Core.Path.{_≡_}
 use Rattle.server.specs.Calls.{raised}
 use Rattle.server.proofs.serve.raise.Statement.{statement}
 use Rattle.server.proofs.serve.raise.Tie as tie

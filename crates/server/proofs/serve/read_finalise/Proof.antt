@@ -1,21 +1,16 @@
 use borrow.Author.Needs.{needs}
 use mathlib.Core.Path.{_≡_, refl, sym, _∙_, ap}
-use mathlib.Core.List.{List}
 use mathlib.Core.Option.{none, some}
-use Prim.Native.Nat.{ℕ, _+_, _-_, _*_, _≤_, _<_}
+use Prim.Native.Nat.{_+_, _-_, _*_}
 use native.Mathlib.Omega.{arith}
 use borrow.Author.Tests.{eq-eqb}
 use lib.ListN.{length, take, drop}
 use Rattle.tag.specs.declared.Tag.{Tag}
-use Rattle.tag.proofs.Order.{Small}
-use Rattle.record.specs.declared.Kind.the-variants.{ReadFinaliseAnswer}
-use Rattle.record.specs.Record.{elementAt as elementIn}
 use Rattle.server.specs.declared.State.{State}
 use Rattle.server.specs.Calls.{raised}
-use Rattle.server.specs.Inner.{Replied, reply}
-use Rattle.server.specs.View.{elementAt, tagAt}
+use Rattle.server.specs.View.{tagAt}
 use Rattle.server.proofs.Answering.{copied-element, copied-long, finalised-element, finalised-none, finalised-silent, read-reply}
-use Rattle.server.proofs.Held.{state-eight}
+use Rattle.server.proofs.Limits.{state-eight}
 use Rattle.server.proofs.Keep.{from-zero}
 use Rattle.server.proofs.Keys.{small}
 use Rattle.server.proofs.Lending.{element-nowhere, element-there, part-fits, part-is, part-long, part-low}
@@ -23,9 +18,9 @@ use Rattle.server.proofs.serve.read_finalise.Statement.{statement}
 use Rattle.server.proofs.serve.read_finalise.Tie as tie
 
 -- a raised state is of the same server
-me-kept : (s : State) (t : Tag) {r : State} → r ≡ raised s t → r .me ≡ s .me
+me-same : (s : State) (t : Tag) {r : State} → r ≡ raised s t → r .me ≡ s .me
 unfolding raised
-me-kept s t e = ap (λ (x : State). x .me) e
+me-same s t e = ap (λ (x : State). x .me) e
 
 raise-requires : tie.Need-raise-requires
 raise-requires c κs = search needs
@@ -33,7 +28,7 @@ raise-requires c κs = search needs
 place-of-requires : tie.Need-place-of-requires
 place-of-requires c κs =
     let s = c .before .before .before .before .before in
-    (search needs, state-eight (s .args .cfg) (s .args .s) (s .pre .held .kept) (s .pre .held .valid))
+    (search needs, state-eight (s .args .cfg) (s .args .s) (s .pre .held .within) (s .pre .held .valid))
 
 mul-from : tie.Need-mul-from
 mul-from c = omega (arith, part-low (c .before .before .before .before .before .before .before .before .args .cfg) (c .before .before .before .before .before .before .before .before .args .s) (c .before .before .before .before .before .before .before .before .args .h .tag) (c .before .before .before .before .before .before .before .before .args .store .now) (c .before .before .before .before .before .before .before .before .pre .held) _ (c .before .if1 .taken))
@@ -75,7 +70,7 @@ respond-requires c κs =
       eighty = long;
       ofConfig =
           read-reply (s .args .cfg) (s .args .s) (s .args .h) (s .args .store .now) (s .args .answer .now) (s .pre) _
-          (me-kept (s .args .s) (s .args .h .tag) (c .before .before .before .before .before .before .before .before .before .before .raise .ensures)) (some _) (eq-eqb _ (s .args .cfg .e) (ap length is ∙ sized-src));
+          (me-same (s .args .s) (s .args .h .tag) (c .before .before .before .before .before .before .before .before .before .before .raise .ensures)) (some _) (eq-eqb _ (s .args .cfg .e) (ap length is ∙ sized-src));
     }
 
 same-length : tie.Need-same-length
@@ -95,12 +90,15 @@ returns c =
 at-or-below-requires : tie.Need-at-or-below-requires
 at-or-below-requires c κs = search needs
 
+refused-requires : tie.Need-refused-requires
+refused-requires c κs = search needs
+
 returns-2 : tie.Need-returns-2
 returns-2 c =
-    let s = c .before .before .before .before .before .before .before .before .before in
-    finalised-silent (s .args .cfg) (s .args .s) (c .before .before .before .before .raise .result) (s .args .h) (s .args .store .now) (s .args .answer .now) (c .before .before .before .before .raise .ensures)
-    (element-nowhere (c .before .before .before .before .before .before .before .before .before .args .cfg) (c .before .before .before .before .before .before .before .before .before .args .s) (c .before .before .before .before .before .before .before .before .before .args .h .tag) (c .before .before .before .before .before .before .before .before .before .args .store .now) (c .before .before .before .before .before .before .before .before .before .pre .held) _ (small (c .before .before .before .before .before .before .before .before .before .args .cfg .c) (c .before .before .before .before .before .before .before .before .before .args .h .tag) (c .before .before .before .before .before .before .before .before .before .pre .held .valid .c-high) (c .before .before .before .before .before .before .before .before .before .pre .allowed)) (from-zero (c .before .before .before .before .before .before .before .before .before .args .h .tag) (tagAt (c .before .before .before .before .before .before .before .before .before .args .s .tags)) (c .before .before .before .before .before .before .before .before .before .args .s .count) _ (c .before .before .before .place-of .ensures)) (c .before .before .if1 .left))
-    (sym (c .before .at-or-below .ensures) ∙ c .if2 .taken) _ refl refl
+    let s = c .before .before .before .before .before .before .before .before .before .before in
+    finalised-silent (s .args .cfg) (s .args .s) (c .before .before .before .before .before .raise .result) (s .args .h) (s .args .store .now) (s .args .answer .now) (c .before .before .before .before .before .raise .ensures)
+    (element-nowhere (c .before .before .before .before .before .before .before .before .before .before .args .cfg) (c .before .before .before .before .before .before .before .before .before .before .args .s) (c .before .before .before .before .before .before .before .before .before .before .args .h .tag) (c .before .before .before .before .before .before .before .before .before .before .args .store .now) (c .before .before .before .before .before .before .before .before .before .before .pre .held) _ (small (c .before .before .before .before .before .before .before .before .before .before .args .cfg .c) (c .before .before .before .before .before .before .before .before .before .before .args .h .tag) (c .before .before .before .before .before .before .before .before .before .before .pre .held .valid .c-high) (c .before .before .before .before .before .before .before .before .before .before .pre .allowed)) (from-zero (c .before .before .before .before .before .before .before .before .before .before .args .h .tag) (tagAt (c .before .before .before .before .before .before .before .before .before .before .args .s .tags)) (c .before .before .before .before .before .before .before .before .before .before .args .s .count) _ (c .before .before .before .before .place-of .ensures)) (c .before .before .before .if1 .left))
+    (sym (c .before .before .at-or-below .ensures) ∙ c .before .if2 .taken) _ (c .refused .ensures)
 
 respond-requires-2 : tie.Need-respond-requires-2
 respond-requires-2 c κs =
@@ -109,7 +107,7 @@ respond-requires-2 c κs =
       valid = s .pre .held .valid;
       eighty = s .pre .eighty;
       ofConfig =
-          read-reply (s .args .cfg) (s .args .s) (s .args .h) (s .args .store .now) (s .args .answer .now) (s .pre) _ (me-kept (s .args .s) (s .args .h .tag) (c .before .before .before .before .before .raise .ensures)) none refl;
+          read-reply (s .args .cfg) (s .args .s) (s .args .h) (s .args .store .now) (s .args .answer .now) (s .pre) _ (me-same (s .args .s) (s .args .h .tag) (c .before .before .before .before .before .raise .ensures)) none refl;
     }
 
 same-length-2 : tie.Need-same-length-2
@@ -141,6 +139,7 @@ read-finalise-spec =
     same-length
     returns
     at-or-below-requires
+    refused-requires
     returns-2
     respond-requires-2
     same-length-2

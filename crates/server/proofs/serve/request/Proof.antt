@@ -1,5 +1,5 @@
 use borrow.Author.Needs.{needs}
-use mathlib.Core.Path.{_≡_, refl, sym, _∙_, ap, subst}
+use mathlib.Core.Path.{_≡_, refl, _∙_, ap, subst}
 use mathlib.Core.List.{List}
 use Prim.Native.Nat.{ℕ, _+_, _-_, _≤_}
 use native.Mathlib.Omega.{arith}
@@ -7,18 +7,18 @@ use lib.ListN.{length, take, drop, length-drop, length-take}
 use Rattle.config.specs.declared.Config.{Config}
 use Rattle.tag.specs.declared.Tag.{Tag}
 use Rattle.record.specs.declared.Kind.the-variants.{PreWriteAnswer, QueryAnswer, ReadFinaliseAnswer, WriteFinaliseAnswer}
-use Rattle.record.specs.Record.{elementAt as elementIn, highestNumber}
+use Rattle.record.specs.Record.{elementIn, highestNumber}
 use Rattle.server.specs.declared.State.{State}
 use Rattle.server.specs.Calls.{raised}
-use Rattle.server.specs.Inner.{Keeps}
+use Rattle.server.specs.inner.Keep.{KeepPost}
 use Rattle.server.proofs.Stepping.{finalising, pre-write-reply, query-reply, serve-pre-write, serve-query, serve-read, serve-write, steps-misdirected, tag-in, write-reply}
 use Rattle.server.proofs.serve.request.Statement.{statement}
 use Rattle.server.proofs.serve.request.Tie as tie
 
 -- a raised state is of the same server
-me-kept : (s : State) (t : Tag) {r : State} → r ≡ raised s t → r .me ≡ s .me
+me-same : (s : State) (t : Tag) {r : State} → r ≡ raised s t → r .me ≡ s .me
 unfolding raised
-me-kept s t e = ap (λ (x : State). x .me) e
+me-same s t e = ap (λ (x : State). x .me) e
 
 -- the part of the record that is the element
 element-is : (cfg : Config) (bs : List ℕ) → take ((16 + cfg .e) - 16) (drop 16 bs) ≡ elementIn cfg bs
@@ -27,9 +27,9 @@ element-is cfg bs = let n : (16 + cfg .e) - 16 ≡ cfg .e = omega arith in ap (�
 element-long : (cfg : Config) (bs : List ℕ) → length bs ≡ 80 → cfg .e ≤ 64 → length (take ((16 + cfg .e) - 16) (drop 16 bs)) ≡ cfg .e
 element-long cfg bs e high = length-take ((16 + cfg .e) - 16) (drop 16 bs) ∙ omega (arith, length-drop 16 bs)
 
-kept-element : (cfg : Config) (s : State) (t : Tag) (bs store after : List ℕ) (r : State) → Keeps cfg s t (take ((16 + cfg .e) - 16) (drop 16 bs)) store after r
-    → Keeps cfg s t (elementIn cfg bs) store after r
-kept-element cfg s t bs store after r k = subst (λ (l : List ℕ). Keeps cfg s t l store after r) (element-is cfg bs) k
+keep-element : (cfg : Config) (s : State) (t : Tag) (bs store after : List ℕ) (r : State) → KeepPost cfg s t (take ((16 + cfg .e) - 16) (drop 16 bs)) store after r
+    → KeepPost cfg s t (elementIn cfg bs) store after r
+keep-element cfg s t bs store after r k = subst (λ (l : List ℕ). KeepPost cfg s t l store after r) (element-is cfg bs) k
 
 enum-told : tie.Need-enum-told
 enum-told c = search needs
@@ -78,7 +78,7 @@ raise-requires c κs = search needs
 respond-requires-3 : tie.Need-respond-requires-3
 respond-requires-3 c κs =
     let s = c .before .before .before .before .before .before .before .before in
-    write-reply (c .before .before .before .before .before .before .before .before .args .cfg) (c .before .before .before .before .before .before .before .before .args .s) (c .before .before .before .before .before .before .before .before .args .h) (c .before .before .before .before .before .before .before .before .args .handed .now) (c .before .before .before .before .before .before .before .before .args .store .now) (c .before .before .before .before .before .before .before .before .args .answer .now) (s .pre) _ (me-kept (s .args .s) (s .args .h .tag) (c .before .raise .ensures)) (c .before .before .enum-told3 .given .1) _ (s .pre .answer-eighty)
+    write-reply (c .before .before .before .before .before .before .before .before .args .cfg) (c .before .before .before .before .before .before .before .before .args .s) (c .before .before .before .before .before .before .before .before .args .h) (c .before .before .before .before .before .before .before .before .args .handed .now) (c .before .before .before .before .before .before .before .before .args .store .now) (c .before .before .before .before .before .before .before .before .args .answer .now) (s .pre) _ (me-same (s .args .s) (s .args .h .tag) (c .before .raise .ensures)) (c .before .before .enum-told3 .given .1) _ (s .pre .answer-eighty)
 
 enum-told-4 : tie.Need-enum-told-4
 enum-told-4 c = search needs
@@ -89,26 +89,26 @@ read-finalise-requires c κs = let s = c .before .before .before .before .before
 enum-told-5 : tie.Need-enum-told-5
 enum-told-5 c = search needs
 
-misdirected-requires : tie.Need-misdirected-requires
-misdirected-requires c κs = search needs
+refused-requires : tie.Need-refused-requires
+refused-requires c κs = search needs
 
 enum-told-6 : tie.Need-enum-told-6
 enum-told-6 c = search needs
 
-misdirected-requires-2 : tie.Need-misdirected-requires-2
-misdirected-requires-2 c κs = search needs
+refused-requires-2 : tie.Need-refused-requires-2
+refused-requires-2 c κs = search needs
 
 enum-told-7 : tie.Need-enum-told-7
 enum-told-7 c = search needs
 
-misdirected-requires-3 : tie.Need-misdirected-requires-3
-misdirected-requires-3 c κs = search needs
+refused-requires-3 : tie.Need-refused-requires-3
+refused-requires-3 c κs = search needs
 
 enum-told-8 : tie.Need-enum-told-8
 enum-told-8 c = search needs
 
-misdirected-requires-4 : tie.Need-misdirected-requires-4
-misdirected-requires-4 c κs = search needs
+refused-requires-4 : tie.Need-refused-requires-4
+refused-requires-4 c κs = search needs
 
 same-length : tie.Need-same-length
 same-length c = search needs
@@ -126,7 +126,7 @@ returns-2 : tie.Need-returns-2
 returns-2 c =
     let s = c .before .before .before .before .before .before .before .before .before .before .before .before .before .before .before .before in
     serve-pre-write (c .before .before .before .before .before .before .before .before .before .before .before .before .before .before .before .before .args .cfg) (c .before .before .before .before .before .before .before .before .before .before .before .before .before .before .before .before .args .s) (c .before .before .before .before .before .before .before .before .before .before .before .before .before .before .before .before .args .h) (c .before .before .before .before .before .before .before .before .before .before .before .before .before .before .before .before .args .handed .now) (c .before .before .before .before .before .before .before .before .before .before .before .before .before .before .before .before .args .store .now) (c .before .before .before .before .before .before .before .before .before .before .before .before .before .before .before .before .args .answer .now) (s .pre) (c .before .before .before .before .before .before .before .before .before .before .enum-told2 .given .1) _ _
-    (kept-element (s .args .cfg) (s .args .s) (s .args .h .tag) (s .args .handed .now) _ _ _ (c .before .before .before .before .before .before .keep .ensures)) _ _ (c .before .before .respond2 .ensures)
+    (keep-element (s .args .cfg) (s .args .s) (s .args .h .tag) (s .args .handed .now) _ _ _ (c .before .before .before .before .before .before .keep .ensures)) _ _ (c .before .before .respond2 .ensures)
 
 same-length-4 : tie.Need-same-length-4
 same-length-4 c = search needs
@@ -146,23 +146,19 @@ returns-4 c = serve-read (c .before .before .before .before .before .before .bef
 
 returns-5 : tie.Need-returns-5
 returns-5 c =
-    let p = c .misdirected .ensures in
-    steps-misdirected (c .before .before .before .before .before .before .before .args .cfg) (c .before .before .before .before .before .before .before .args .s) (c .before .before .before .before .before .before .before .args .h) (c .before .before .before .before .before .before .before .args .handed .now) (c .before .before .before .before .before .before .before .args .store .now) (c .before .before .before .before .before .before .before .args .answer .now) QueryAnswer (c .before .enum-told5 .given .1) refl _ (p .number) (p .state)
+    steps-misdirected (c .before .before .before .before .before .before .before .args .cfg) (c .before .before .before .before .before .before .before .args .s) (c .before .before .before .before .before .before .before .args .h) (c .before .before .before .before .before .before .before .args .handed .now) (c .before .before .before .before .before .before .before .args .store .now) (c .before .before .before .before .before .before .before .args .answer .now) QueryAnswer (c .before .enum-told5 .given .1) refl _ (c .refused .ensures)
 
 returns-6 : tie.Need-returns-6
 returns-6 c =
-    let p = c .misdirected2 .ensures in
-    steps-misdirected (c .before .before .before .before .before .before .before .args .cfg) (c .before .before .before .before .before .before .before .args .s) (c .before .before .before .before .before .before .before .args .h) (c .before .before .before .before .before .before .before .args .handed .now) (c .before .before .before .before .before .before .before .args .store .now) (c .before .before .before .before .before .before .before .args .answer .now) PreWriteAnswer (c .before .enum-told6 .given .1) refl _ (p .number) (p .state)
+    steps-misdirected (c .before .before .before .before .before .before .before .args .cfg) (c .before .before .before .before .before .before .before .args .s) (c .before .before .before .before .before .before .before .args .h) (c .before .before .before .before .before .before .before .args .handed .now) (c .before .before .before .before .before .before .before .args .store .now) (c .before .before .before .before .before .before .before .args .answer .now) PreWriteAnswer (c .before .enum-told6 .given .1) refl _ (c .refused2 .ensures)
 
 returns-7 : tie.Need-returns-7
 returns-7 c =
-    let p = c .misdirected3 .ensures in
-    steps-misdirected (c .before .before .before .before .before .before .before .args .cfg) (c .before .before .before .before .before .before .before .args .s) (c .before .before .before .before .before .before .before .args .h) (c .before .before .before .before .before .before .before .args .handed .now) (c .before .before .before .before .before .before .before .args .store .now) (c .before .before .before .before .before .before .before .args .answer .now) WriteFinaliseAnswer (c .before .enum-told7 .given .1) refl _ (p .number) (p .state)
+    steps-misdirected (c .before .before .before .before .before .before .before .args .cfg) (c .before .before .before .before .before .before .before .args .s) (c .before .before .before .before .before .before .before .args .h) (c .before .before .before .before .before .before .before .args .handed .now) (c .before .before .before .before .before .before .before .args .store .now) (c .before .before .before .before .before .before .before .args .answer .now) WriteFinaliseAnswer (c .before .enum-told7 .given .1) refl _ (c .refused3 .ensures)
 
 returns-8 : tie.Need-returns-8
 returns-8 c =
-    let p = c .misdirected4 .ensures in
-    steps-misdirected (c .before .before .before .before .before .before .before .args .cfg) (c .before .before .before .before .before .before .before .args .s) (c .before .before .before .before .before .before .before .args .h) (c .before .before .before .before .before .before .before .args .handed .now) (c .before .before .before .before .before .before .before .args .store .now) (c .before .before .before .before .before .before .before .args .answer .now) ReadFinaliseAnswer (c .before .enum-told8 .given .1) refl _ (p .number) (p .state)
+    steps-misdirected (c .before .before .before .before .before .before .before .args .cfg) (c .before .before .before .before .before .before .before .args .s) (c .before .before .before .before .before .before .before .args .h) (c .before .before .before .before .before .before .before .args .handed .now) (c .before .before .before .before .before .before .before .args .store .now) (c .before .before .before .before .before .before .before .args .answer .now) ReadFinaliseAnswer (c .before .enum-told8 .given .1) refl _ (c .refused4 .ensures)
 
 pub request-spec : {M : Type 1} → statement M
 request-spec =
@@ -183,13 +179,13 @@ request-spec =
     enum-told-4
     read-finalise-requires
     enum-told-5
-    misdirected-requires
+    refused-requires
     enum-told-6
-    misdirected-requires-2
+    refused-requires-2
     enum-told-7
-    misdirected-requires-3
+    refused-requires-3
     enum-told-8
-    misdirected-requires-4
+    refused-requires-4
     same-length
     returns
     same-length-2

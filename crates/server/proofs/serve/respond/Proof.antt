@@ -1,8 +1,8 @@
 use borrow.Author.Needs.{needs}
-use mathlib.Core.Path.{_≡_, refl, sym, _∙_}
+use mathlib.Core.Path.{refl}
 use Rattle.record.specs.Calls.{withElement}
 use Rattle.record.proofs.Callers.{was-written}
-use Rattle.server.specs.Inner.{reply}
+use Rattle.server.specs.inner.Serve.{reply}
 use Rattle.server.proofs.serve.respond.Statement.{statement}
 use Rattle.server.proofs.serve.respond.Tie as tie
 

@@ -1,0 +1,69 @@
+// What a call leaves of a client.
+use super::Ended;
+use super::Moved;
+use super::Phase;
+use super::State;
+use config::Verdict;
+use tag::Tag;
+ghost use mathlib.Core.Path.{_≡_};
+ghost use Prim.Native.Nat.{_<_};
+ghost use Rattle.client.specs.Calls.{inPhase};
+ghost use Rattle.client.specs.inner.Outcome.{RefusedPost, acceptedOf, begunOf};
+
+// A client that is as it was, with the refusal of a number: nothing is sent and nothing ends.
+pub(crate) fn refused(x: State, no: u8) -> Moved
+    ensures { λ r. ⌜ RefusedPost x no r ⌝ }
+{
+    Moved {
+        verdict: Verdict::of(no),
+        state: x,
+        sent: 0,
+        ended: Ended::Nothing,
+    }
+}
+
+// A call that is not refused.
+pub(crate) fn accepted(state: State, sent: usize, ended: Ended) -> Moved
+    ensures { λ r. ⌜ r ≡ acceptedOf state sent ended ⌝ }
+{
+    Moved {
+        verdict: Verdict::Accepted,
+        state,
+        sent,
+        ended,
+    }
+}
+
+// The client in another phase of its operation.
+pub(crate) fn in_phase(x: State, phase: Phase) -> State
+    ensures { λ r. ⌜ r ≡ inPhase x phase ⌝ }
+{
+    let me = x.me;
+    State {
+        me,
+        operation: x.operation,
+        phase,
+    }
+}
+
+// The client in its next operation, asking; nobody is counted.
+pub(crate) fn begun(x: State, writes: bool) -> State
+    requires { ⌜ x .operation < 4294967295 ⌝ }
+    ensures { λ r. ⌜ r ≡ begunOf x writes ⌝ }
+{
+    let me = x.me;
+    let best = Tag {
+        number: 0,
+        client: 0,
+    };
+    let phase = Phase::Asking {
+        writes,
+        best,
+        counted: 0,
+    };
+    State {
+        me,
+        operation: x.operation + 1,
+        phase,
+    }
+}

@@ -1,0 +1,5 @@
+pub mod Calls
+pub mod Doubles
+pub mod Lanes
+pub mod Row
+pub mod Table

@@ -1,0 +1,118 @@
+-- A client begins.
+use Prim.Native.Nat.{ℕ, _+_, _*_, _≤_, _<_}
+use mathlib.Core.Path.{_≡_, refl, sym, ap, ap₂, _∙_}
+use mathlib.Core.Bool.{Bool, true, false, cond, _&&_}
+use mathlib.Core.List.{List, [], _∷_, _++_}
+use mathlib.Core.Option.{Option, none, some}
+use native.Mathlib.Omega.{arith}
+use native.Mathlib.Decide.{ℕ-discrete}
+use borrow.Author.Tests.{eq-eqb, ne-eqb, eqb-true, ltb-true}
+use lib.Dec.{eqb, ltb}
+use lib.ListN.{length}
+use Rattle.laws.proofs.Bools.{and-left, and-right}
+use Rattle.config.specs.declared.Config.{Config}
+use Rattle.config.specs.Config.{boardLength, questions}
+use Rattle.config.specs.Number.{clientNumber, serverNumber}
+use Rattle.config.specs.Questions.{Question, ask, firstNo, within}
+use Rattle.config.proofs.Questions.{none-rest, questions-numbered, yes-next}
+use Rattle.record.specs.Record.{highestNumber}
+use Rattle.server.specs.View as serverView
+use Rattle.client.specs.declared.Ended.{Ended}
+use Rattle.client.specs.declared.Moved.{Moved}
+use Rattle.client.specs.declared.State as client
+use Rattle.client.specs.Calls.{BeginPost, endedOf, keeping, shown, unlessNo}
+use Rattle.client.specs.Questions.{beginWriteQuestions, callQuestions, isBoard, isSends}
+use Rattle.client.specs.State as clientView
+use Rattle.client.specs.State.{bare, phaseWithin, stateWithin}
+use Rattle.protocol.specs.Boards.{Board, BoardClient, BoardMoved}
+use Rattle.protocol.specs.Client as protocol
+use Rattle.protocol.specs.Client.{beginClient, beginQuestions}
+use Rattle.protocol.specs.Parties.{answerOf}
+use Rattle.protocol.proofs.Pairs.{begin-pair}
+use Rattle.parties.specs.declared.Acted.{Acted}
+use Rattle.parties.specs.declared.Pair.{Pair}
+use Rattle.parties.specs.Acts.{ActPost, begins, parts}
+use Rattle.parties.specs.Sound.{Sound}
+use Rattle.parties.specs.inner.Acted.{movedOn}
+use Rattle.parties.proofs.Acts.{client-act}
+use Rattle.parties.proofs.Formed.{begun-fits}
+
+-- what it shows that no question of a beginning is answered no
+module _ (cfg : Config) (sized : Bool) (x : client.State) (h : firstNo (callQuestions cfg sized x (beginQuestions (bare cfg x))) ≡ 0) where
+  abbrev others : List Question
+  others = beginQuestions (bare cfg x)
+
+  six : (sized && stateWithin cfg x ≡ true) × (firstNo others ≡ 0)
+  unfolding callQuestions
+  six =
+      yes-next 6 (sized && stateWithin cfg x) others (omega arith)
+      (none-rest (questions cfg) (ask 6 (sized && stateWithin cfg x) ∷ others) (questions-numbered cfg) h)
+
+  its-size : sized ≡ true
+  its-size = and-left sized (stateWithin cfg x) (six .0)
+
+  its-number : within 1 (cfg .c) (clientNumber (x .me)) ≡ true
+  unfolding stateWithin
+  its-number =
+      and-left (within 1 (cfg .c) (clientNumber (x .me))) (phaseWithin cfg (x .phase)) (and-right sized (stateWithin cfg x) (six .0))
+
+  below : x .operation < highestNumber
+  unfolding beginQuestions clientView.view
+  below =
+      let nine = yes-next 9 (protocol.isUp (bare cfg x .phase)) _ (omega arith) (six .1) in
+      let ten = yes-next 10 (protocol.isIdle (bare cfg x .phase)) _ (omega arith) (nine .1) in
+      ltb-true (x .operation) highestNumber (yes-next 11 (ltb (x .operation) highestNumber) [] (omega arith) (ten .1) .0)
+
+  -- the queries are messages of the configuration
+  queries-sound : (board : Option Board) (kept es : List ℕ) → Sound cfg (beginClient cfg (clientNumber (x .me)) (clientView.view cfg x kept es) board .sends)
+  unfolding clientView.view
+  queries-sound board kept es = begun-fits cfg (clientNumber (x .me)) its-number (clientView.view cfg x kept es) below board .sends
+
+module _ (cfg : Config) (sized : Bool) (x : Pair) (board : Option Board) (store kept kept′ es sends sends′ read : List ℕ) (y : Moved) where
+  abbrev number : ℕ
+  number = firstNo (callQuestions cfg sized (x .client) (beginQuestions (bare cfg (x .client))))
+
+  abbrev c : ℕ
+  c = clientNumber (x .client .me)
+
+  abbrev before : BoardClient
+  before = clientView.view cfg (x .client) kept es
+
+  abbrev move : BoardMoved
+  move = beginClient cfg c before board
+
+  nothing-ends : (b : Bool) → protocol.nothing ≡ cond b move (protocol.stays before) .ended
+  unfolding beginClient protocol.stays
+  nothing-ends true = refl
+  nothing-ends false = refl
+
+  module _ (post : BeginPost cfg number (x .client) board kept kept′ es sends sends′ y) (long : length kept′ ≡ length kept) where
+    ended : endedOf (y .ended) read ≡ unlessNo number before move .ended
+    ended = ap (λ (e : Ended). endedOf e read) (post .nothing) ∙ nothing-ends (eqb number 0)
+
+    pub begin-act : (r : Acted) → r ≡ movedOn (y .verdict) x y
+        → ActPost cfg number (begins cfg x board) x (parts store kept es) sends read r (parts store kept′ es) sends′ read
+    unfolding beginClient answerOf
+    begin-act =
+        client-act cfg number (begins cfg x board) x (parts store kept es) (parts store kept′ es) sends sends′ read read move y
+        (λ _ p. begin-pair p (serverNumber (x .node .state .me)) (serverView.view cfg (x .node .state) store) (x .node .up) c before cfg board)
+        (λ z. queries-sound cfg sized (x .client) z board kept es)
+        (post .answered) ended (ap (λ o. shown o read) (nothing-ends (eqb number 0))) refl
+        (λ some-no. ap (λ w. parts store w es) (post .keeps ∙ ap (λ (b : Bool). cond b (keeping board kept) kept) (ne-eqb number 0 some-no)))
+        (long, refl)
+
+-- the board kept has its length
+pub kept-long : (cfg : Config) (x : client.State) (board kept kept′ es sends sends′ : List ℕ) (y : Moved)
+    → BeginPost cfg (firstNo (beginWriteQuestions cfg x board kept sends)) x (some board) kept kept′ es sends sends′ y → length kept′ ≡ length kept
+kept-long cfg x board kept kept′ es sends sends′ y post = elim (ℕ-discrete n 0) as (λ _. length kept′ ≡ length kept) [
+  | yes e ↦
+      let w = its-size cfg _ x e in
+      ap length (post .keeps ∙ ap (λ (b : Bool). cond b board kept) (eq-eqb n 0 e))
+      ∙ eqb-true (length board) (boardLength cfg) (and-left (isBoard cfg (length board)) (isBoard cfg (length kept) && isSends cfg (length sends)) w)
+      ∙ sym (eqb-true (length kept) (boardLength cfg) (and-left (isBoard cfg (length kept)) (isSends cfg (length sends))
+      (and-right (isBoard cfg (length board)) (isBoard cfg (length kept) && isSends cfg (length sends)) w)))
+  | no ne ↦ ap length (post .keeps ∙ ap (λ (b : Bool). cond b board kept) (ne-eqb n 0 ne))
+]
+  where
+    n : ℕ
+    n = firstNo (beginWriteQuestions cfg x board kept sends)

@@ -1,0 +1,90 @@
+-- A party crashes.
+use Prim.Native.Nat.{ℕ}
+use mathlib.Core.Path.{_≡_, refl, sym, subst}
+use mathlib.Core.Bool.{true, false, _&&_}
+use mathlib.Core.List.{List, [], _∷_}
+use Rattle.laws.proofs.Bools.{and-left, and-right}
+use Rattle.config.specs.declared.Config.{Config}
+use Rattle.config.specs.declared.Refusal.{Refusal}
+use Rattle.config.specs.Number.{clientNumber, serverNumber}
+use Rattle.config.specs.Questions.{ask, firstNo, within}
+use Rattle.config.proofs.Questions.{firstNo-no, firstNo-yes}
+use Rattle.server.specs.Within.{stateWithin as serverStateWithin}
+use Rattle.server.specs.View as serverView
+use Rattle.client.specs.declared.Phase.{Phase}
+use Rattle.client.specs.declared.State as client
+use Rattle.client.specs.State as clientView
+use Rattle.client.specs.State.{phaseOf, phaseWithin, stateWithin}
+use Rattle.protocol.specs.Board.{nothingEnded}
+use Rattle.protocol.specs.Parties.{quiet}
+use Rattle.protocol.proofs.Pairs.{crash-client-pair, crash-server-pair}
+use Rattle.parties.specs.declared.Acted.{Acted}
+use Rattle.parties.specs.declared.Pair.{Pair}
+use Rattle.parties.specs.Acts.{ActPost, Parts, crashesClient, crashesServer, isUp}
+use Rattle.parties.specs.inner.Acted.{quietly, refusing}
+use Rattle.parties.proofs.Acts.{accepted-act, refused-act}
+use Rattle.parties.proofs.Sound.{sound-none}
+use Rattle.client.specs.Send.{recordsOf}
+
+-- the pair with its server down, and with its client down
+abbrev pub serverDown : Pair → Pair
+serverDown x = record { node = record { state = x .node .state; up = false }; client = x .client }
+
+abbrev pub clientDown : Pair → Pair
+clientDown x =
+    record { node = x .node; client = record { me = x .client .me; operation = x .client .operation; phase = Phase.Down } }
+
+module _ (cfg : Config) (x : Pair) (l : Parts) (sends read : List ℕ) where
+  server-crashed-is : x .node .up ≡ true → ActPost cfg (firstNo (ask 9 (x .node .up) ∷ [])) (crashesServer x) x l sends read (quietly (serverDown x)) l sends read
+  unfolding quiet recordsOf firstNo
+  server-crashed-is up =
+      accepted-act cfg (firstNo (ask 9 (x .node .up) ∷ [])) (crashesServer x) x l sends read (firstNo-yes 9 (x .node .up) [] up)
+      (quietly (serverDown x)) l sends read [] nothingEnded
+      (λ p. crash-server-pair p (serverNumber (x .node .state .me)) (serverView.view cfg (x .node .state) (l .store)) (x .node .up)
+      (clientNumber (x .client .me)) (clientView.view cfg (x .client) (l .kept) (l .elements)))
+      refl refl refl sound-none (λ _. refl) (refl, refl) (λ h _. h) (refl, refl, refl)
+
+  server-down-is : x .node .up ≡ false → ActPost cfg (firstNo (ask 9 (x .node .up) ∷ [])) (crashesServer x) x l sends read (refusing Refusal.Down x) l sends read
+  server-down-is down =
+      refused-act cfg (firstNo (ask 9 (x .node .up) ∷ [])) (crashesServer x) x l sends read Refusal.Down (sym (firstNo-no 9 (x .node .up) [] down))
+
+  client-crashed-is : isUp (x .client .phase) ≡ true
+      → ActPost cfg (firstNo (ask 9 (isUp (x .client .phase)) ∷ [])) (crashesClient x) x l sends read (quietly (clientDown x)) l sends read
+  unfolding quiet recordsOf firstNo clientView.view phaseOf stateWithin phaseWithin
+  client-crashed-is up =
+      accepted-act cfg (firstNo (ask 9 (isUp (x .client .phase)) ∷ [])) (crashesClient x) x l sends read (firstNo-yes 9 (isUp (x .client .phase)) [] up)
+      (quietly (clientDown x)) l sends read [] nothingEnded
+      (λ p. crash-client-pair p (serverNumber (x .node .state .me)) (serverView.view cfg (x .node .state) (l .store)) (x .node .up)
+      (clientNumber (x .client .me)) (clientView.view cfg (x .client) (l .kept) (l .elements)))
+      refl refl refl sound-none (λ _. refl) (refl, refl)
+      (λ h _. rw (
+        and-left (serverStateWithin cfg (x .node .state)) (stateWithin cfg (x .client)) h,
+        and-left (within 1 (cfg .c) (clientNumber (x .client .me))) (phaseWithin cfg (x .client .phase))
+            (and-right (serverStateWithin cfg (x .node .state)) (stateWithin cfg (x .client)) h),
+      ))
+      (refl, refl, refl)
+
+  client-down-is : isUp (x .client .phase) ≡ false
+      → ActPost cfg (firstNo (ask 9 (isUp (x .client .phase)) ∷ [])) (crashesClient x) x l sends read (refusing Refusal.Down x) l sends read
+  client-down-is down =
+      refused-act cfg (firstNo (ask 9 (isUp (x .client .phase)) ∷ [])) (crashesClient x) x l sends read Refusal.Down
+      (sym (firstNo-no 9 (isUp (x .client .phase)) [] down))
+
+  abbrev ServerPost : Acted → Type 0
+  ServerPost r = ActPost cfg (firstNo (ask 9 (x .node .up) ∷ [])) (crashesServer x) x l sends read r l sends read
+
+  abbrev ClientPost : Acted → Type 0
+  ClientPost r = ActPost cfg (firstNo (ask 9 (isUp (x .client .phase)) ∷ [])) (crashesClient x) x l sends read r l sends read
+
+  -- the four, of what the code gives
+  pub server-crashed : x .node .up ≡ true → (r : Acted) → r ≡ quietly (serverDown x) → ServerPost r
+  server-crashed up r e = subst ServerPost (sym e) (server-crashed-is up)
+
+  pub server-is-down : x .node .up ≡ false → (r : Acted) → r ≡ refusing Refusal.Down x → ServerPost r
+  server-is-down down r e = subst ServerPost (sym e) (server-down-is down)
+
+  pub client-crashed : isUp (x .client .phase) ≡ true → (r : Acted) → r ≡ quietly (clientDown x) → ClientPost r
+  client-crashed up r e = subst ClientPost (sym e) (client-crashed-is up)
+
+  pub client-is-down : isUp (x .client .phase) ≡ false → (r : Acted) → r ≡ refusing Refusal.Down x → ClientPost r
+  client-is-down down r e = subst ClientPost (sym e) (client-down-is down)

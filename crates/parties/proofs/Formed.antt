@@ -1,0 +1,493 @@
+-- What parties send is a message of the configuration, where what they keep and what they are handed is within a record's limits; and what
+-- they do keeps it there. In order: what is within the limits; what a message of the configuration says; a client; a server; the parties;
+-- the states of question 6. Assumes nothing.
+use Prim.Native.Nat.{ℕ, zero, suc, _+_, _*_, _≤_, _<_}
+use mathlib.Core.Path.{_≡_, refl, sym, ap, subst, _∙_}
+use mathlib.Core.Bool.{Bool, true, cond, not, _&&_, _||_}
+use mathlib.Core.Option.{Option, none, some}
+use mathlib.Core.List.{List, [], _∷_, _++_}
+use native.Mathlib.Nat.{mul-le-mul-right}
+use native.Mathlib.Omega.{arith}
+use borrow.Author.Tests.{eq-eqb, ne-eqb, eqb-true, le-leb, leb-true, ltb-true}
+use lib.Dec.{eqb, ltb}
+use lib.ListN.{length, getD, drop, length-drop}
+use lib.Seq.{length-take-le}
+use Rattle.laws.proofs.Bools.{and-left, and-right}
+use Rattle.config.specs.declared.Config.{Config}
+use Rattle.config.specs.Config.{Valid, storeLength}
+use Rattle.config.specs.Number.{clientNumber}
+use Rattle.config.specs.Questions.{within}
+use Rattle.config.proofs.Questions.{within-true}
+use Rattle.tag.specs.declared.Tag.{Tag}
+use Rattle.tag.specs.Tag.{allowed, key, start}
+use Rattle.tag.proofs.Order.{allowed-client, key-one}
+use Rattle.code.specs.Element.{element}
+use Rattle.code.specs.Decoded.{decodedPairs}
+use Rattle.code.proofs.Decoding.{length-element}
+use Rattle.record.specs.declared.Kind.{Kind}
+use Rattle.record.specs.declared.Kind.the-variants.{Query, QueryAnswer, PreWrite, PreWriteAnswer, WriteFinalise, WriteFinaliseAnswer, ReadFinalise, ReadFinaliseAnswer}
+use Rattle.record.specs.Kinds.{isForServer}
+use Rattle.record.specs.Record.{all, highestNumber, isPresent, kindNumber, messageClauses, ofConfig, ownTag, presence, queryTag, sized}
+use Rattle.record.proofs.Clauses.{all-at}
+use Rattle.server.specs.declared.State as serverState
+use Rattle.server.specs.Within.{every, stateWithin as serverStateWithin}
+use Rattle.server.specs.View as serverView
+use Rattle.server.specs.View.{each, placeAt, tagAt}
+use Rattle.server.proofs.Limits.{state-allowed, state-count, state-highest}
+use Rattle.client.specs.declared.Phase.{Phase}
+use Rattle.client.specs.declared.Phase.the-variants.{Idle, Asking, PreWriting, FinalisingWrite, FinalisingRead, Down}
+use Rattle.client.specs.declared.State as clientState
+use Rattle.client.specs.Servers.{withinServers}
+use Rattle.client.specs.State as clientView
+use Rattle.client.specs.State.{phaseOf, phaseWithin, stateWithin, tagWithin}
+use Rattle.protocol.specs.Boards.{Board, BoardActed, BoardClient, BoardEnded, BoardMessage, BoardMoved, BoardParties, BoardPhase, BoardServer, BoardStored, Element, begin, beginClient, clientStep, deliver, freshParties, serverStep}
+use Rattle.protocol.specs.Client as client
+use Rattle.protocol.specs.Client.{idle, asking, preWriting, finalisingWrite, finalisingRead, down, asked, awaited, awaits, counting, ends, enough, enoughToRead, isFirst, nextTag, sendEach, sendPreWrites, sendReadFinalises, sendWriteFinalises, settling, stays}
+use Rattle.protocol.specs.Number.{nothingYet, toList}
+use Rattle.protocol.specs.Parties as parties
+use Rattle.protocol.specs.Parties.{clientActs, crashClient, crashServer, quiet, serverActs}
+use Rattle.protocol.specs.Server as server
+use Rattle.protocol.specs.Server.{addLast, answerTo, atOrBelowFloor, dropSmallest, elementOf, finalised, freshServer, inPlaceOf, isStored, noServer, others, readAnswer, serverStepOf, smallest, store, storeElement}
+use Rattle.protocol.specs.Tags.{higher, sameKey}
+use Rattle.protocol.proofs.Basics.{cond-elim, upd-elim}
+use Rattle.parties.specs.Sound.{Sound}
+use Rattle.parties.proofs.Sound.{sound-none, sound-one, sound-toEach}
+
+-- ---- within a record's limits
+
+-- a tag that a record may carry
+abbrev pub TagFits : Config → Tag → Type 0
+TagFits cfg t = (allowed (cfg .c) t ≡ true) × (t .number ≤ highestNumber)
+
+-- a client's tag is one
+unfoldable pub PhaseFits : Config → BoardPhase → Type 0
+PhaseFits cfg idle = Unit {0}
+PhaseFits cfg (asking b t cs) = TagFits cfg t
+PhaseFits cfg (preWriting t cs) = TagFits cfg t
+PhaseFits cfg (finalisingWrite t cs) = TagFits cfg t
+PhaseFits cfg (finalisingRead t cs es) = TagFits cfg t
+PhaseFits cfg down = Unit {0}
+
+-- a stored tag is one, and its element has E bytes
+abbrev pub StoredFits : Config → BoardStored → Type 0
+StoredFits cfg x = TagFits cfg (x .tag) × (length (x .element) ≡ cfg .e)
+
+-- a server's stored tags are
+unfoldable pub StoreFits : Config → List BoardStored → Type 0
+StoreFits cfg [] = Unit {0}
+StoreFits cfg (x ∷ xs) = StoredFits cfg x × StoreFits cfg xs
+
+pub record ServerFits (cfg : Config) (v : BoardServer) : Type 0 where
+  pub highest : TagFits cfg (v .highest)
+  pub stored : StoreFits cfg (v .stored)
+
+-- what every party keeps is within the limits
+pub record PartiesFit (cfg : Config) (p : BoardParties) : Type 0 where
+  pub servers : (s : ℕ) → ServerFits cfg (p .servers s)
+  pub clients : (c : ℕ) → PhaseFits cfg (p .clients c .phase)
+
+-- what parties have done: they keep to the limits, and what they send are messages of the configuration
+pub record ActedFits (cfg : Config) (x : BoardActed) : Type 0 where
+  pub parties : PartiesFit cfg (x .parties)
+  pub sends : Sound cfg (x .sends)
+
+start-fits : (cfg : Config) → TagFits cfg start
+start-fits cfg = (refl, omega arith)
+
+higher-fits : (cfg : Config) (t u : Tag) → TagFits cfg t → TagFits cfg u → TagFits cfg (higher key t u)
+unfolding higher
+higher-fits cfg t u a b = cond-elim (TagFits cfg) (ltb (key t) (key u)) u t (λ _. b) (λ _. a)
+
+-- one key, one tag
+one-tag : (cfg : Config) → Valid cfg → (t u : Tag) → TagFits cfg t → TagFits cfg u → sameKey key t u ≡ true → t ≡ u
+one-tag cfg valid t u a b h =
+    key-one t u (omega (arith, allowed-client (cfg .c) t (a .0), valid .c-high)) (omega (arith, allowed-client (cfg .c) u (b .0), valid .c-high))
+    (eqb-true (key t) (key u) h)
+
+-- ---- what a message of the configuration says
+
+module _ (cfg : Config) (m : BoardMessage) (h : ofConfig cfg m ≡ true) where
+  rule : (i : ℕ) → getD (messageClauses cfg m) i true ≡ true
+  unfolding ofConfig
+  rule i = all-at (messageClauses cfg m) h i
+
+  operation-within : within 1 highestNumber (m .operation) ≡ true
+  unfolding messageClauses
+  operation-within = rule 0
+
+  element-sized : sized cfg (m .element) ≡ true
+  unfolding messageClauses
+  element-sized = rule 2
+
+  own-clause : ownTag (kindNumber (m .kind)) (m .client) (m .tag) ≡ true
+  unfolding messageClauses
+  own-clause = rule 4
+
+  pub client-within : within 1 (cfg .c) (m .client) ≡ true
+  unfolding messageClauses
+  client-within = rule 6
+
+  pub server-within : within 1 (cfg .n) (m .server) ≡ true
+  unfolding messageClauses
+  server-within = rule 7
+
+  pub message-fits : TagFits cfg (m .tag)
+  unfolding messageClauses
+  message-fits = (rule 8, leb-true (m .tag .number) highestNumber (rule 1))
+
+-- and what makes it one
+is-of : (cfg : Config) (kind : Kind) (c s o : ℕ) (t : Tag) (e : Option Element)
+    → within 1 highestNumber o ≡ true → within 1 (cfg .c) c ≡ true → within 1 (cfg .n) s ≡ true → TagFits cfg t → sized cfg e ≡ true
+    → queryTag (kindNumber kind) t ≡ true → ownTag (kindNumber kind) c t ≡ true → presence (kindNumber kind) (isPresent e) ≡ true
+    → ofConfig cfg (record { kind = kind; client = c; server = s; operation = o; tag = t; element = e }) ≡ true
+unfolding ofConfig all messageClauses
+is-of cfg kind c s o t e ho hc hs ht he q w p =
+    rw (ho, le-leb (t .number) highestNumber (ht .1), he, q, w, p, hc, hs, ht .0)
+
+-- ---- a client
+
+-- what its move leaves fits, and so does what it sends
+pub record MovedFits (cfg : Config) (x : BoardMoved) : Type 0 where
+  pub sends : Sound cfg (x .sends)
+  pub phase : PhaseFits cfg (x .client .phase)
+
+module _ (cfg : Config) where
+  stays-fits : (x : BoardClient) → PhaseFits cfg (x .phase) → MovedFits cfg (stays x)
+  unfolding stays
+  stays-fits x h = record { sends = sound-none; phase = h }
+
+  ends-fits : (o : ℕ) (how : BoardEnded) → MovedFits cfg (ends o how)
+  unfolding ends PhaseFits
+  ends-fits o how = record { sends = sound-none; phase = tt }
+
+module _ (cfg : Config) (c : ℕ) (own : within 1 (cfg .c) c ≡ true) (o : ℕ) (ho : within 1 highestNumber o ≡ true) where
+  each-sound : (kind : Kind) (t : Tag) (e : ℕ → Option Element) → TagFits cfg t → ((s : ℕ) → sized cfg (e s) ≡ true)
+      → queryTag (kindNumber kind) t ≡ true → ownTag (kindNumber kind) c t ≡ true → ((s : ℕ) → presence (kindNumber kind) (isPresent (e s)) ≡ true)
+      → Sound cfg (sendEach cfg kind c o t e)
+  unfolding sendEach
+  each-sound kind t e ht he q w p =
+      sound-toEach (cfg .n) _ (λ s l k. is-of cfg kind c s o t (e s) ho own (within-true 1 (cfg .n) s l k) ht (he s) q w (p s))
+
+  next-fits : (t : Tag) → t .number < highestNumber → TagFits cfg (nextTag t c)
+  unfolding nextTag
+  next-fits t h =
+      let some-number : t .number + 1 ≡ 0 → ⊥ = λ e. omega (arith, e) in
+      (rw (ne-eqb (t .number + 1) 0 some-number) own, omega (arith, h))
+
+  pre-writes-fit : (v : Board) (t : Tag) → t .number < highestNumber → MovedFits cfg (sendPreWrites (element cfg) cfg c o v (nextTag t c))
+  unfolding sendPreWrites PhaseFits nextTag
+  pre-writes-fit v t h =
+      record {
+        sends =
+            each-sound PreWrite (nextTag t c) (λ s. some (element cfg v s)) (next-fits t h)
+            (λ s. eq-eqb (length (element cfg v s)) (cfg .e) (length-element cfg v s)) refl (eq-eqb c c refl) (λ s. refl);
+        phase = next-fits t h;
+      }
+
+  reads-fit : (t : Tag) → TagFits cfg t → MovedFits cfg (sendReadFinalises cfg c o t)
+  unfolding sendReadFinalises PhaseFits
+  reads-fit t h = record { sends = each-sound ReadFinalise t nothingYet h (λ s. refl) refl refl (λ s. refl); phase = h }
+
+  asked-fits : (b : Option Board) (t : Tag) → TagFits cfg t → MovedFits cfg (asked (element cfg) cfg c o b t)
+  unfolding asked
+  asked-fits none t h = reads-fit t h
+  asked-fits (some v) t h =
+      cond-elim (MovedFits cfg) (ltb (t .number) highestNumber) (sendPreWrites (element cfg) cfg c o v (nextTag t c)) (ends o client.spent)
+      (λ e. pre-writes-fit v t (ltb-true (t .number) highestNumber e)) (λ _. ends-fits cfg o client.spent)
+
+  writes-fit : (t : Tag) → TagFits cfg t → t .client ≡ c → MovedFits cfg (sendWriteFinalises cfg c o t)
+  unfolding sendWriteFinalises PhaseFits
+  writes-fit t h e =
+      record { sends = each-sound WriteFinalise t nothingYet h (λ s. refl) refl (eq-eqb (t .client) c e) (λ s. refl); phase = h }
+
+  module _ (valid : Valid cfg) (m : BoardMessage) (good : ofConfig cfg m ≡ true) (mine : m .client ≡ c) where
+    -- an awaited answer to a pre-write has the client's own tag
+    own-tag : (t : Tag) (cs : ℕ → Bool) → TagFits cfg t → (isFirst 4 cs m && sameKey key (m .tag) t) ≡ true → t .client ≡ c
+    unfolding isFirst
+    own-tag t cs h a =
+        let first = and-left (eqb (kindNumber (m .kind)) 4 && not (cs (m .server))) (sameKey key (m .tag) t) a in
+        let four = eqb-true (kindNumber (m .kind)) 4 (and-left (eqb (kindNumber (m .kind)) 4) (not (cs (m .server))) first) in
+        let one = one-tag cfg valid (m .tag) t (message-fits cfg m good) h (and-right (isFirst 4 cs m) (sameKey key (m .tag) t) a) in
+        let own : ownTag 4 (m .client) (m .tag) ≡ true = subst (λ k. ownTag k (m .client) (m .tag) ≡ true) four (own-clause cfg m good) in
+        sym (ap (λ u. u .client) one) ∙ eqb-true (m .tag .client) (m .client) own ∙ mine
+
+    settled-fits : (p : BoardPhase) → PhaseFits cfg p → awaits key p m ≡ true
+        → MovedFits cfg (settling (element cfg) (decodedPairs cfg) cfg c o (counting key p m))
+    unfolding settling counting PhaseFits awaits client.endRead
+    settled-fits idle h a = stays-fits cfg _ tt
+    settled-fits (asking b t cs) h a =
+        let f = higher-fits cfg t (m .tag) h (message-fits cfg m good) in
+        cond-elim (MovedFits cfg) (enough cfg _) _ _ (λ _. asked-fits b (higher key t (m .tag)) f) (λ _. stays-fits cfg _ f)
+    settled-fits (preWriting t cs) h a =
+        cond-elim (MovedFits cfg) (enough cfg _) _ _ (λ _. writes-fit t h (own-tag t cs h a)) (λ _. stays-fits cfg _ h)
+    settled-fits (finalisingWrite t cs) h a = cond-elim (MovedFits cfg) (enough cfg _) _ _ (λ _. ends-fits cfg o _) (λ _. stays-fits cfg _ h)
+    settled-fits (finalisingRead t cs es) h a =
+        cond-elim (MovedFits cfg) (enoughToRead cfg _ _) _ _ (λ _. ends-fits cfg o _) (λ _. stays-fits cfg _ h)
+    settled-fits down h a = stays-fits cfg _ tt
+
+module _ (cfg : Config) (c : ℕ) (own : within 1 (cfg .c) c ≡ true) (x : BoardClient) where
+  -- it begins
+  pub begun-fits : x .operation < highestNumber → (board : Option Board) → MovedFits cfg (beginClient cfg c x board)
+  unfolding client.beginClient PhaseFits
+  begun-fits h board =
+      let next = within-true 1 highestNumber (x .operation + 1) (omega arith) (omega (arith, h)) in
+      record {
+        sends = each-sound cfg c own (x .operation + 1) next Query start nothingYet (start-fits cfg) (λ s. refl) refl refl (λ s. refl);
+        phase = start-fits cfg;
+      }
+
+  -- it is handed an answer
+  pub step-fits : Valid cfg → PhaseFits cfg (x .phase) → (m : BoardMessage) → ofConfig cfg m ≡ true → m .client ≡ c
+      → MovedFits cfg (clientStep cfg c x m)
+  unfolding client.clientStep client.settle client.counted awaited
+  step-fits valid fits m good mine =
+      cond-elim (MovedFits cfg) (awaited key x m)
+      (settling (element cfg) (decodedPairs cfg) cfg c (x .operation) (counting key (x .phase) m)) (stays x)
+      (λ a.
+      let same = eqb-true (m .operation) (x .operation) (and-left (eqb (m .operation) (x .operation)) (awaits key (x .phase) m) a) in
+      settled-fits cfg c own (x .operation) (subst (λ n. within 1 highestNumber n ≡ true) same (operation-within cfg m good)) valid m good mine
+      (x .phase) fits (and-right (eqb (m .operation) (x .operation)) (awaits key (x .phase) m) a))
+      (λ _. stays-fits cfg x fits)
+
+-- ---- a server
+
+module _ (cfg : Config) where
+  add-fits : (xs : List BoardStored) (y : BoardStored) → StoreFits cfg xs → StoredFits cfg y → StoreFits cfg (xs ++ (y ∷ []))
+  unfolding StoreFits
+  add-fits [] y h k = (k, tt)
+  add-fits (x ∷ xs) y h k = (h .0, add-fits xs y (h .1) k)
+
+  in-place-fits : (u : Tag) (xs : List BoardStored) (y : BoardStored) → StoreFits cfg xs → StoredFits cfg y → StoreFits cfg (inPlaceOf key u y xs)
+  unfolding StoreFits inPlaceOf
+  in-place-fits u [] y h k = tt
+  in-place-fits u (x ∷ xs) y h k =
+      cond-elim (StoreFits cfg) (sameKey key (x .tag) u) (y ∷ xs) (x ∷ inPlaceOf key u y xs) (λ _. (k, h .1)) (λ _. (h .0, in-place-fits u xs y (h .1) k))
+
+  others-fit : (u : Tag) (xs : List BoardStored) (y : BoardStored) → StoreFits cfg xs → StoredFits cfg y → StoreFits cfg (others key u y xs)
+  unfolding others
+  others-fit u xs y h k =
+      cond-elim (StoreFits cfg) (sameKey key u (y .tag)) xs (inPlaceOf key u y xs) (λ _. h) (λ _. in-place-fits u xs y h k)
+
+  store-fits : (v : BoardServer) (y : BoardStored) → ServerFits cfg v → StoredFits cfg y → ServerFits cfg (store key (cfg .d) v y)
+  unfolding store addLast dropSmallest
+  store-fits v y h k =
+      cond-elim (ServerFits cfg) (isStored key (y .tag) (v .stored) || atOrBelowFloor key (y .tag) (v .floor)) v
+      (cond (ltb (length (v .stored)) (cfg .d + 1)) (addLast v y) (dropSmallest key v y)) (λ _. h)
+      (λ _. cond-elim (ServerFits cfg) (ltb (length (v .stored)) (cfg .d + 1)) (addLast v y) (dropSmallest key v y)
+      (λ _. record { highest = h .highest; stored = add-fits (v .stored) y (h .stored) k })
+      (λ _. record { highest = h .highest; stored = others-fit (smallest key (y .tag) (v .stored)) (v .stored) y (h .stored) k }))
+
+  element-fits : (v : BoardServer) (t : Tag) (e : Option Element) → ServerFits cfg v → TagFits cfg t → sized cfg e ≡ true
+      → ServerFits cfg (storeElement key (cfg .d) v t e)
+  unfolding storeElement
+  element-fits v t none h k z = h
+  element-fits v t (some e) h k z = store-fits v (record { tag = t; element = e }) h (k, eqb-true (length e) (cfg .e) z)
+
+  finalised-fits : (v : BoardServer) (t : Tag) → ServerFits cfg v → TagFits cfg t → ServerFits cfg (finalised key v t)
+  unfolding finalised
+  finalised-fits v t h k = record { highest = higher-fits cfg (v .highest) t (h .highest) k; stored = h .stored }
+
+  -- a stored element has E bytes
+  stored-sized : (t : Tag) (xs : List BoardStored) → StoreFits cfg xs → sized cfg (elementOf key t xs) ≡ true
+  unfolding StoreFits elementOf
+  stored-sized t [] h = refl
+  stored-sized t (x ∷ xs) h =
+      cond-elim (λ o. sized cfg o ≡ true) (sameKey key (x .tag) t) (some (x .element)) (elementOf key t xs)
+      (λ _. eq-eqb (length (x .element)) (cfg .e) (h .0 .1)) (λ _. stored-sized t xs (h .1))
+
+module _ (cfg : Config) (s : ℕ) (v : BoardServer) (fits : ServerFits cfg v) (m : BoardMessage) (good : ofConfig cfg m ≡ true) (mine : m .server ≡ s) where
+  -- an answer that carries a tag and an element within the limits
+  answer-is-of : (kind : Kind) (t : Tag) (e : Option Element) → TagFits cfg t → sized cfg e ≡ true → queryTag (kindNumber kind) t ≡ true
+      → ownTag (kindNumber kind) (m .client) t ≡ true → presence (kindNumber kind) (isPresent e) ≡ true → Sound cfg (toList (some (answerTo s m kind t e)))
+  unfolding answerTo toList
+  answer-is-of kind t e ht he q w p =
+      sound-one _ (is-of cfg kind (m .client) s (m .operation) t e (operation-within cfg m good) (client-within cfg m good)
+      (subst (λ n. within 1 (cfg .n) n ≡ true) mine (server-within cfg m good)) ht he q w p)
+
+  -- kinds 3 and 5 carry a tag of the record's own client
+  own-of : (kind : Kind) → m .kind ≡ kind → ownTag (kindNumber kind) (m .client) (m .tag) ≡ true
+  own-of kind e = subst (λ (k : Kind). ownTag (kindNumber k) (m .client) (m .tag) ≡ true) e (own-clause cfg m good)
+
+  read-sound : (e : Option Element) → sized cfg e ≡ true → Sound cfg (toList (readAnswer key s (v .floor) m e))
+  unfolding readAnswer toList
+  read-sound none h =
+      cond-elim (λ (o : Option BoardMessage). Sound cfg (toList o)) (atOrBelowFloor key (m .tag) (v .floor)) none
+      (some (answerTo s m ReadFinaliseAnswer (m .tag) none)) (λ _. sound-none)
+      (λ _. answer-is-of ReadFinaliseAnswer (m .tag) none (message-fits cfg m good) refl refl refl refl)
+  read-sound (some e) h = answer-is-of ReadFinaliseAnswer (m .tag) (some e) (message-fits cfg m good) h refl refl refl
+
+  sound-of : (kind : Kind) → m .kind ≡ kind → Sound cfg (toList (serverStepOf kind key (cfg .d) s v m .answer))
+  unfolding serverStepOf server.query server.preWrite server.writeFinalise server.readFinalise toList
+  sound-of Query e = answer-is-of QueryAnswer (v .highest) none (fits .highest) refl refl refl refl
+  sound-of QueryAnswer e = sound-none
+  sound-of PreWrite e = answer-is-of PreWriteAnswer (m .tag) none (message-fits cfg m good) refl refl (own-of PreWrite e) refl
+  sound-of PreWriteAnswer e = sound-none
+  sound-of WriteFinalise e = answer-is-of WriteFinaliseAnswer (m .tag) none (message-fits cfg m good) refl refl (own-of WriteFinalise e) refl
+  sound-of WriteFinaliseAnswer e = sound-none
+  sound-of ReadFinalise e = read-sound (elementOf key (m .tag) (v .stored)) (stored-sized cfg (m .tag) (v .stored) (fits .stored))
+  sound-of ReadFinaliseAnswer e = sound-none
+
+  fits-of : (kind : Kind) → ServerFits cfg (serverStepOf kind key (cfg .d) s v m .server)
+  unfolding serverStepOf server.query server.preWrite server.writeFinalise server.readFinalise
+  fits-of Query = fits
+  fits-of QueryAnswer = fits
+  fits-of PreWrite = element-fits cfg v (m .tag) (m .element) fits (message-fits cfg m good) (element-sized cfg m good)
+  fits-of PreWriteAnswer = fits
+  fits-of WriteFinalise = finalised-fits cfg v (m .tag) fits (message-fits cfg m good)
+  fits-of WriteFinaliseAnswer = fits
+  fits-of ReadFinalise = finalised-fits cfg v (m .tag) fits (message-fits cfg m good)
+  fits-of ReadFinaliseAnswer = fits
+
+  -- what a server answers
+  pub answer-sound : Sound cfg (toList (serverStep cfg s v m .answer))
+  unfolding server.serverStep
+  answer-sound = sound-of (m .kind) refl
+
+  -- and what it keeps
+  pub server-fits : ServerFits cfg (serverStep cfg s v m .server)
+  unfolding server.serverStep
+  server-fits = fits-of (m .kind)
+
+-- ---- the parties
+
+module _ (cfg : Config) where
+  pub fresh-fits : (board : Board) → PartiesFit cfg (freshParties cfg board)
+  unfolding parties.freshParties client.freshClient freshServer noServer PhaseFits StoreFits
+  fresh-fits board =
+      record {
+        servers = λ s.
+            cond-elim (ServerFits cfg) (within 1 (cfg .n) s) (freshServer (element cfg board s)) noServer
+            (λ _. record { highest = start-fits cfg; stored = ((start-fits cfg, length-element cfg board s), tt) })
+            (λ _. record { highest = start-fits cfg; stored = tt });
+        clients = λ c. tt;
+      }
+
+module _ (cfg : Config) (p : BoardParties) (fits : PartiesFit cfg p) where
+  pub quiet-fits : ActedFits cfg (quiet p)
+  unfolding quiet
+  quiet-fits = record { parties = fits; sends = sound-none }
+
+  client-acts-fits : (c : ℕ) (o : BoardMoved) → MovedFits cfg o → ActedFits cfg (clientActs p c o)
+  unfolding clientActs parties.withClient
+  client-acts-fits c o h =
+      record {
+        parties =
+            record {
+              servers = fits .servers;
+              clients = λ d. upd-elim (λ (x : BoardClient). PhaseFits cfg (x .phase)) (p .clients) c (o .client) d (λ _. h .phase) (λ _. fits .clients d);
+            };
+        sends = h .sends;
+      }
+
+  pub begin-fits : (c : ℕ) → within 1 (cfg .c) c ≡ true → p .clients c .operation < highestNumber → (board : Option Board)
+      → ActedFits cfg (begin cfg p c board)
+  unfolding parties.begin
+  begin-fits c own h board = client-acts-fits c (beginClient cfg c (p .clients c) board) (begun-fits cfg c own (p .clients c) h board)
+
+  module _ (valid : Valid cfg) (m : BoardMessage) (good : ofConfig cfg m ≡ true) where
+    to-server-fits : ActedFits cfg (serverActs p (m .server) (serverStep cfg (m .server) (p .servers (m .server)) m))
+    unfolding serverActs parties.withServer
+    to-server-fits =
+        let s = m .server in
+        record {
+          parties =
+              record {
+                servers = λ z.
+                    upd-elim (ServerFits cfg) (p .servers) s (serverStep cfg s (p .servers s) m .server) z
+                    (λ _. server-fits cfg s (p .servers s) (fits .servers s) m good refl) (λ _. fits .servers z);
+                clients = fits .clients;
+              };
+          sends = answer-sound cfg s (p .servers s) (fits .servers s) m good refl;
+        }
+
+    pub deliver-fits : ActedFits cfg (deliver cfg p m)
+    unfolding parties.deliver
+    deliver-fits =
+        cond-elim (ActedFits cfg) (isForServer (m .kind)) _ _
+        (λ _. cond-elim (ActedFits cfg) (p .up (m .server)) _ (quiet p) (λ _. to-server-fits) (λ _. quiet-fits))
+        (λ _. client-acts-fits (m .client) _
+        (step-fits cfg (m .client) (client-within cfg m good) (p .clients (m .client)) valid (fits .clients (m .client)) m good refl))
+
+  pub crash-server-fits : (s : ℕ) → ActedFits cfg (crashServer p s)
+  unfolding crashServer quiet
+  crash-server-fits s = record { parties = record { servers = fits .servers; clients = fits .clients }; sends = sound-none }
+
+  pub crash-client-fits : (c : ℕ) → ActedFits cfg (crashClient p c)
+  unfolding crashClient quiet parties.withClient PhaseFits
+  crash-client-fits c =
+      record {
+        parties =
+            record {
+              servers = fits .servers;
+              clients = λ d. upd-elim (λ (x : BoardClient). PhaseFits cfg (x .phase)) (p .clients) c _ d (λ _. tt) (λ _. fits .clients d);
+            };
+        sends = sound-none;
+      }
+
+-- ---- the states of question 6
+
+-- the number of the phase's tag has four bytes
+unfoldable pub NumberedPhase : Phase → Type 0
+NumberedPhase Idle = Unit {0}
+NumberedPhase (Asking writes best counted) = best .number ≤ highestNumber
+NumberedPhase (PreWriting tag counted) = tag .number ≤ highestNumber
+NumberedPhase (FinalisingWrite tag counted) = tag .number ≤ highestNumber
+NumberedPhase (FinalisingRead tag counted sent) = tag .number ≤ highestNumber
+NumberedPhase Down = Unit {0}
+
+module _ (cfg : Config) where
+  tag-fits : (t : Tag) (counted : ℕ) → tagWithin cfg t counted ≡ true → t .number ≤ highestNumber → TagFits cfg t
+  tag-fits t counted h n = (and-left (allowed (cfg .c) t) (withinServers (cfg .n) counted) h, n)
+
+  phase-fits : (p : Phase) (kept es : List ℕ) → phaseWithin cfg p ≡ true → NumberedPhase p → PhaseFits cfg (phaseOf cfg p kept es)
+  unfolding NumberedPhase PhaseFits phaseOf phaseWithin
+  phase-fits Idle kept es h n = tt
+  phase-fits (Asking writes best counted) kept es h n = tag-fits best counted h n
+  phase-fits (PreWriting tag counted) kept es h n = tag-fits tag counted h n
+  phase-fits (FinalisingWrite tag counted) kept es h n = tag-fits tag counted h n
+  phase-fits (FinalisingRead tag counted sent) kept es h n =
+      tag-fits tag counted (and-left (tagWithin cfg tag counted) (withinServers (cfg .n) sent) h) n
+  phase-fits Down kept es h n = tt
+
+  -- a client of which question 6 is answered yes
+  pub client-seen-fits : (x : clientState.State) (kept es : List ℕ) → stateWithin cfg x ≡ true → NumberedPhase (x .phase)
+      → PhaseFits cfg (clientView.view cfg x kept es .phase)
+  unfolding clientView.view stateWithin
+  client-seen-fits x kept es h n =
+      phase-fits (x .phase) kept es (and-right (within 1 (cfg .c) (clientNumber (x .me))) (phaseWithin cfg (x .phase)) h) n
+
+-- the numbers of a server's tags have four bytes
+pub record NumberedServer (x : serverState.State) : Type 0 where
+  pub highest : x .highest .number ≤ highestNumber
+  pub tags : (j : ℕ) → tagAt (x .tags) j .number ≤ highestNumber
+
+module _ (cfg : Config) (tags : List Tag) (bytes : List ℕ) (numbers : (j : ℕ) → tagAt tags j .number ≤ highestNumber) where
+  places-fit : (i n : ℕ) → every (allowed (cfg .c)) (each (tagAt tags) i n) ≡ true → (i + n) * cfg .e ≤ length bytes
+      → StoreFits cfg (each (placeAt cfg tags bytes) i n)
+  unfolding StoreFits each every
+  places-fit i zero h l = tt
+  places-fit i (suc n) h l =
+      let t = tagAt tags i in
+      let rest = every (allowed (cfg .c)) (each (tagAt tags) (suc i) n) in
+      let next : suc i + n ≡ i + suc n = omega arith in
+      let inside : suc i * cfg .e ≤ (i + suc n) * cfg .e = mul-le-mul-right (cfg .e) (omega arith) in (
+        (
+          (and-left (allowed (cfg .c) t) rest h, numbers i),
+          length-take-le (cfg .e) (drop (i * cfg .e) bytes) (omega (arith, inside, l, length-drop (i * cfg .e) bytes)),
+        ),
+        places-fit (suc i) n (and-right (allowed (cfg .c) t) rest h) (subst (λ k. k * cfg .e ≤ length bytes) (sym next) l),
+      )
+
+-- a server of which question 6 is answered yes, with its store
+pub server-seen-fits : (cfg : Config) (x : serverState.State) (bytes : List ℕ) → serverStateWithin cfg x ≡ true → length bytes ≡ storeLength cfg
+    → NumberedServer x → ServerFits cfg (serverView.view cfg x bytes)
+unfolding serverView.view
+server-seen-fits cfg x bytes h long numbered =
+    let none-before : 0 + x .count ≡ x .count = omega arith in
+    let fits : x .count * cfg .e ≤ storeLength cfg = mul-le-mul-right (cfg .e) (state-count cfg x h) in
+    record {
+      highest = (state-highest cfg x h, numbered .highest);
+      stored =
+          places-fit cfg (x .tags) bytes (numbered .tags) 0 (x .count) (state-allowed cfg x h)
+          (subst (λ k. k * cfg .e ≤ length bytes) (sym none-before) (omega (arith, fits, long)));
+    }

@@ -1,0 +1,41 @@
+// The parties of a rig that one event can touch, a server and a client, and what they do in it. Their parts of the buffers are lent, and
+// what they send goes to a lent buffer: of the messages in flight nothing is known here. Every function is proved, nothing is assumed,
+// and no public function has a `requires`.
+pub mod begin;
+pub mod crash;
+pub mod deliver;
+mod outcome;
+
+use config::Client;
+use config::Refusal;
+use tag::Tag;
+
+// A server, and whether it is up. A crash keeps the state.
+pub struct Node {
+    pub state: server::State,
+    pub up: bool,
+}
+
+// The parties that one event can touch.
+pub struct Pair {
+    pub node: Node,
+    pub client: client::State,
+}
+
+// An event's answer. The bytes of a board that is read stand in the lent buffer.
+pub enum Answer {
+    // No operation ended.
+    Nothing,
+    // The client whose operation ended, and the tag.
+    Written { client: Client, tag: Tag },
+    Spent { client: Client },
+    Read { client: Client, tag: Tag },
+    No(Refusal),
+}
+
+// What an event leaves: its answer, the parties, and how many records stand at the front of the lent buffer for sends.
+pub struct Acted {
+    pub answer: Answer,
+    pub pair: Pair,
+    pub sent: usize,
+}

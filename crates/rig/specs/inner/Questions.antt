@@ -1,0 +1,20 @@
+-- Question 6 of a rig's calls, but for what the parties keep: by the lengths of the buffers.
+use Prim.Native.Nat.{ℕ}
+use mathlib.Core.Bool.{Bool, _&&_}
+use lib.Dec.{eqb, leb}
+use Rattle.config.specs.declared.Config.{Config}
+use Rattle.config.specs.Config.{boardLength}
+use Rattle.rig.specs.declared.questions.Sizes.{Sizes}
+use Rattle.rig.specs.Questions.{sizedBy}
+
+-- of a making: the starting board, and the buffers lent
+abbrev pub sizedToMake : Config → ℕ → ℕ → Sizes → Bool
+sizedToMake cfg m start x = eqb start (boardLength cfg) && sizedBy cfg m (x .messages) (x .stores) (x .boards) (x .elements)
+
+-- of an event: the board handed in, the buffer lent for a read, the others, and how many records are in flight
+abbrev pub sizedToEvent : Config → ℕ → ℕ → ℕ → ℕ → Sizes → Bool
+sizedToEvent cfg m count board read x =
+    eqb board (boardLength cfg)
+    && eqb read (boardLength cfg)
+    && sizedBy cfg m (x .messages) (x .stores) (x .boards) (x .elements)
+    && leb count m

@@ -1,0 +1,44 @@
+-- An event of a part: what its functions ask of the part and of the lent buffers, and what they give.
+use Prim.Native.Nat.{ℕ, _*_, _≤_, _<_}
+use mathlib.Core.Path.{_≡_}
+use mathlib.Core.List.{List}
+use lib.ListN.{length}
+use Rattle.config.specs.declared.Config.{Config}
+use Rattle.config.specs.Config.{Valid, boardLength}
+use Rattle.config.specs.Config.{storeLength}
+use Rattle.rig.specs.declared.Call.{Call}
+use Rattle.rig.specs.declared.Change.{Change}
+use Rattle.rig.specs.declared.Part.{Part}
+use Rattle.rig.specs.declared.Rig.{Rig}
+use Rattle.rig.specs.View.{Lent}
+use Rattle.rig.specs.Calls.{EventPost, called, firstSix, turned}
+use Rattle.rig.specs.inner.Part.{Names, PartOf}
+
+-- An event of a rig, by the part of it that the event names: questions 1 to 6 are answered yes.
+pub record Ready (cfg : Config) (m : ℕ) (r : Rig) (p : Part) (a : Call) (board read : List ℕ) (l : Lent) : Type 0 where
+  pub part : PartOf r p
+  pub names : Names cfg p a (l .messages)
+  pub yes : firstSix cfg m r (called a board) read l ≡ 0
+
+-- What those questions show of a part: its places are in use, and all records in flight stand in the messages.
+pub record PartPre (cfg : Config) (p : Part) (messages : List ℕ) : Type 0 where
+  pub valid : Valid cfg
+  pub few : p .count ≤ 512
+  pub server : p .server < cfg .n
+  pub client : p .client < cfg .c
+  pub fits : 80 * p .count ≤ length messages
+
+-- and of the lent buffers: each has its length
+pub record TurnPre (cfg : Config) (m : ℕ) (p : Part) (l : Lent) : Type 0 where
+  pub part : PartPre cfg p (l .messages)
+  pub messages : length (l .messages) ≡ 80 * m
+  pub stores : length (l .stores) ≡ cfg .n * storeLength cfg
+  pub boards : length (l .boards) ≡ cfg .c * boardLength cfg
+  pub elements : length (l .elements) ≡ cfg .c * (cfg .n * cfg .e)
+
+-- What is left of a part: its places stay, and of every rig that it is of, where questions 1 to 6 are answered yes, the event is the
+-- protocol's.
+pub record TurnPost (cfg : Config) (m : ℕ) (p : Part) (a : Call) (board read : List ℕ) (l : Lent) (x : Change) (read′ : List ℕ) (l′ : Lent) : Type 0 where
+  pub server : x .part .server ≡ p .server
+  pub client : x .part .client ≡ p .client
+  pub event : (r : Rig) → Ready cfg m r p a board read l → EventPost cfg m r (called a board) read l (turned r x) read′ l′

@@ -1,0 +1,65 @@
+// Whom an event names.
+use crate::Call;
+use config::Config;
+ghost use mathlib.Core.Path.{_≡_};
+ghost use Prim.Native.Nat.{_*_, _≤_, _<_};
+ghost use lib.ListN.{length};
+ghost use Rattle.config.specs.Questions.{within};
+ghost use Rattle.rig.specs.Calls.{namedBy, placeFor};
+
+// The number by which an event is called: of event 3, the byte at an offset of the record at the position, or 0 where there is none; of
+// any other, the party's.
+fn number(count: usize, call: Call, offset: usize, messages: &[u8]) -> usize
+    requires { ⌜ (offset < 80) × (count ≤ 512) × (80 * count ≤ length (now messages)) ⌝ }
+    ensures { λ r. ⌜ r ≡ namedBy count (call .code) (call .party) (call .position) offset (now (messages .entry)) ⌝ }
+{
+    if call.code != 3 {
+        return call.party as usize;
+    }
+    let position = call.position;
+    if count <= position {
+        return 0;
+    }
+    messages[80 * position + offset] as usize
+}
+
+// Whether there is a party of that number, of 1 to n.
+pub(crate) fn exists(n: usize, party: u8) -> bool
+    ensures { λ r. ⌜ r ≡ within 1 n party ⌝ }
+{
+    if party < 1 {
+        return false;
+    }
+    party as usize <= n
+}
+
+// The place of the party of a number, of 1 to n; the first place where there is none.
+fn place(n: usize, number: usize) -> usize
+    ensures { λ r. ⌜ r ≡ placeFor n number ⌝ }
+{
+    if number < 1 {
+        return 0;
+    }
+    if n < number {
+        return 0;
+    }
+    number - 1
+}
+
+// The place of the server that an event can touch; offset 2 of a record is its server.
+pub(crate) fn server(cfg: Config, count: usize, call: Call, messages: &[u8]) -> usize
+    requires { ⌜ (count ≤ 512) × (80 * count ≤ length (now messages)) ⌝ }
+    ensures { λ r. ⌜ r ≡ placeFor (cfg .n) (namedBy count (call .code) (call .party) (call .position) 2 (now (messages .entry))) ⌝ }
+{
+    let s = number(count, call, 2, messages);
+    place(cfg.n, s)
+}
+
+// That of the client; offset 1 of a record is its client.
+pub(crate) fn client(cfg: Config, count: usize, call: Call, messages: &[u8]) -> usize
+    requires { ⌜ (count ≤ 512) × (80 * count ≤ length (now messages)) ⌝ }
+    ensures { λ r. ⌜ r ≡ placeFor (cfg .c) (namedBy count (call .code) (call .party) (call .position) 1 (now (messages .entry))) ⌝ }
+{
+    let c = number(count, call, 1, messages);
+    place(cfg.c, c)
+}

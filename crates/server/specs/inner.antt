@@ -1,0 +1,4 @@
+pub mod Keep
+pub mod Places
+pub mod Serve
+pub mod Spread

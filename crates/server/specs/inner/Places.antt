@@ -1,0 +1,31 @@
+-- The places of stored tags, and of their elements in the store.
+use Prim.Native.Nat.{ℕ, suc, _+_, _*_, _≤_}
+use mathlib.Core.Bool.{cond}
+use mathlib.Core.Path.{_≡_}
+use mathlib.Core.List.{List, [], _∷_, _++_}
+use lib.ListN.{length, take, drop}
+use Rattle.config.specs.declared.Config.{Config}
+use Rattle.tag.specs.declared.Tag.{Tag}
+use Rattle.tag.specs.Tag.{above, same}
+use Rattle.server.specs.declared.places.Least.{Least}
+
+-- the first place of t among tags, or their number
+unfoldable pub placeIn : Tag → List Tag → ℕ
+placeIn t [] = 0
+placeIn t (x ∷ xs) = cond (same x t) 0 (suc (placeIn t xs))
+
+-- the lowest of t and of tags, with its place: t's is p, the tags' are i and on
+unfoldable pub leastFrom : Tag → ℕ → ℕ → List Tag → Least
+leastFrom t p i [] = record { tag = t; place = p }
+leastFrom t p i (x ∷ xs) = cond (above t x) (leastFrom x i (suc i) xs) (leastFrom t p (suc i) xs)
+
+-- bytes with others in the place of those from a on
+abbrev pub putAt : ℕ → List ℕ → List ℕ → List ℕ
+putAt a new bs = take a bs ++ (new ++ drop (a + length new) bs)
+
+-- a store has room for n elements like this one
+pub record Room (cfg : Config) (n : ℕ) (element store : List ℕ) : Type 0 where
+  pub e-high : cfg .e ≤ 64
+  pub sized : length element ≡ cfg .e
+  pub n-high : n ≤ 8
+  pub fits : n * cfg .e ≤ length store

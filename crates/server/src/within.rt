@@ -1,0 +1,296 @@
+// Question 6 of a server.
+use crate::Floor;
+use crate::State;
+use crate::places;
+use config::Config;
+use config::Server;
+use tag::Tag;
+ghost use mathlib.Core.Bool.{true};
+ghost use mathlib.Core.Option.{none, some};
+ghost use mathlib.Core.Path.{_≡_};
+ghost use Prim.Native.Nat.{_+_, _*_, _%_, _^_, _≤_};
+ghost use Rattle.config.specs.Config.{Valid, storeLength};
+ghost use Rattle.config.specs.Number.{serverNumber};
+ghost use Rattle.config.specs.Questions.{within};
+ghost use Rattle.tag.specs.Tag.{above, allowed};
+ghost use Rattle.server.specs.inner.Spread.{RisenPost, SpreadPost, floorFull, spotOf};
+ghost use Rattle.server.specs.Within.{every, floorWithin, once as onceIn, stateWithin};
+ghost use Rattle.server.specs.View.{each, floorOf, tagAt};
+
+// (D + 1) × E
+pub(crate) fn store_length(cfg: Config) -> usize
+    requires { ⌜ Valid cfg ⌝ }
+    ensures { λ r. ⌜ r ≡ storeLength cfg ⌝ }
+{
+    (cfg.d + 1) * cfg.e
+}
+
+// The server's number is 1 to N.
+pub(crate) fn server_within(cfg: Config, me: Server) -> bool
+    ensures { λ r. ⌜ r ≡ within 1 (cfg .n) (serverNumber me) ⌝ }
+{
+    let s = me.number();
+    if s == 0 {
+        return false;
+    }
+    s as usize <= cfg.n
+}
+
+// Each of the first `count` tags is within its limit.
+fn each_allowed(clients: usize, count: usize, tags: [Tag; 8]) -> bool
+    requires { ⌜ count ≤ 8 ⌝ }
+    ensures { λ r. ⌜ r ≡ every (allowed clients) (each (tagAt tags) 0 count) ⌝ }
+{
+    let mut i = 0;
+    while i < count {
+        let t = tags[i];
+        if !t.allowed(clients) {
+            return false;
+        }
+        i += 1;
+    }
+    true
+}
+
+// Each of the first `count` tags is there once.
+fn once(count: usize, tags: [Tag; 8]) -> bool
+    requires { ⌜ count ≤ 8 ⌝ }
+    ensures { λ r. ⌜ r ≡ onceIn (each (tagAt tags) 0 count) ⌝ }
+{
+    let mut i = 0;
+    while i < count {
+        let t = tags[i];
+        if places::place_of(t, i + 1, count, tags) < count {
+            return false;
+        }
+        i += 1;
+    }
+    true
+}
+
+// Each of the first `count` tags is above the floor.
+fn each_above(floor: Tag, count: usize, tags: [Tag; 8]) -> bool
+    requires { ⌜ count ≤ 8 ⌝ }
+    ensures { λ r. ⌜ r ≡ every (λ t. above t floor) (each (tagAt tags) 0 count) ⌝ }
+{
+    let mut i = 0;
+    while i < count {
+        let t = tags[i];
+        if !t.above(floor) {
+            return false;
+        }
+        i += 1;
+    }
+    true
+}
+
+// Where there is a floor, it is within its limit, D + 1 tags are stored, and each is above it.
+fn floor_within(cfg: Config, floor: Floor, count: usize, tags: [Tag; 8]) -> bool
+    requires { ⌜ (Valid cfg) × (count ≤ 8) ⌝ }
+    ensures { λ r. ⌜ r ≡ floorWithin cfg (floorOf floor) (each (tagAt tags) 0 count) ⌝ }
+{
+    let Floor::At(f) = floor else {
+        return true;
+    };
+    if !f.allowed(cfg.c) {
+        return false;
+    }
+    if count != cfg.d + 1 {
+        return false;
+    }
+    each_above(f, count, tags)
+}
+
+// Where there is a floor, it is within its limit, and D + 1 tags are stored.
+fn floor_full(cfg: Config, floor: Floor, count: usize) -> bool
+    requires { ⌜ Valid cfg ⌝ }
+    ensures { λ r. ⌜ r ≡ floorFull cfg (floorOf floor) count ⌝ }
+{
+    let Floor::At(f) = floor else {
+        return true;
+    };
+    if !f.allowed(cfg.c) {
+        return false;
+    }
+    count == cfg.d + 1
+}
+
+// A number below 64; tags that are near each other have different ones.
+fn spot(t: Tag) -> u64
+    ensures { λ r. ⌜ r ≡ spotOf t ⌝ }
+{
+    (t.number as u64 * 16 + t.client as u64) % 64
+}
+
+// Each of the first `count` tags is within its limit, and they have different spots, so each is there once. A no shows nothing.
+fn spread(clients: usize, count: usize, tags: [Tag; 8]) -> bool
+    requires { ⌜ count ≤ 8 ⌝ }
+    ensures { λ r. ⌜ SpreadPost clients none (each (tagAt tags) 0 count) r ⌝ }
+{
+    let mut seen = 0u64;
+    let mut i = count;
+    while 0 < i {
+        i -= 1;
+        let number = tags[i].number;
+        let client = tags[i].client;
+        let t = Tag { number, client };
+        if !t.allowed(clients) {
+            return false;
+        }
+        let next = seen | 1 << spot(t);
+        if next == seen {
+            return false;
+        }
+        seen = next;
+    }
+    true
+}
+
+// Where its client is 1 to 16, a tag's place in the order of tags.
+fn rank(number: u32, client: u8) -> u64
+    ensures { λ r. ⌜ r ≡ number * 16 + client ⌝ }
+{
+    number as u64 * 16 + client as u64
+}
+
+// The floor's rank, and at least 16: a tag of a higher rank has a number, and is above the floor.
+fn base(number: u32, client: u8) -> u64
+    ensures { λ r. ⌜ (16 ≤ r) × (number * 16 + client ≤ r) ⌝ }
+{
+    let r = rank(number, client);
+    if r < 16 {
+        return 16;
+    }
+    r
+}
+
+// A client's number less 1; 0 gives the highest number.
+fn less(client: u8) -> usize
+    ensures { λ r. ⌜ (r + 1) % 2 ^ 64 ≡ client ⌝ }
+{
+    std::num::wrapping_sub_usize(client as usize, 1)
+}
+
+// Each of the first `count` tags is within its limit and of a higher rank than `low`, and they have different spots. A no shows nothing.
+fn risen(clients: usize, low: u64, count: usize, tags: [Tag; 8]) -> bool
+    requires { ⌜ (clients ≤ 16) × (16 ≤ low) × (count ≤ 8) ⌝ }
+    ensures { λ r. ⌜ RisenPost clients low (each (tagAt tags) 0 count) r ⌝ }
+{
+    let mut seen = 0u64;
+    let mut i = count;
+    while 0 < i {
+        i -= 1;
+        let c = tags[i].client;
+        let n = tags[i].number;
+        if clients <= less(c) {
+            return false;
+        }
+        let r = rank(n, c);
+        if r <= low {
+            return false;
+        }
+        let next = seen | 1 << r % 64;
+        if seen == next {
+            return false;
+        }
+        seen = next;
+    }
+    true
+}
+
+// The same of eight tags. The loop has a constant length, so that the compiler unrolls it.
+fn eight(clients: usize, low: u64, tags: [Tag; 8]) -> bool
+    requires { ⌜ (clients ≤ 16) × (16 ≤ low) ⌝ }
+    ensures { λ r. ⌜ RisenPost clients low (each (tagAt tags) 0 8) r ⌝ }
+{
+    let mut seen = 0u64;
+    let mut i = 8usize;
+    while 0 < i {
+        i -= 1;
+        let c = tags[i].client;
+        let n = tags[i].number;
+        if clients <= less(c) {
+            return false;
+        }
+        let r = rank(n, c);
+        if r <= low {
+            return false;
+        }
+        let next = seen | 1 << r % 64;
+        if seen == next {
+            return false;
+        }
+        seen = next;
+    }
+    true
+}
+
+// The same of eight tags and a floor.
+fn full(clients: usize, f: Tag, tags: [Tag; 8]) -> bool
+    requires { ⌜ clients ≤ 16 ⌝ }
+    ensures { λ r. ⌜ SpreadPost clients (some f) (each (tagAt tags) 0 8) r ⌝ }
+{
+    if f.number == 0 {
+        return eight(clients, 16 + f.client as u64, tags);
+    }
+    eight(clients, rank(f.number, f.client), tags)
+}
+
+// A yes shows that the state's part of question 6 is answered yes. A no shows nothing.
+pub(crate) fn quick(cfg: Config, s: State) -> bool
+    requires { ⌜ Valid cfg ⌝ }
+    ensures { λ r. ⌜ (r ≡ true → stateWithin cfg s ≡ true) ⌝ }
+{
+    let me = s.me;
+    if !server_within(cfg, me) {
+        return false;
+    }
+    let highest = s.highest;
+    if !highest.allowed(cfg.c) {
+        return false;
+    }
+    let count = s.count;
+    if cfg.d + 1 < count {
+        return false;
+    }
+    let floor = s.floor;
+    let tags = s.tags;
+    if !floor_full(cfg, floor, count) {
+        return false;
+    }
+    let Floor::At(f) = floor else {
+        return spread(cfg.c, count, tags);
+    };
+    if count == 8 {
+        return full(cfg.c, f, tags);
+    }
+    risen(cfg.c, base(f.number, f.client), count, tags)
+}
+
+// The state's part of question 6.
+pub(crate) fn state_within(cfg: Config, s: State) -> bool
+    requires { ⌜ Valid cfg ⌝ }
+    ensures { λ r. ⌜ r ≡ stateWithin cfg s ⌝ }
+{
+    let me = s.me;
+    if !server_within(cfg, me) {
+        return false;
+    }
+    let highest = s.highest;
+    if !highest.allowed(cfg.c) {
+        return false;
+    }
+    let count = s.count;
+    if cfg.d + 1 < count {
+        return false;
+    }
+    let tags = s.tags;
+    if !each_allowed(cfg.c, count, tags) {
+        return false;
+    }
+    if !once(count, tags) {
+        return false;
+    }
+    let floor = s.floor;
+    floor_within(cfg, floor, count, tags)
+}

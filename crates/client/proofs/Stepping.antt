@@ -59,6 +59,7 @@ step-refused cfg x message l {n} {r} e stop h =
           (ap (λ (y : State). seen cfg y l) (h .state));
       ended = ap (λ (w : Ended). endedOf w (l .board)) (h .ended) ∙ rw out;
       lent = rw out;
+      kept = refl;
       elements = rw out;
     }
 
@@ -182,5 +183,6 @@ module _ (cfg : Config) (x : State) (message : List ℕ) (l : Lent) (k : Receive
           answered = moved cfg x (seen cfg x l) _ (clientStep cfg x message l) (l .sends) (stepQuestions cfg x message l) none (l .kept) es′ s′ refl;
           ended = s′ .ended ∙ rw is;
           lent = s′ .lent ∙ rw is;
+          kept = refl;
           elements = taken ∙ rw (is, says);
         }

@@ -106,6 +106,7 @@ pub record StepPost (cfg : Config) (x : State) (message : List ℕ) (l l′ : Le
       (l′ .sends) r
   pub ended : endedOf (r .ended) (l′ .board) ≡ stepOf cfg x message l .ended
   pub lent : l′ .board ≡ shown (stepOf cfg x message l .ended) (l .board)
+  pub kept : l′ .kept ≡ l .kept
   pub elements :
       l′ .elements
       ≡ cond (eqb (firstNo (stepQuestions cfg x message l)) 0) (placed cfg (messageOf cfg message) (l .elements)) (l .elements)

@@ -17,7 +17,7 @@ firstNo (ask number holds ∷ rest) = cond holds (firstNo rest) number
 abbrev pub within : ℕ → ℕ → ℕ → Bool
 within low high x = leb low x && leb x high
 
--- questions are numbered from 1 to this
+-- questions are numbered from 1 to this: to 18 by document 01, to 28 by document 02
 abbrev pub lastQuestion : ℕ
 lastQuestion = 28
 

@@ -214,7 +214,7 @@ impl Client {
 }
 
 // What the questions are about: a refusal names the first that was answered no. 1 to 18 are document 01's; 19 to 28 are document
-// 02's, and no call gives them yet.
+// 02's.
 pub enum Refusal {
     // 1: N is out of range.
     Servers,

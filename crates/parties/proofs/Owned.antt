@@ -78,7 +78,7 @@ phase-numbered Down vs g = tt
 pub server-numbered : (p : Pair) (vs : List Val) → Is pair.the-row p vs → NumberedServer (p .node .state)
 server-numbered p vs is =
     let q = is .1 .1 .0 .1 .1 .0 in
-    record { highest = tag-number (p .node .state .highest) _ (q .1 .1 .1 .0); tags = tags-numbers 8 (p .node .state .tags) _ (q .1 .1 .1 .1 .1 .1 .0) }
+    record { highest = tag-number (p .node .state .highest) _ (q .1 .1 .1 .1 .0); tags = tags-numbers 8 (p .node .state .tags) _ (q .1 .1 .1 .1 .1 .1 .0) }
 
 pub client-numbered : (p : Pair) (vs : List Val) → Is pair.the-row p vs → NumberedPhase (p .client .phase)
 client-numbered p vs is = phase-numbered (p .client .phase) _ (is .1 .1 .1 .0 .1 .1 .1 .1 .0)

@@ -34,7 +34,7 @@ use Rattle.server.specs.declared.Stepped.{Stepped}
 use Rattle.server.specs.Calls.{StepPost, answerBytes, answers, forServer, outcome, stateQuestions, stepQuestions}
 use Rattle.server.specs.Within.{ValidState, stateWithin as serverStateWithin}
 use Rattle.server.specs.View as serverView
-use Rattle.server.proofs.Asked.{state-valid}
+use Rattle.server.proofs.Asked.{both-no, not-six, state-valid}
 use Rattle.server.proofs.Laws as serverLaws
 use Rattle.server.proofs.Laws.{OnMessage, on-message}
 use Rattle.client.specs.Send.{front, recordsOf}
@@ -55,17 +55,6 @@ use Rattle.parties.proofs.Formed.{NumberedServer, answer-sound, server-
 use Rattle.parties.proofs.Sound.{sound-first, sound-none}
 
 -- ---- the questions
-
-both-no : (a b c d : Bool) → b && d ≡ false → a && b && c && d ≡ false
-both-no true true true true h = h
-both-no true true true false h = refl
-both-no true true false d h = refl
-both-no true false c d h = refl
-both-no false b c d h = refl
-
-not-six : (b : Bool) → (cond {A = ℕ} b 0 6 ≡ 0 → ⊥) → b ≡ false
-not-six true h = absurd (h refl)
-not-six false h = refl
 
 refused-by : (b : Bool) (n : ℕ) → 1 ≤ n → n ≡ cond b 0 12 → b ≡ false
 refused-by true n low e = absurd (omega arith)

@@ -7,7 +7,7 @@ use mathlib.Core.List.{List, [], _∷_, _++_}
 use lib.Dec.{eqb}
 use lib.ListN.{length}
 use Rattle.config.specs.declared.Config.{Config}
-use Rattle.config.specs.Config.{questions, storeLength}
+use Rattle.config.specs.Config.{questions, recordLength, storeLength}
 use Rattle.config.specs.Number.{clientNumber, serverNumber}
 use Rattle.config.specs.Questions.{Question, ask}
 use Rattle.config.specs.Refusal.{refusalNumber}
@@ -119,7 +119,7 @@ crashesClient x p = protocol.crashClient p (clientNumber (x .client .me))
 unfoldable pub toServerQuestions : Config → serverState.State → List ℕ → ℕ → ℕ → List Question
 toServerQuestions cfg s handed store answer =
     questions cfg
-    ++ ask 6 (eqb (length handed) 80 && eqb store (storeLength cfg) && eqb answer 80 && serverStateWithin cfg s)
+    ++ ask 6 (eqb (length handed) recordLength && eqb store (storeLength cfg) && eqb answer recordLength && serverStateWithin cfg s)
     ∷ ask 12 (wellFormed cfg handed)
     ∷ ask 16 (forServer (serverNumber (s .me)) (messageOf cfg handed))
     ∷ []

@@ -3,6 +3,7 @@ use crate::Acted;
 use crate::Pair;
 use crate::outcome;
 use config::Config;
+use config::RECORD;
 use config::Refusal;
 use config::Verdict;
 use record::Reading;
@@ -41,10 +42,10 @@ fn asked(cfg: Config, state: server::State, handed: &[u8], store: usize, answer:
     if no != 0 {
         return no;
     }
-    if handed.len() != 80 {
+    if handed.len() != RECORD {
         return 6;
     }
-    if answer != 80 {
+    if answer != RECORD {
         return 6;
     }
     let Reading::Message(h) = record::read(cfg, handed) else {

@@ -54,14 +54,15 @@ state-valid cfg s store h =
     }
 
 -- A step asks that, and the lengths of record and answer, before the rest.
-both-no : (a b c d : Bool) → b && d ≡ false → a && b && c && d ≡ false
+-- of four, where the second or the last fails all do
+pub both-no : (a b c d : Bool) → b && d ≡ false → a && b && c && d ≡ false
 both-no true true true true h = h
 both-no true true true false h = refl
 both-no true true false d h = refl
 both-no true false c d h = refl
 both-no false b c d h = refl
 
-not-six : (b : Bool) → (cond {A = ℕ} b 0 6 ≡ 0 → ⊥) → b ≡ false
+pub not-six : (b : Bool) → (cond {A = ℕ} b 0 6 ≡ 0 → ⊥) → b ≡ false
 not-six true h = absurd (h refl)
 not-six false h = refl
 

@@ -21,7 +21,7 @@ use Rattle.record.specs.Message.{Message}
 use Rattle.protocol.specs.Server.{Server, Stored, addLast, atOrBelowFloor, finalised, freshServer, inPlaceOf, preWrite, query, readFinalise, serverStep, serverStepOf, store, storeElement, writeFinalise}
 use Rattle.server.specs.Within.{among, every, floorWithin, tagsWithin, serverWithin, tagsOf}
 use Rattle.server.specs.Received.{Highest, eachAllowed, holds, receive, receivedAfter, serverAfter, withTag}
-use Rattle.server.proofs.Limits.{within-allowed, within-floor}
+use Rattle.server.proofs.Limits.{within-allowed, within-count, within-floor, within-once}
 use Rattle.server.proofs.Invariant.{finalised-within, floored, fresh-within, store-cases, store-within, tags-last, tags-long, tags-replaced}
 use Rattle.server.proofs.Keys.{small}
 use Rattle.server.proofs.Tags.{among-last, both, every-in, lowest-in, lowestOf, not-in, or-first, or-second, or-true, replaced, replaced-in, replaced-keeps, replaced-new}
@@ -314,6 +314,8 @@ module _ {Element : Type 0} (cfg : Config) (high : cfg .c ≤ 16) (received : Li
   pub highest-of : Highest (cfg .d) received v
   highest-of =
       record {
+        few = omega (arith, tags-long (v .stored), within-count cfg (v .highest) (v .floor) held within-of);
+        once = within-once cfg (v .highest) (v .floor) held within-of;
         stored = k .stored;
         above = above-by (v .floor) refl;
         all = all-by;

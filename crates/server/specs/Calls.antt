@@ -8,7 +8,7 @@ use lib.Dec.{eqb}
 use lib.ListN.{length, drop, replicate}
 use Rattle.config.specs.declared.Config.{Config}
 use Rattle.config.specs.declared.Server.{Server as ServerNumber}
-use Rattle.config.specs.Config.{questions, storeLength}
+use Rattle.config.specs.Config.{questions, recordLength, storeLength}
 use Rattle.config.specs.Number.{serverNumber}
 use Rattle.config.specs.Questions.{Question, ask, firstNo, within}
 use Rattle.config.specs.Refusal.{verdictNumber}
@@ -63,7 +63,7 @@ answers (some m) = true
 unfoldable pub stepQuestions : Config → State → List ℕ → List ℕ → List ℕ → List Question
 stepQuestions cfg s handed store answer =
     questions cfg
-    ++ ask 6 (eqb (length handed) 80 && eqb (length store) (storeLength cfg) && eqb (length answer) 80 && stateWithin cfg s)
+    ++ ask 6 (eqb (length handed) recordLength && eqb (length store) (storeLength cfg) && eqb (length answer) recordLength && stateWithin cfg s)
     ∷ ask 12 (wellFormed cfg handed)
     ∷ ask 16 (forServer (serverNumber (s .me)) (messageOf cfg handed))
     ∷ ask 15 (answers (outcome cfg s store (messageOf cfg handed) .answer))

@@ -1,5 +1,5 @@
 -- What a server has received, over a run of messages: the stored tags are the highest of it.
-use Prim.Native.Nat.{ℕ, _+_}
+use Prim.Native.Nat.{ℕ, _+_, _≤_}
 use mathlib.Core.Bool.{Bool, true, false, _&&_}
 use mathlib.Core.Path.{_≡_}
 use mathlib.Core.List.{List, [], _∷_}
@@ -11,7 +11,7 @@ use Rattle.record.specs.declared.Kind.{Kind}
 use Rattle.record.specs.declared.Kind.the-variants.{Query, QueryAnswer, PreWrite, PreWriteAnswer, WriteFinalise, WriteFinaliseAnswer, ReadFinalise, ReadFinaliseAnswer}
 use Rattle.record.specs.Message.{Message}
 use Rattle.protocol.specs.Server.{Server, serverStep}
-use Rattle.server.specs.Within.{among, tagsOf}
+use Rattle.server.specs.Within.{among, once as onceIn, tagsOf}
 
 module _ {Element : Type 0} where
   -- a pre-write with an element adds its tag
@@ -49,6 +49,9 @@ module _ {Element : Type 0} where
 
   -- Of the tags received the D + 1 highest are stored, and the floor, if any, is the highest dropped.
   pub record Highest (d : ℕ) (received : List Tag) (v : Server Element) : Type 0 where
+    -- at most D + 1 are stored, each once
+    pub few : length (v .stored) ≤ d + 1
+    pub once : onceIn (tagsOf (v .stored)) ≡ true
     -- what is stored was received
     pub stored : (t : Tag) → holds v t ≡ true → among t received ≡ true
     -- it is above all that was received and is not stored

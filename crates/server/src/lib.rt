@@ -5,6 +5,7 @@ mod serve;
 mod within;
 
 use config::Config;
+use config::RECORD;
 use config::Refusal;
 use config::Server;
 use config::Verdict;
@@ -25,9 +26,9 @@ pub enum Floor {
 // The element of tag i stands in the store at i × E.
 pub struct State {
     pub me: Server,
+    pub count: u8,
     pub highest: Tag,
     pub floor: Floor,
-    pub count: usize,
     pub tags: [Tag; 8],
 }
 
@@ -116,10 +117,10 @@ pub fn step(
     if no != 0 {
         return refused(state, Refusal::of(no));
     }
-    if handed.len() != 80 {
+    if handed.len() != RECORD {
         return refused(state, Refusal::Shape);
     }
-    if answer.len() != 80 {
+    if answer.len() != RECORD {
         return refused(state, Refusal::Shape);
     }
     let Reading::Message(h) = record::read(cfg, handed) else {
@@ -143,7 +144,7 @@ pub fn lend<'a>(cfg: Config, state: State, tag: Tag, store: &'a [u8], no: &mut u
     if asked != 0 {
         return &store[0..0];
     }
-    let count = state.count;
+    let count = state.count as usize;
     let tags = state.tags;
     let place = places::place_of(tag, 0, count, tags);
     if count <= place {

@@ -96,7 +96,7 @@ fn append(cfg: Config, s: State, t: Tag, element: &[u8], store: &mut [u8]) -> St
     let me = s.me;
     let highest = s.highest;
     let floor = s.floor;
-    let count = s.count;
+    let count = s.count as usize;
     let mut tags = s.tags;
     places::put(cfg, count, element, store);
     tags[count] = t;
@@ -104,7 +104,7 @@ fn append(cfg: Config, s: State, t: Tag, element: &[u8], store: &mut [u8]) -> St
         me,
         highest,
         floor,
-        count: count + 1,
+        count: s.count + 1,
         tags,
     }
 }
@@ -116,7 +116,7 @@ fn drop_smallest(cfg: Config, s: State, t: Tag, element: &[u8], store: &mut [u8]
 {
     let me = s.me;
     let highest = s.highest;
-    let count = s.count;
+    let count = s.count as usize;
     let mut tags = s.tags;
     let low = places::lowest(t, count, tags);
     let smallest = low.tag;
@@ -127,7 +127,7 @@ fn drop_smallest(cfg: Config, s: State, t: Tag, element: &[u8], store: &mut [u8]
             me,
             highest,
             floor,
-            count,
+            count: s.count,
             tags,
         };
     }
@@ -137,7 +137,7 @@ fn drop_smallest(cfg: Config, s: State, t: Tag, element: &[u8], store: &mut [u8]
         me,
         highest,
         floor,
-        count,
+        count: s.count,
         tags,
     }
 }
@@ -147,7 +147,7 @@ fn keep(cfg: Config, s: State, t: Tag, element: &[u8], store: &mut [u8]) -> Stat
     requires { ⌜ KeepPre cfg s t (now element) (now store) ⌝ }
     ensures { λ r. ⌜ KeepPost cfg s t (now (element .entry)) (now (store .entry)) (now (store .exit)) r ⌝ }
 {
-    let count = s.count;
+    let count = s.count as usize;
     let tags = s.tags;
     if places::place_of(t, 0, count, tags) < count {
         return s;
@@ -169,7 +169,7 @@ fn read_finalise(cfg: Config, s: State, h: Header, store: &[u8], answer: &mut [u
 {
     let t = h.tag;
     let floor = s.floor;
-    let count = s.count;
+    let count = s.count as usize;
     let tags = s.tags;
     let after = raise(s, t);
     let place = places::place_of(t, 0, count, tags);

@@ -249,7 +249,7 @@ pub(crate) fn quick(cfg: Config, s: State) -> bool
     if !highest.allowed(cfg.c) {
         return false;
     }
-    let count = s.count;
+    let count = s.count as usize;
     if cfg.d + 1 < count {
         return false;
     }
@@ -280,7 +280,7 @@ pub(crate) fn state_within(cfg: Config, s: State) -> bool
     if !highest.allowed(cfg.c) {
         return false;
     }
-    let count = s.count;
+    let count = s.count as usize;
     if cfg.d + 1 < count {
         return false;
     }

@@ -10,7 +10,7 @@ use Rattle.config.specs.declared.Config.{Config}
 use Rattle.config.specs.declared.Refusal.{Refusal}
 use Rattle.config.specs.declared.Server.{Server as ServerNumber}
 use Rattle.config.specs.declared.Verdict.{Verdict}
-use Rattle.config.specs.Config.{Valid}
+use Rattle.config.specs.Config.{Valid, recordLength}
 use Rattle.config.specs.Number.{clientNumber, serverNumber}
 use Rattle.config.specs.Questions.{within}
 use Rattle.config.specs.Refusal.{verdictNumber}
@@ -51,7 +51,7 @@ present cfg there bs = cond there (some (elementIn cfg bs)) none
 
 pub record RespondPre (cfg : Config) (m : Message (List ℕ)) (answer : List ℕ) : Type 0 where
   pub valid : Valid cfg
-  pub eighty : length answer ≡ 80
+  pub eighty : length answer ≡ recordLength
   pub ofConfig : ofConfig cfg m ≡ true
 
 pub record RespondPost (cfg : Config) (s : State) (m : Message (List ℕ)) (after : List ℕ) (r : Stepped) : Type 0 where
@@ -62,7 +62,7 @@ pub record RespondPost (cfg : Config) (s : State) (m : Message (List ℕ)) (afte
 -- a read finalise of a client
 pub record ReadFinalisePre (cfg : Config) (s : State) (h : Header) (store answer : List ℕ) : Type 0 where
   pub held : ValidState cfg s store
-  pub eighty : length answer ≡ 80
+  pub eighty : length answer ≡ recordLength
   pub operation : within 1 highestNumber (h .operation) ≡ true
   pub client : within 1 (cfg .c) (clientNumber (h .client)) ≡ true
   pub number : leb (h .tag .number) highestNumber ≡ true
@@ -82,8 +82,8 @@ pub record ReadFinalisePost (cfg : Config) (s : State) (h : Header) (store befor
 -- a request, with all that questions 1 to 6 and 12 show of it
 pub record RequestPre (cfg : Config) (s : State) (h : Header) (handed store answer : List ℕ) : Type 0 where
   pub held : ValidState cfg s store
-  pub eighty : length handed ≡ 80
-  pub answer-eighty : length answer ≡ 80
+  pub eighty : length handed ≡ recordLength
+  pub answer-eighty : length answer ≡ recordLength
   pub ofConfig : ofConfig cfg (withElement cfg h handed) ≡ true
 
 -- questions 16, as to the kind, and 15

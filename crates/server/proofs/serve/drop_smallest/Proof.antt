@@ -40,17 +40,20 @@ module _ (cfg : Config) (s : State) (t : Tag) (element before after : List ℕ) 
         eight = eight;
       }
 
+cast-count : tie.Need-cast-count
+cast-count c = search needs
+
 lowest-requires : tie.Need-lowest-requires
 lowest-requires c κs = search needs
 
 returns : tie.Need-returns
 returns c =
-    let a = c .before .before .before .before .before .before .before .before .args in
-    itself (a .cfg) (a .s) (a .t) _ _ _ _ (c .before .before .lowest .ensures) (sym (length-map (a .s .tags) _) ∙ c .before .before .before .before .before .before .before .before .good .1 .0 .1 .1 .1 .1 .1 .1 .0 .1 .0 .1) (c .if1 .taken) refl
+    let a = c .before .before .before .before .before .before .before .before .before .args in
+    itself (a .cfg) (a .s) (a .t) _ _ _ _ (c .before .before .lowest .ensures) (sym (length-map (a .s .tags) _) ∙ c .before .before .before .before .before .before .before .before .before .good .1 .0 .1 .1 .1 .1 .1 .1 .0 .1 .0 .1) (c .if1 .taken) refl
 
 put-requires : tie.Need-put-requires
 put-requires c κs =
-    let s = c .before .before .before .before .before .before .before .before .before in
+    let s = c .before .before .before .before .before .before .before .before .before .before in
     let p = c .before .before .before .lowest .result .place in
     let m : (p + 1) * s .args .cfg .e ≤ s .args .s .count * s .args .cfg .e = mul-le-mul-right (s .args .cfg .e) (omega (arith, c .before .if1 .left)) in
     record {
@@ -71,17 +74,8 @@ same-length c = search needs
 
 returns-2 : tie.Need-returns-2
 returns-2 c =
-    let a = c .before .before .before .before .before .before .before .before .before .before .before .before .args in
-    another (a .cfg) (a .s) (a .t) _ _ _ _ (c .before .before .before .before .before .before .lowest .ensures) (sym (length-map (a .s .tags) _) ∙ c .before .before .before .before .before .before .before .before .before .before .before .before .good .1 .0 .1 .1 .1 .1 .1 .1 .0 .1 .0 .1) (c .before .before .before .before .if1 .left) (c .before .before .put .ensures)
+    let a = c .before .before .before .before .before .before .before .before .before .before .before .before .before .args in
+    another (a .cfg) (a .s) (a .t) _ _ _ _ (c .before .before .before .before .before .before .lowest .ensures) (sym (length-map (a .s .tags) _) ∙ c .before .before .before .before .before .before .before .before .before .before .before .before .before .good .1 .0 .1 .1 .1 .1 .1 .1 .0 .1 .0 .1) (c .before .before .before .before .if1 .left) (c .before .before .put .ensures)
 
 pub drop-smallest-spec : {M : Type 1} → statement M
-drop-smallest-spec =
-    tie.close
-    (tie.spec
-    lowest-requires
-    returns
-    put-requires
-    mul-tags
-    array-set-from-tags
-    same-length
-    returns-2)
+drop-smallest-spec = tie.close (tie.spec cast-count lowest-requires returns put-requires mul-tags array-set-from-tags same-length returns-2)

@@ -22,19 +22,22 @@ me-same : (s : State) (t : Tag) {r : State} → r ≡ raised s t → r .me ≡ s
 unfolding raised
 me-same s t e = ap (λ (x : State). x .me) e
 
+cast-count : tie.Need-cast-count
+cast-count c = search needs
+
 raise-requires : tie.Need-raise-requires
 raise-requires c κs = search needs
 
 place-of-requires : tie.Need-place-of-requires
 place-of-requires c κs =
-    let s = c .before .before .before .before .before in
+    let s = c .before .before .before .before .before .before in
     (search needs, state-eight (s .args .cfg) (s .args .s) (s .pre .held .within) (s .pre .held .valid))
 
 mul-from : tie.Need-mul-from
-mul-from c = omega (arith, part-low (c .before .before .before .before .before .before .before .before .args .cfg) (c .before .before .before .before .before .before .before .before .args .s) (c .before .before .before .before .before .before .before .before .args .h .tag) (c .before .before .before .before .before .before .before .before .args .store .now) (c .before .before .before .before .before .before .before .before .pre .held) _ (c .before .if1 .taken))
+mul-from c = omega (arith, part-low (c .before .before .before .before .before .before .before .before .before .args .cfg) (c .before .before .before .before .before .before .before .before .before .args .s) (c .before .before .before .before .before .before .before .before .before .args .h .tag) (c .before .before .before .before .before .before .before .before .before .args .store .now) (c .before .before .before .before .before .before .before .before .before .pre .held) _ (c .before .if1 .taken))
 
 add-end : tie.Need-add-end
-add-end c = omega (arith, part-low (c .before .before .before .before .before .before .before .before .before .args .cfg) (c .before .before .before .before .before .before .before .before .before .args .s) (c .before .before .before .before .before .before .before .before .before .args .h .tag) (c .before .before .before .before .before .before .before .before .before .args .store .now) (c .before .before .before .before .before .before .before .before .before .pre .held) _ (c .before .before .if1 .taken))
+add-end c = omega (arith, part-low (c .before .before .before .before .before .before .before .before .before .before .args .cfg) (c .before .before .before .before .before .before .before .before .before .before .args .s) (c .before .before .before .before .before .before .before .before .before .before .args .h .tag) (c .before .before .before .before .before .before .before .before .before .before .args .store .now) (c .before .before .before .before .before .before .before .before .before .before .pre .held) _ (c .before .before .if1 .taken))
 
 sub-copy : tie.Need-sub-copy
 sub-copy c = search needs
@@ -43,7 +46,7 @@ part-copy-start : tie.Need-part-copy-start
 part-copy-start c = search needs
 
 part-copy-end : tie.Need-part-copy-end
-part-copy-end c = part-fits (c .before .before .before .before .before .before .before .before .before .args .cfg) (c .before .before .before .before .before .before .before .before .before .args .s) (c .before .before .before .before .before .before .before .before .before .args .h .tag) (c .before .before .before .before .before .before .before .before .before .args .store .now) (c .before .before .before .before .before .before .before .before .before .pre .held) _ (c .before .before .if1 .taken)
+part-copy-end c = part-fits (c .before .before .before .before .before .before .before .before .before .before .args .cfg) (c .before .before .before .before .before .before .before .before .before .before .args .s) (c .before .before .before .before .before .before .before .before .before .before .args .h .tag) (c .before .before .before .before .before .before .before .before .before .before .args .store .now) (c .before .before .before .before .before .before .before .before .before .before .pre .held) _ (c .before .before .if1 .taken)
 
 sub-copy-2 : tie.Need-sub-copy-2
 sub-copy-2 c = search needs
@@ -59,10 +62,10 @@ copy-requires c κs = search needs
 
 respond-requires : tie.Need-respond-requires
 respond-requires c κs =
-    let s = c .before .before .before .before .before .before .before .before .before .before .before .before .before .before .before in
+    let s = c .before .before .before .before .before .before .before .before .before .before .before .before .before .before .before .before in
     let p = c .before .before .before .before .before .before .before .before .before .place-of .result in
     let src = take ((p * s .args .cfg .e + s .args .cfg .e) - p * s .args .cfg .e) (drop (p * s .args .cfg .e) (s .args .store .now)) in
-    let sized-src = ap length (part-is (c .before .before .before .before .before .before .before .before .before .before .before .before .before .before .before .args .cfg) (c .before .before .before .before .before .before .before .before .before .before .before .before .before .before .before .args .s) (c .before .before .before .before .before .before .before .before .before .before .before .before .before .before .before .args .h .tag) (c .before .before .before .before .before .before .before .before .before .before .before .before .before .before .before .args .store .now) (c .before .before .before .before .before .before .before .before .before .before .before .before .before .before .before .pre .held) p) ∙ part-long (c .before .before .before .before .before .before .before .before .before .before .before .before .before .before .before .args .cfg) (c .before .before .before .before .before .before .before .before .before .before .before .before .before .before .before .args .s) (c .before .before .before .before .before .before .before .before .before .before .before .before .before .before .before .args .h .tag) (c .before .before .before .before .before .before .before .before .before .before .before .before .before .before .before .args .store .now) (c .before .before .before .before .before .before .before .before .before .before .before .before .before .before .before .pre .held) p (c .before .before .before .before .before .before .before .before .if1 .taken) in
+    let sized-src = ap length (part-is (c .before .before .before .before .before .before .before .before .before .before .before .before .before .before .before .before .args .cfg) (c .before .before .before .before .before .before .before .before .before .before .before .before .before .before .before .before .args .s) (c .before .before .before .before .before .before .before .before .before .before .before .before .before .before .before .before .args .h .tag) (c .before .before .before .before .before .before .before .before .before .before .before .before .before .before .before .before .args .store .now) (c .before .before .before .before .before .before .before .before .before .before .before .before .before .before .before .before .pre .held) p) ∙ part-long (c .before .before .before .before .before .before .before .before .before .before .before .before .before .before .before .before .args .cfg) (c .before .before .before .before .before .before .before .before .before .before .before .before .before .before .before .before .args .s) (c .before .before .before .before .before .before .before .before .before .before .before .before .before .before .before .before .args .h .tag) (c .before .before .before .before .before .before .before .before .before .before .before .before .before .before .before .before .args .store .now) (c .before .before .before .before .before .before .before .before .before .before .before .before .before .before .before .before .pre .held) p (c .before .before .before .before .before .before .before .before .if1 .taken) in
     let long = copied-long (s .args .cfg .e) (s .pre .held .valid .e-high) (s .args .answer .now) src _ (s .pre .eighty) sized-src (c .before .before .before .copy .ensures .1) in
     let is = copied-element (s .args .cfg .e) (s .pre .held .valid .e-high) (s .args .answer .now) src _ (s .pre .eighty) sized-src (c .before .before .before .copy .ensures .1) in
     record {
@@ -78,14 +81,14 @@ same-length c = search needs
 
 returns : tie.Need-returns
 returns c =
-    let s = c .before .before .before .before .before .before .before .before .before .before .before .before .before .before .before .before .before .before in
+    let s = c .before .before .before .before .before .before .before .before .before .before .before .before .before .before .before .before .before .before .before in
     let p = c .before .before .before .before .before .before .before .before .before .before .before .before .place-of .result in
     let src = take ((p * s .args .cfg .e + s .args .cfg .e) - p * s .args .cfg .e) (drop (p * s .args .cfg .e) (s .args .store .now)) in
-    let sized-src = ap length (part-is (c .before .before .before .before .before .before .before .before .before .before .before .before .before .before .before .before .before .before .args .cfg) (c .before .before .before .before .before .before .before .before .before .before .before .before .before .before .before .before .before .before .args .s) (c .before .before .before .before .before .before .before .before .before .before .before .before .before .before .before .before .before .before .args .h .tag) (c .before .before .before .before .before .before .before .before .before .before .before .before .before .before .before .before .before .before .args .store .now) (c .before .before .before .before .before .before .before .before .before .before .before .before .before .before .before .before .before .before .pre .held) p) ∙ part-long (c .before .before .before .before .before .before .before .before .before .before .before .before .before .before .before .before .before .before .args .cfg) (c .before .before .before .before .before .before .before .before .before .before .before .before .before .before .before .before .before .before .args .s) (c .before .before .before .before .before .before .before .before .before .before .before .before .before .before .before .before .before .before .args .h .tag) (c .before .before .before .before .before .before .before .before .before .before .before .before .before .before .before .before .before .before .args .store .now) (c .before .before .before .before .before .before .before .before .before .before .before .before .before .before .before .before .before .before .pre .held) p (c .before .before .before .before .before .before .before .before .before .before .before .if1 .taken) in
+    let sized-src = ap length (part-is (c .before .before .before .before .before .before .before .before .before .before .before .before .before .before .before .before .before .before .before .args .cfg) (c .before .before .before .before .before .before .before .before .before .before .before .before .before .before .before .before .before .before .before .args .s) (c .before .before .before .before .before .before .before .before .before .before .before .before .before .before .before .before .before .before .before .args .h .tag) (c .before .before .before .before .before .before .before .before .before .before .before .before .before .before .before .before .before .before .before .args .store .now) (c .before .before .before .before .before .before .before .before .before .before .before .before .before .before .before .before .before .before .before .pre .held) p) ∙ part-long (c .before .before .before .before .before .before .before .before .before .before .before .before .before .before .before .before .before .before .before .args .cfg) (c .before .before .before .before .before .before .before .before .before .before .before .before .before .before .before .before .before .before .before .args .s) (c .before .before .before .before .before .before .before .before .before .before .before .before .before .before .before .before .before .before .before .args .h .tag) (c .before .before .before .before .before .before .before .before .before .before .before .before .before .before .before .before .before .before .before .args .store .now) (c .before .before .before .before .before .before .before .before .before .before .before .before .before .before .before .before .before .before .before .pre .held) p (c .before .before .before .before .before .before .before .before .before .before .before .if1 .taken) in
     let is = copied-element (s .args .cfg .e) (s .pre .held .valid .e-high) (s .args .answer .now) src _ (s .pre .eighty) sized-src (c .before .before .before .before .before .before .copy .ensures .1) in
-    let there = element-there (c .before .before .before .before .before .before .before .before .before .before .before .before .before .before .before .before .before .before .args .cfg) (c .before .before .before .before .before .before .before .before .before .before .before .before .before .before .before .before .before .before .args .s) (c .before .before .before .before .before .before .before .before .before .before .before .before .before .before .before .before .before .before .args .h .tag) (c .before .before .before .before .before .before .before .before .before .before .before .before .before .before .before .before .before .before .args .store .now) (c .before .before .before .before .before .before .before .before .before .before .before .before .before .before .before .before .before .before .pre .held) p (small (c .before .before .before .before .before .before .before .before .before .before .before .before .before .before .before .before .before .before .args .cfg .c) (c .before .before .before .before .before .before .before .before .before .before .before .before .before .before .before .before .before .before .args .h .tag) (c .before .before .before .before .before .before .before .before .before .before .before .before .before .before .before .before .before .before .pre .held .valid .c-high) (c .before .before .before .before .before .before .before .before .before .before .before .before .before .before .before .before .before .before .pre .allowed)) (from-zero (c .before .before .before .before .before .before .before .before .before .before .before .before .before .before .before .before .before .before .args .h .tag) (tagAt (c .before .before .before .before .before .before .before .before .before .before .before .before .before .before .before .before .before .before .args .s .tags)) (c .before .before .before .before .before .before .before .before .before .before .before .before .before .before .before .before .before .before .args .s .count) _ (c .before .before .before .before .before .before .before .before .before .before .before .before .place-of .ensures)) (c .before .before .before .before .before .before .before .before .before .before .before .if1 .taken) in
+    let there = element-there (c .before .before .before .before .before .before .before .before .before .before .before .before .before .before .before .before .before .before .before .args .cfg) (c .before .before .before .before .before .before .before .before .before .before .before .before .before .before .before .before .before .before .before .args .s) (c .before .before .before .before .before .before .before .before .before .before .before .before .before .before .before .before .before .before .before .args .h .tag) (c .before .before .before .before .before .before .before .before .before .before .before .before .before .before .before .before .before .before .before .args .store .now) (c .before .before .before .before .before .before .before .before .before .before .before .before .before .before .before .before .before .before .before .pre .held) p (small (c .before .before .before .before .before .before .before .before .before .before .before .before .before .before .before .before .before .before .before .args .cfg .c) (c .before .before .before .before .before .before .before .before .before .before .before .before .before .before .before .before .before .before .before .args .h .tag) (c .before .before .before .before .before .before .before .before .before .before .before .before .before .before .before .before .before .before .before .pre .held .valid .c-high) (c .before .before .before .before .before .before .before .before .before .before .before .before .before .before .before .before .before .before .before .pre .allowed)) (from-zero (c .before .before .before .before .before .before .before .before .before .before .before .before .before .before .before .before .before .before .before .args .h .tag) (tagAt (c .before .before .before .before .before .before .before .before .before .before .before .before .before .before .before .before .before .before .before .args .s .tags)) (c .before .before .before .before .before .before .before .before .before .before .before .before .before .before .before .before .before .before .before .args .s .count) _ (c .before .before .before .before .before .before .before .before .before .before .before .before .place-of .ensures)) (c .before .before .before .before .before .before .before .before .before .before .before .if1 .taken) in
     finalised-element (s .args .cfg) (s .args .s) (c .before .before .before .before .before .before .before .before .before .before .before .before .before .raise .result) (s .args .h) (s .args .store .now) (s .args .answer .now) (c .before .before .before .before .before .before .before .before .before .before .before .before .before .raise .ensures)
-    _ (there ∙ ap some (sym (is ∙ part-is (c .before .before .before .before .before .before .before .before .before .before .before .before .before .before .before .before .before .before .args .cfg) (c .before .before .before .before .before .before .before .before .before .before .before .before .before .before .before .before .before .before .args .s) (c .before .before .before .before .before .before .before .before .before .before .before .before .before .before .before .before .before .before .args .h .tag) (c .before .before .before .before .before .before .before .before .before .before .before .before .before .before .before .before .before .before .args .store .now) (c .before .before .before .before .before .before .before .before .before .before .before .before .before .before .before .before .before .before .pre .held) p))) _ _ (c .before .before .respond .ensures)
+    _ (there ∙ ap some (sym (is ∙ part-is (c .before .before .before .before .before .before .before .before .before .before .before .before .before .before .before .before .before .before .before .args .cfg) (c .before .before .before .before .before .before .before .before .before .before .before .before .before .before .before .before .before .before .before .args .s) (c .before .before .before .before .before .before .before .before .before .before .before .before .before .before .before .before .before .before .before .args .h .tag) (c .before .before .before .before .before .before .before .before .before .before .before .before .before .before .before .before .before .before .before .args .store .now) (c .before .before .before .before .before .before .before .before .before .before .before .before .before .before .before .before .before .before .before .pre .held) p))) _ _ (c .before .before .respond .ensures)
 
 at-or-below-requires : tie.Need-at-or-below-requires
 at-or-below-requires c κs = search needs
@@ -95,14 +98,14 @@ refused-requires c κs = search needs
 
 returns-2 : tie.Need-returns-2
 returns-2 c =
-    let s = c .before .before .before .before .before .before .before .before .before .before in
+    let s = c .before .before .before .before .before .before .before .before .before .before .before in
     finalised-silent (s .args .cfg) (s .args .s) (c .before .before .before .before .before .raise .result) (s .args .h) (s .args .store .now) (s .args .answer .now) (c .before .before .before .before .before .raise .ensures)
-    (element-nowhere (c .before .before .before .before .before .before .before .before .before .before .args .cfg) (c .before .before .before .before .before .before .before .before .before .before .args .s) (c .before .before .before .before .before .before .before .before .before .before .args .h .tag) (c .before .before .before .before .before .before .before .before .before .before .args .store .now) (c .before .before .before .before .before .before .before .before .before .before .pre .held) _ (small (c .before .before .before .before .before .before .before .before .before .before .args .cfg .c) (c .before .before .before .before .before .before .before .before .before .before .args .h .tag) (c .before .before .before .before .before .before .before .before .before .before .pre .held .valid .c-high) (c .before .before .before .before .before .before .before .before .before .before .pre .allowed)) (from-zero (c .before .before .before .before .before .before .before .before .before .before .args .h .tag) (tagAt (c .before .before .before .before .before .before .before .before .before .before .args .s .tags)) (c .before .before .before .before .before .before .before .before .before .before .args .s .count) _ (c .before .before .before .before .place-of .ensures)) (c .before .before .before .if1 .left))
+    (element-nowhere (c .before .before .before .before .before .before .before .before .before .before .before .args .cfg) (c .before .before .before .before .before .before .before .before .before .before .before .args .s) (c .before .before .before .before .before .before .before .before .before .before .before .args .h .tag) (c .before .before .before .before .before .before .before .before .before .before .before .args .store .now) (c .before .before .before .before .before .before .before .before .before .before .before .pre .held) _ (small (c .before .before .before .before .before .before .before .before .before .before .before .args .cfg .c) (c .before .before .before .before .before .before .before .before .before .before .before .args .h .tag) (c .before .before .before .before .before .before .before .before .before .before .before .pre .held .valid .c-high) (c .before .before .before .before .before .before .before .before .before .before .before .pre .allowed)) (from-zero (c .before .before .before .before .before .before .before .before .before .before .before .args .h .tag) (tagAt (c .before .before .before .before .before .before .before .before .before .before .before .args .s .tags)) (c .before .before .before .before .before .before .before .before .before .before .before .args .s .count) _ (c .before .before .before .before .place-of .ensures)) (c .before .before .before .if1 .left))
     (sym (c .before .before .at-or-below .ensures) ∙ c .before .if2 .taken) _ (c .refused .ensures)
 
 respond-requires-2 : tie.Need-respond-requires-2
 respond-requires-2 c κs =
-    let s = c .before .before .before .before .before .before .before .before .before .before in
+    let s = c .before .before .before .before .before .before .before .before .before .before .before in
     record {
       valid = s .pre .held .valid;
       eighty = s .pre .eighty;
@@ -115,15 +118,16 @@ same-length-2 c = search needs
 
 returns-3 : tie.Need-returns-3
 returns-3 c =
-    let s = c .before .before .before .before .before .before .before .before .before .before .before .before .before in
+    let s = c .before .before .before .before .before .before .before .before .before .before .before .before .before .before in
     finalised-none (s .args .cfg) (s .args .s) (c .before .before .before .before .before .before .before .before .raise .result) (s .args .h) (s .args .store .now) (s .args .answer .now) (c .before .before .before .before .before .before .before .before .raise .ensures)
-    (element-nowhere (c .before .before .before .before .before .before .before .before .before .before .before .before .before .args .cfg) (c .before .before .before .before .before .before .before .before .before .before .before .before .before .args .s) (c .before .before .before .before .before .before .before .before .before .before .before .before .before .args .h .tag) (c .before .before .before .before .before .before .before .before .before .before .before .before .before .args .store .now) (c .before .before .before .before .before .before .before .before .before .before .before .before .before .pre .held) _ (small (c .before .before .before .before .before .before .before .before .before .before .before .before .before .args .cfg .c) (c .before .before .before .before .before .before .before .before .before .before .before .before .before .args .h .tag) (c .before .before .before .before .before .before .before .before .before .before .before .before .before .pre .held .valid .c-high) (c .before .before .before .before .before .before .before .before .before .before .before .before .before .pre .allowed)) (from-zero (c .before .before .before .before .before .before .before .before .before .before .before .before .before .args .h .tag) (tagAt (c .before .before .before .before .before .before .before .before .before .before .before .before .before .args .s .tags)) (c .before .before .before .before .before .before .before .before .before .before .before .before .before .args .s .count) _ (c .before .before .before .before .before .before .before .place-of .ensures)) (c .before .before .before .before .before .before .if1 .left))
+    (element-nowhere (c .before .before .before .before .before .before .before .before .before .before .before .before .before .before .args .cfg) (c .before .before .before .before .before .before .before .before .before .before .before .before .before .before .args .s) (c .before .before .before .before .before .before .before .before .before .before .before .before .before .before .args .h .tag) (c .before .before .before .before .before .before .before .before .before .before .before .before .before .before .args .store .now) (c .before .before .before .before .before .before .before .before .before .before .before .before .before .before .pre .held) _ (small (c .before .before .before .before .before .before .before .before .before .before .before .before .before .before .args .cfg .c) (c .before .before .before .before .before .before .before .before .before .before .before .before .before .before .args .h .tag) (c .before .before .before .before .before .before .before .before .before .before .before .before .before .before .pre .held .valid .c-high) (c .before .before .before .before .before .before .before .before .before .before .before .before .before .before .pre .allowed)) (from-zero (c .before .before .before .before .before .before .before .before .before .before .before .before .before .before .args .h .tag) (tagAt (c .before .before .before .before .before .before .before .before .before .before .before .before .before .before .args .s .tags)) (c .before .before .before .before .before .before .before .before .before .before .before .before .before .before .args .s .count) _ (c .before .before .before .before .before .before .before .place-of .ensures)) (c .before .before .before .before .before .before .if1 .left))
     (sym (c .before .before .before .before .before .at-or-below .ensures) ∙ c .before .before .before .before .if2 .left) _ _ (c .before .before .respond2 .ensures)
 
 pub read-finalise-spec : {M : Type 1} → statement M
 read-finalise-spec =
     tie.close
     (tie.spec
+    cast-count
     raise-requires
     place-of-requires
     mul-from

@@ -37,7 +37,7 @@ enum-told c = search needs
 respond-requires : tie.Need-respond-requires
 respond-requires c κs =
     let s = c .before .before .before .before .before .before .before .before in
-    let n : s .args .s .highest .number ≤ highestNumber = omega arith in
+    let n : s .args .s .highest .number ≤ highestNumber = omega (arith, s .good .1 .0) in
     query-reply (c .before .before .before .before .before .before .before .before .args .cfg) (c .before .before .before .before .before .before .before .before .args .s) (c .before .before .before .before .before .before .before .before .args .h) (c .before .before .before .before .before .before .before .before .args .handed .now) (c .before .before .before .before .before .before .before .before .args .store .now) (c .before .before .before .before .before .before .before .before .args .answer .now) (s .pre) _ refl n _ (s .pre .answer-eighty)
 
 enum-told-2 : tie.Need-enum-told-2

@@ -63,6 +63,9 @@ allowed-requires c κs = search needs
 returns-2 : tie.Need-returns-2
 returns-2 c = λ e. absurd (true≢false (sym e))
 
+cast-count : tie.Need-cast-count
+cast-count c = search needs
+
 add-if3 : tie.Need-add-if3
 add-if3 c = search needs
 
@@ -87,21 +90,21 @@ spread-requires c κs = search needs
 returns-5 : tie.Need-returns-5
 returns-5 c e =
     let h = c .before .before .before in
-    let a = h .before .before .before .before .before .before .before .before .before .before .before .args in
-    by-full _ _ (h .before .before .before .before .before .before .before .before .before .server-within .ensures) (h .before .before .before .before .before .before .before .before .if1 .left)
-    (h .before .before .before .before .before .before .allowed .ensures) (h .before .before .before .before .before .if2 .left) (h .before .before .before .if3 .left)
+    let a = h .before .before .before .before .before .before .before .before .before .before .before .before .args in
+    by-full _ _ (h .before .before .before .before .before .before .before .before .before .before .server-within .ensures) (h .before .before .before .before .before .before .before .before .before .if1 .left)
+    (h .before .before .before .before .before .before .before .allowed .ensures) (h .before .before .before .before .before .before .if2 .left) (h .before .before .before .if3 .left)
     (h .before .floor-full .ensures) (h .if4 .left) _
     (no-floor (a .cfg) (a .s) _ (c .before .enum-told .given .1) (c .spread .ensures)) e
 
 full-requires : tie.Need-full-requires
-full-requires c κs = c .before .before .before .before .before .before .before .before .before .before .before .before .before .before .before .pre .c-high
+full-requires c κs = c .before .before .before .before .before .before .before .before .before .before .before .before .before .before .before .before .pre .c-high
 
 returns-6 : tie.Need-returns-6
 returns-6 c e =
     let h = c .before .before .before .before .before in
-    let a = h .before .before .before .before .before .before .before .before .before .before .before .args in
-    by-full _ _ (h .before .before .before .before .before .before .before .before .before .server-within .ensures) (h .before .before .before .before .before .before .before .before .if1 .left)
-    (h .before .before .before .before .before .before .allowed .ensures) (h .before .before .before .before .before .if2 .left) (h .before .before .before .if3 .left)
+    let a = h .before .before .before .before .before .before .before .before .before .before .before .before .args in
+    by-full _ _ (h .before .before .before .before .before .before .before .before .before .before .server-within .ensures) (h .before .before .before .before .before .before .before .before .before .if1 .left)
+    (h .before .before .before .before .before .before .before .allowed .ensures) (h .before .before .before .before .before .before .if2 .left) (h .before .before .before .if3 .left)
     (h .before .floor-full .ensures) (h .if4 .left) _
     (above-floor (a .cfg) (a .s) _ 8 _ (c .before .before .before .floor .given .1) (c .before .if5 .taken) (c .full .ensures)) e
 
@@ -110,15 +113,15 @@ base-requires c κs = search needs
 
 risen-requires : tie.Need-risen-requires
 risen-requires c κs =
-    let p = c .before .before .before .before .before .before .before .before .before .before .before .before .before .before .before .before .pre in
+    let p = c .before .before .before .before .before .before .before .before .before .before .before .before .before .before .before .before .before .pre in
     (p .c-high, c .base .ensures .0, omega (arith, p .d-high, c .before .before .before .before .before .before .before .before .if3 .left))
 
 returns-7 : tie.Need-returns-7
 returns-7 c e =
     let h = c .before .before .before .before .before .before in
-    let a = h .before .before .before .before .before .before .before .before .before .before .before .args in
-    by-full _ _ (h .before .before .before .before .before .before .before .before .before .server-within .ensures) (h .before .before .before .before .before .before .before .before .if1 .left)
-    (h .before .before .before .before .before .before .allowed .ensures) (h .before .before .before .before .before .if2 .left) (h .before .before .before .if3 .left)
+    let a = h .before .before .before .before .before .before .before .before .before .before .before .before .args in
+    by-full _ _ (h .before .before .before .before .before .before .before .before .before .before .server-within .ensures) (h .before .before .before .before .before .before .before .before .before .if1 .left)
+    (h .before .before .before .before .before .before .before .allowed .ensures) (h .before .before .before .before .before .before .if2 .left) (h .before .before .before .if3 .left)
     (h .before .floor-full .ensures) (h .if4 .left) _
     (above-floor (a .cfg) (a .s) _ (a .s .count) _ (c .before .before .before .before .floor .given .1) refl (c .risen .ensures _ (c .before .base .ensures .1))) e
 
@@ -130,6 +133,7 @@ quick-spec =
     returns
     allowed-requires
     returns-2
+    cast-count
     add-if3
     returns-3
     floor-full-requires

@@ -64,12 +64,15 @@ returns-2 : tie.Need-returns-2
 returns-2 c =
     no-highest _ _ (sym (c .before .before .before .before .server-within .ensures) ∙ not-false _ (c .before .before .before .if1 .left)) (sym (c .before .allowed .ensures) ∙ not-true _ (c .if2 .taken))
 
+cast-count : tie.Need-cast-count
+cast-count c = search needs
+
 add-if3 : tie.Need-add-if3
 add-if3 c = search needs
 
 returns-3 : tie.Need-returns-3
 returns-3 c =
-    no-count _ _ (sym (c .before .before .before .before .before .before .server-within .ensures) ∙ not-false _ (c .before .before .before .before .before .if1 .left)) (sym (c .before .before .before .allowed .ensures) ∙ not-false _ (c .before .before .if2 .left))
+    no-count _ _ (sym (c .before .before .before .before .before .before .before .server-within .ensures) ∙ not-false _ (c .before .before .before .before .before .before .if1 .left)) (sym (c .before .before .before .before .allowed .ensures) ∙ not-false _ (c .before .before .before .if2 .left))
     (c .if3 .taken)
 
 each-allowed-requires : tie.Need-each-allowed-requires
@@ -77,7 +80,7 @@ each-allowed-requires c κs = search needs
 
 returns-4 : tie.Need-returns-4
 returns-4 c =
-    no-tags _ _ (sym (c .before .before .before .before .before .before .before .before .before .server-within .ensures) ∙ not-false _ (c .before .before .before .before .before .before .before .before .if1 .left)) (sym (c .before .before .before .before .before .before .allowed .ensures) ∙ not-false _ (c .before .before .before .before .before .if2 .left))
+    no-tags _ _ (sym (c .before .before .before .before .before .before .before .before .before .before .server-within .ensures) ∙ not-false _ (c .before .before .before .before .before .before .before .before .before .if1 .left)) (sym (c .before .before .before .before .before .before .before .allowed .ensures) ∙ not-false _ (c .before .before .before .before .before .before .if2 .left))
     (c .before .before .before .if3 .left) (sym (c .before .each-allowed .ensures) ∙ not-true _ (c .if4 .taken))
 
 once-requires : tie.Need-once-requires
@@ -85,7 +88,7 @@ once-requires c κs = search needs
 
 returns-5 : tie.Need-returns-5
 returns-5 c =
-    no-once _ _ (sym (c .before .before .before .before .before .before .before .before .before .before .before .server-within .ensures) ∙ not-false _ (c .before .before .before .before .before .before .before .before .before .before .if1 .left)) (sym (c .before .before .before .before .before .before .before .before .allowed .ensures) ∙ not-false _ (c .before .before .before .before .before .before .before .if2 .left))
+    no-once _ _ (sym (c .before .before .before .before .before .before .before .before .before .before .before .before .server-within .ensures) ∙ not-false _ (c .before .before .before .before .before .before .before .before .before .before .before .if1 .left)) (sym (c .before .before .before .before .before .before .before .before .before .allowed .ensures) ∙ not-false _ (c .before .before .before .before .before .before .before .before .if2 .left))
     (c .before .before .before .before .before .if3 .left) (sym (c .before .before .before .each-allowed .ensures) ∙ not-false _ (c .before .before .if4 .left)) (sym (c .before .once .ensures) ∙ not-true _ (c .if5 .taken))
 
 floor-within-requires : tie.Need-floor-within-requires
@@ -94,7 +97,7 @@ floor-within-requires c κs = search needs
 returns-6 : tie.Need-returns-6
 returns-6 c =
     c .floor-within .ensures
-    ∙ by-floor _ _ (sym (c .before .before .before .before .before .before .before .before .before .before .before .before .server-within .ensures) ∙ not-false _ (c .before .before .before .before .before .before .before .before .before .before .before .if1 .left)) (sym (c .before .before .before .before .before .before .before .before .before .allowed .ensures) ∙ not-false _ (c .before .before .before .before .before .before .before .before .if2 .left))
+    ∙ by-floor _ _ (sym (c .before .before .before .before .before .before .before .before .before .before .before .before .before .server-within .ensures) ∙ not-false _ (c .before .before .before .before .before .before .before .before .before .before .before .before .if1 .left)) (sym (c .before .before .before .before .before .before .before .before .before .before .allowed .ensures) ∙ not-false _ (c .before .before .before .before .before .before .before .before .before .if2 .left))
     (c .before .before .before .before .before .before .if3 .left) (sym (c .before .before .before .before .each-allowed .ensures) ∙ not-false _ (c .before .before .before .if4 .left)) (sym (c .before .before .once .ensures) ∙ not-false _ (c .before .if5 .left))
 
 pub state-within-spec : {M : Type 1} → statement M
@@ -105,6 +108,7 @@ state-within-spec =
     returns
     allowed-requires
     returns-2
+    cast-count
     add-if3
     returns-3
     each-allowed-requires

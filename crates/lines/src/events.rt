@@ -2,9 +2,11 @@
 use super::answer;
 use config::Config;
 use rig::Call;
+use rig::Part;
 use rig::Rig;
 ghost use Prim.Native.Nat.{_+_, _*_, _≤_};
 ghost use lib.ListN.{length};
+ghost use Rattle.config.specs.Config.{Valid};
 
 // Between two events: the rig, the count of the next event, the input that is not used yet, from `at` up to `end` of its
 // buffer, and how much of the output's buffer is in use.
@@ -27,7 +29,7 @@ pub(crate) fn all(
     boards: &mut [u8],
     elements: &mut [u8],
 )
-    requires { ⌜ v ≤ 1024 ⌝ }
+    requires { ⌜ (Valid cfg) × (v ≤ 1024) ⌝ }
 {
     let mut read = io::buffer();
     let mut input = io::large_buffer();
@@ -66,7 +68,7 @@ fn blocks(
     boards: &mut [u8],
     elements: &mut [u8],
 )
-    requires { ⌜ (first .at ≤ first .end) × (first .end ≤ length (now input)) ⌝ }
+    requires { ⌜ (Valid cfg) × (first .at ≤ first .end) × (first .end ≤ length (now input)) ⌝ }
     requires { ⌜ (length (now read) + 4 ≤ length (now input)) × (84 + 2 * length (now read) ≤ length (now output)) ⌝ }
 {
     let size = read.len() + 4;
@@ -111,7 +113,7 @@ fn block(
     boards: &mut [u8],
     elements: &mut [u8],
 ) -> Run
-    requires { ⌜ (run .at ≤ run .end) × (run .end ≤ length (now input)) ⌝ }
+    requires { ⌜ (Valid cfg) × (run .at ≤ run .end) × (run .end ≤ length (now input)) ⌝ }
     requires { ⌜ 84 + 2 * length (now read) ≤ length (now output) ⌝ }
     ensures { λ r. ⌜ (r .at ≤ r .end) × (r .end ≤ length (now (input .entry))) × (r .used ≤ length (now (output .entry))) ⌝ }
 {
@@ -126,14 +128,18 @@ fn block(
             break;
         }
         let next = at + size;
-        let bytes = at + 4;
         let call = called(at, input);
+        let places = rig::names(cfg, rig.count, call, messages);
+        let s = places.server;
+        let c = places.client;
+        let part = Part::of(places, rig.servers[s], rig.clients[c], rig.count);
+        let board = &input[at + 4..next];
         let change = rig::changes(
             cfg,
             m,
-            rig,
+            part,
             call,
-            &input[bytes..next],
+            board,
             read,
             messages,
             stores,
@@ -141,15 +147,13 @@ fn block(
             elements,
         );
         let answer = change.answer;
-        let part = change.part;
-        let s = part.server;
-        let c = part.client;
-        let pair = part.pair;
+        let after = change.part;
+        let pair = after.pair;
         let node = pair.node;
         let client = pair.client;
         rig.servers[s] = node;
         rig.clients[c] = client;
-        rig.count = part.count;
+        rig.count = after.count;
         used = answer::line(count, answer, read, output, used);
         count = std::num::wrapping_add_u64(count, 1);
         at = next;

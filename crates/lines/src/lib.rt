@@ -52,12 +52,13 @@ fn measured(cfg: Config, m: usize) -> Lengths
     requires { ⌜ Valid cfg × (m ≤ 512) ⌝ }
     ensures { λ r. ⌜ (r .board ≤ 1024) × (r .messages ≤ 40960) × (r .stores ≤ 8192) × (r .boards ≤ 16384) × (r .elements ≤ 16384) ⌝ }
 {
+    let long = cfg.lengths(m);
     Lengths {
-        board: cfg.k * cfg.e,
-        messages: 80 * m,
-        stores: cfg.n * ((cfg.d + 1) * cfg.e),
-        boards: cfg.c * (cfg.k * cfg.e),
-        elements: cfg.c * (cfg.n * cfg.e),
+        board: long.board,
+        messages: long.messages,
+        stores: cfg.n * long.store,
+        boards: cfg.c * long.board,
+        elements: cfg.c * long.elements,
     }
 }
 
@@ -91,7 +92,7 @@ fn begin(
     boards: &mut [u8],
     elements: &mut [u8],
 )
-    requires { ⌜ v ≤ 1024 ⌝ }
+    requires { ⌜ (Valid cfg) × (v ≤ 1024) ⌝ }
 {
     let made = rig::make(cfg, m, start, messages, stores, boards, elements);
     let verdict = made.verdict;

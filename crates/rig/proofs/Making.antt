@@ -86,7 +86,7 @@ module _ (cfg : Config) (s : ℕ) (start store : List ℕ) (pre : NodePre cfg s 
       }
 
 -- it passes question 6
-node-within : (cfg : Config) (s : ℕ) (store : List ℕ) (e : List ℕ) → within 1 (cfg .n) s ≡ true
+pub node-within : (cfg : Config) (s : ℕ) (store : List ℕ) (e : List ℕ) → within 1 (cfg .n) s ≡ true
     → serverView.view cfg (freshNode s .state) store ≡ freshServer e → limits.stateWithin cfg (freshNode s .state) ≡ true
 unfolding server.freshState
 node-within cfg s store e inside is =
@@ -102,7 +102,7 @@ module _ (cfg : Config) (c : ℕ) (valid : Valid cfg) (inside : within 1 (cfg .c
   pub client-is : (me : ClientNumber) → clientNumber me ≡ c → (r : NewState) → clientCalls.FreshPost cfg me r → r ≡ NewState.Made (freshState c)
   client-is me own r post = post .made (asked me own) ∙ ap (λ n. NewState.Made (freshState n)) own
 
-  client-within : stateWithin cfg (freshState c) ≡ true
+  pub client-within : stateWithin cfg (freshState c) ≡ true
   unfolding stateWithin phaseWithin
   client-within = rw inside
 
@@ -226,10 +226,10 @@ module _ (cfg : Config) (m : ℕ) (start : Board) (l : Lent) (got : ℕ) (asked 
       stands : rigWithin cfg m r ≡ true
       unfolding rigWithin
       stands =
-          ap₂ _&&_
-          (ap₂ _&&_ (le-leb (r .count) m (omega (arith, post .nothing)))
-          (below-all (cfg .n) (λ i. serverWithin cfg i (getElem? (r .servers) i)) server-within))
-          (below-all (cfg .c) (λ i. clientWithin cfg i (getElem? (r .clients) i)) client-stands)
+          ap₂ _&&_ (le-leb (r .count) m (omega (arith, post .nothing)))
+          (ap₂ _&&_
+          (below-all (cfg .n) (λ i. serverWithin cfg i (getElem? (r .servers) i)) server-within)
+          (below-all (cfg .c) (λ i. clientWithin cfg i (getElem? (r .clients) i)) client-stands))
 
       pub make-done : MakePost cfg m start l (record { verdict = Verdict.Accepted; rig = r }) l′
       make-done =

@@ -22,8 +22,8 @@ use Rattle.rig.specs.declared.Part.{Part}
 use Rattle.rig.specs.declared.Rig.{Rig}
 use Rattle.rig.specs.View.{Lent, flight, view}
 use Rattle.rig.specs.Questions.{formedFor}
-use Rattle.rig.specs.Calls.{called, eventNo, firstSix}
-use Rattle.rig.specs.inner.Turn.{Ready}
+use Rattle.rig.specs.Calls.{called, eventNo}
+use Rattle.rig.specs.inner.Turn.{firstSix, Ready}
 use Rattle.rig.proofs.Six.{six-number}
 
 -- the questions 8 to 11 are numbered so

@@ -25,9 +25,8 @@ use Rattle.parties.specs.Acts.{Parts, among, parts}
 use Rattle.rig.specs.declared.Part.{Part}
 use Rattle.rig.specs.declared.Rig.{Rig}
 use Rattle.rig.specs.View.{Lent, clientOf, clientSeen, partiesOf, serverOf, serverSeen, upOf, upSeen}
-use Rattle.rig.specs.Calls.{withPart}
-use Rattle.rig.specs.inner.Part.{PartOf}
-use Rattle.rig.proofs.Places.{place-at, seen-upd}
+use Rattle.rig.specs.Calls.{PartOf, withPart}
+use Rattle.rig.proofs.Seen.{place-at, seen-upd}
 
 -- the parts of the lent buffers that are its pair's
 abbrev pub partsOf : Config → Part → Lent → Parts

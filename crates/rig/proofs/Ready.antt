@@ -23,8 +23,8 @@ use Rattle.rig.specs.declared.Call.{Call}
 use Rattle.rig.specs.declared.Part.{Part}
 use Rattle.rig.specs.declared.Rig.{Rig}
 use Rattle.rig.specs.View.{Lent, partiesOf}
-use Rattle.rig.specs.Questions.{clientWithin, rigWithin, serverWithin, sized}
-use Rattle.rig.specs.Calls.{called, namedBy, placeFor}
+use Rattle.rig.specs.Questions.{clientWithin, namedBy, placeFor, rigWithin, serverWithin, sized}
+use Rattle.rig.specs.Calls.{called}
 use Rattle.rig.specs.inner.Turn.{Ready, TurnPre}
 use Rattle.rig.proofs.RigWithin.{clients-within, count-most, fits-at, servers-within}
 use Rattle.rig.proofs.Pairs.{pair-among, partsOf}

@@ -14,7 +14,7 @@ use Rattle.laws.proofs.Lists.{at-past, at-set, at-set-other}
 use Rattle.config.specs.declared.Config.{Config}
 use Rattle.rig.specs.declared.Part.{Part}
 use Rattle.rig.specs.declared.Rig.{Rig}
-use Rattle.rig.specs.Questions.{allBelow, clientWithin, rigWithin, serverWithin}
+use Rattle.rig.specs.Questions.{allBelow, clientWithin, partiesWithin, rigWithin, serverWithin}
 use Rattle.rig.specs.Calls.{withPart}
 use Rattle.rig.proofs.Below.{below-all, below-at}
 
@@ -50,19 +50,19 @@ module _ (cfg : Config) (m : ℕ) (r : Rig) (h : rigWithin cfg m r ≡ true) whe
   abbrev clients : Bool
   clients = allBelow (cfg .c) (λ i. clientWithin cfg i (getElem? (r .clients) i))
 
-  front : (leb (r .count) m && servers) ≡ true
+  parties : partiesWithin cfg r ≡ true
   unfolding rigWithin
-  front = and-left (leb (r .count) m && servers) clients h
+  parties = and-right (leb (r .count) m) (partiesWithin cfg r) h
 
   pub count-most : r .count ≤ m
-  count-most = leb-true (r .count) m (and-left (leb (r .count) m) servers front)
+  unfolding rigWithin
+  count-most = leb-true (r .count) m (and-left (leb (r .count) m) (partiesWithin cfg r) h)
 
   pub servers-within : servers ≡ true
-  servers-within = and-right (leb (r .count) m) servers front
+  servers-within = and-left servers clients parties
 
   pub clients-within : clients ≡ true
-  unfolding rigWithin
-  clients-within = and-right (leb (r .count) m && servers) clients h
+  clients-within = and-right servers clients parties
 
   pub servers-taken : cfg .n ≤ length (r .servers)
   unfolding serverWithin
@@ -78,7 +78,7 @@ module _ (cfg : Config) (m : ℕ) (r : Rig) (h : rigWithin cfg m r ≡ true) whe
       → rigWithin cfg m (withPart r p) ≡ true
   unfolding rigWithin
   part-within p few s c node client =
-      ap₂ _&&_
-      (ap₂ _&&_ (le-leb (p .count) m few)
-      (below-set (cfg .n) (r .servers) (serverWithin cfg) servers-within (p .server) (p .pair .node) (omega (arith, s, servers-taken)) node))
-      (below-set (cfg .c) (r .clients) (clientWithin cfg) clients-within (p .client) (p .pair .client) (omega (arith, c, clients-taken)) client)
+      ap₂ _&&_ (le-leb (p .count) m few)
+      (ap₂ _&&_
+      (below-set (cfg .n) (r .servers) (serverWithin cfg) servers-within (p .server) (p .pair .node) (omega (arith, s, servers-taken)) node)
+      (below-set (cfg .c) (r .clients) (clientWithin cfg) clients-within (p .client) (p .pair .client) (omega (arith, c, clients-taken)) client))

@@ -18,7 +18,8 @@ use Rattle.protocol.specs.Boards.{BoardCall}
 use Rattle.rig.specs.declared.Rig.{Rig}
 use Rattle.rig.specs.View.{Lent}
 use Rattle.rig.specs.Questions.{eventQuestions, laterQuestions, rigWithin, sized}
-use Rattle.rig.specs.Calls.{eventNo, firstSix}
+use Rattle.rig.specs.Calls.{eventNo}
+use Rattle.rig.specs.inner.Turn.{firstSix}
 
 module _ (cfg : Config) (m : ℕ) (r : Rig) (a : BoardCall) (read : List ℕ) (l : Lent) (yes : firstSix cfg m r a read l ≡ 0) where
   abbrev board : Bool

@@ -1,15 +1,13 @@
 -- The rig's calls: what each answers and leaves.
-use Prim.Native.Nat.{ℕ, _+_, _-_, _*_, _<_}
-use mathlib.Core.Bool.{true, false, cond, _&&_}
+use Prim.Native.Nat.{ℕ, _-_}
+use mathlib.Core.Bool.{true, false}
 use mathlib.Core.Path.{_≡_}
 use mathlib.Core.Option.{Option, none, some}
-use mathlib.Core.List.{List, [], _∷_, _++_, map}
-use lib.Dec.{eqb, leb}
-use lib.ListN.{length, drop, getD, getElem?, replicate, set}
+use mathlib.Core.List.{List, _++_, map}
+use lib.ListN.{length, drop, getElem?, replicate, set}
 use Rattle.laws.specs.Lists.{toList, without}
 use Rattle.config.specs.declared.Config.{Config}
-use Rattle.config.specs.Config.{boardLength, rigQuestions}
-use Rattle.config.specs.Questions.{ask, firstNo, within}
+use Rattle.config.specs.Questions.{firstNo}
 use Rattle.config.specs.Refusal.{verdictNumber}
 use Rattle.record.specs.Record.{recordOf}
 use Rattle.server.specs.Calls as server
@@ -17,16 +15,18 @@ use Rattle.client.specs.declared.State as client
 use Rattle.client.specs.Calls as clientCalls
 use Rattle.protocol.specs.Boards.{Board, BoardCall, BoardMessage, BoardTurn, freshRig, moveOf}
 use Rattle.protocol.specs.Rig.{Code, beginWrite, beginRead, handOver, lose, double, crashServer, crashClient, codeOf, unlessNo}
+use Rattle.protocol.specs.Board.{refused}
 use Rattle.parties.specs.declared.Node.{Node}
 use Rattle.parties.specs.Acts.{answerOf, isRead}
 use Rattle.rig.specs.declared.Call.{Call}
 use Rattle.rig.specs.declared.Change.{Change}
 use Rattle.rig.specs.declared.Made.{Made}
 use Rattle.rig.specs.declared.Part.{Part}
+use Rattle.rig.specs.declared.Places.{Places}
 use Rattle.rig.specs.declared.Rig.{Rig}
 use Rattle.rig.specs.declared.Turn.{Turn}
 use Rattle.rig.specs.View.{Lent, flight, view}
-use Rattle.rig.specs.Questions.{eventQuestions, makeQuestions, rigWithin, sized}
+use Rattle.rig.specs.Questions.{eventQuestions, makeQuestions, partQuestions, rigWithin, sized}
 
 -- a fresh server in its place, up, and a fresh client: of number 1, 2, ..
 abbrev pub freshNode : ℕ → Node
@@ -109,35 +109,29 @@ withPart r p =
 abbrev pub turned : Rig → Change → Turn
 turned r x = record { answer = x .answer; rig = withPart r (x .part) }
 
--- the place of party number p, of 1 to n; the first where there is none
-abbrev pub placeFor : ℕ → ℕ → ℕ
-placeFor n p = cond (within 1 n p) (p - 1) 0
+-- the part of these places, parties and count
+abbrev pub partAt : Places → Node → client.State → ℕ → Part
+partAt x node state count = record { server = x .server; client = x .client; pair = record { node = node; client = state }; count = count }
 
--- the byte at an offset of the record at a position
-abbrev pub byteOf : ℕ → ℕ → List ℕ → ℕ
-byteOf i offset messages = getD messages (80 * i + offset) 0
+-- a part is of a rig: its parties stand there in its places, and the count is the rig's
+pub record PartOf (r : Rig) (p : Part) : Type 0 where
+  pub node : getElem? (r .servers) (p .server) ≡ some (p .pair .node)
+  pub client : getElem? (r .clients) (p .client) ≡ some (p .pair .client)
+  pub count : r .count ≡ p .count
 
--- the number by which an event is called: of event 3, the byte at an offset of the record at the position, or 0 where there is none; of any
--- other, the party's
-abbrev pub namedBy : ℕ → ℕ → ℕ → ℕ → ℕ → List ℕ → ℕ
-namedBy count code party i offset messages = cond (eqb code 3) (cond (leb count i) 0 (byteOf i offset messages)) party
+-- the first of the part's questions that is answered no, or 0
+abbrev pub partNo : Config → ℕ → Part → Call → List ℕ → List ℕ → Lent → ℕ
+partNo cfg m p a board read l = firstNo (partQuestions cfg m p a board read l)
 
--- the first of questions 1 to 6 that is answered no, or 0
-abbrev pub firstSix : Config → ℕ → Rig → BoardCall → List ℕ → Lent → ℕ
-firstSix cfg m r a read l =
-    firstNo (rigQuestions cfg m
-    ++ ask 6 (eqb (length (a .board)) (boardLength cfg) && eqb (length read) (boardLength cfg) && sized cfg m l && rigWithin cfg m r)
-    ∷ [])
-
--- the place of n that an event can touch: that of the number by which it is called; the first where one of 1 to 6 is answered no
-abbrev pub touched : ℕ → ℕ → Config → ℕ → Rig → BoardCall → List ℕ → Lent → ℕ
-touched n offset cfg m r a read l =
-    cond (eqb (firstSix cfg m r a read l) 0) (placeFor n (namedBy (r .count) (a .code) (a .party) (a .position) offset (l .messages))) 0
-
--- The same event by what it changes: the rig with that in its places is the one that the event leaves.
-pub record ChangePost (cfg : Config) (m : ℕ) (r : Rig) (a : BoardCall) (read : List ℕ) (l : Lent) (x : Change) (read′ : List ℕ) (l′ : Lent) : Type 0 where
-  -- offset 2 of a record is its server, offset 1 its client
-  pub server : x .part .server ≡ touched (cfg .n) 2 cfg m r a read l
-  pub client : x .part .client ≡ touched (cfg .c) 1 cfg m r a read l
-  pub inside : (x .part .server < 16) × (x .part .client < 16)
-  pub event : EventPost cfg m r a read l (turned r x) read′ l′
+-- The same event by the part of a rig that it can touch.
+pub record ChangePost (cfg : Config) (m : ℕ) (p : Part) (a : Call) (board read : List ℕ) (l : Lent) (x : Change) (read′ : List ℕ) (l′ : Lent) : Type 0 where
+  -- its places stay
+  pub server : x .part .server ≡ p .server
+  pub client : x .part .client ≡ p .client
+  -- "The first "no" is returned; state and buffers hold their old content"
+  pub refuses : (partNo cfg m p a board read l ≡ 0 → ⊥)
+      → (answerOf (x .answer) read′ ≡ refused (partNo cfg m p a board read l)) × (x .part ≡ p) × (read′ ≡ read) × (l′ ≡ l)
+  -- of every rig that the part is of and whose parties pass question 6: what is left, put into the part's places, is what the rig's event
+  -- leaves, with its answer and its buffers
+  pub event : partNo cfg m p a board read l ≡ 0 → (r : Rig) → PartOf r p → rigWithin cfg m r ≡ true
+      → EventPost cfg m r (called a board) read l (turned r x) read′ l′

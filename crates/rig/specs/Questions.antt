@@ -1,14 +1,15 @@
 -- What the rig's calls ask, in document 01's order.
-use Prim.Native.Nat.{ℕ, zero, suc, _+_, _*_}
-use mathlib.Core.Bool.{Bool, true, false, _&&_}
+use Prim.Native.Nat.{ℕ, zero, suc, _+_, _-_, _*_}
+use mathlib.Core.Bool.{Bool, true, false, cond, _&&_}
 use mathlib.Core.Option.{Option, none, some}
 use mathlib.Core.List.{List, [], _∷_, _++_}
 use lib.Dec.{eqb, leb}
-use lib.ListN.{length, getElem?}
+use lib.ListN.{length, getD, getElem?}
 use Rattle.config.specs.declared.Config.{Config}
-use Rattle.config.specs.Config.{rigQuestions, boardLength, storeLength}
+use Rattle.config.specs.Config.{boardLength, recordLength, rigQuestions, storeLength}
 use Rattle.config.specs.Number.{clientNumber, serverNumber}
-use Rattle.config.specs.Questions.{Question, ask}
+use Rattle.config.specs.Questions.{Question, ask, within}
+use Rattle.flight.specs.Flight.{stands}
 use Rattle.record.specs.Record.{wellFormed}
 use Rattle.server.specs.Within.{stateWithin as serverStateWithin}
 use Rattle.client.specs.declared.State as client
@@ -16,6 +17,9 @@ use Rattle.client.specs.State.{stateWithin}
 use Rattle.protocol.specs.Boards.{BoardCall, questions}
 use Rattle.protocol.specs.Rig.{Code, codeOf, beginWrite, beginRead, handOver, lose, double, crashServer, crashClient}
 use Rattle.parties.specs.declared.Node.{Node}
+use Rattle.rig.specs.declared.Call.{Call}
+use Rattle.rig.specs.declared.Part.{Part}
+use Rattle.rig.specs.declared.Places.{Places}
 use Rattle.rig.specs.declared.Rig.{Rig}
 use Rattle.rig.specs.View.{Lent, flight, view}
 
@@ -23,7 +27,7 @@ use Rattle.rig.specs.View.{Lent, flight, view}
 -- server's store; the rig joins its parties' parts in order of their numbers)"
 unfoldable pub sizedBy : Config → ℕ → ℕ → ℕ → ℕ → ℕ → Bool
 sizedBy cfg m messages stores boards elements =
-    eqb messages (80 * m)
+    eqb messages (recordLength * m)
     && eqb stores (cfg .n * storeLength cfg)
     && eqb boards (cfg .c * boardLength cfg)
     && eqb elements (cfg .c * (cfg .n * cfg .e))
@@ -48,11 +52,22 @@ clientWithin cfg i (some x) = eqb (clientNumber (x .me)) (i + 1) && stateWithin 
 
 -- "is each count, server number, client number and tag in the state within its limit, ..": those of every server and every client. A
 -- party's own number is that of its place.
-unfoldable pub rigWithin : Config → ℕ → Rig → Bool
-rigWithin cfg m r =
-    leb (r .count) m
-    && allBelow (cfg .n) (λ i. serverWithin cfg i (getElem? (r .servers) i))
+abbrev pub partiesWithin : Config → Rig → Bool
+partiesWithin cfg r =
+    allBelow (cfg .n) (λ i. serverWithin cfg i (getElem? (r .servers) i))
     && allBelow (cfg .c) (λ i. clientWithin cfg i (getElem? (r .clients) i))
+
+-- a rig's: at most M messages are in flight, and every party passes
+unfoldable pub rigWithin : Config → ℕ → Rig → Bool
+rigWithin cfg m r = leb (r .count) m && partiesWithin cfg r
+
+-- the two parties of a part, likewise; its count is asked beside
+unfoldable pub partWithin : Config → Part → Bool
+partWithin cfg p = serverWithin cfg (p .server) (some (p .pair .node)) && clientWithin cfg (p .client) (some (p .pair .client))
+
+-- every buffer handed in has its length, whatever the event: the board, the buffer for a read, and those lent to the rig
+abbrev pub allSized : Config → ℕ → List ℕ → List ℕ → Lent → Bool
+allSized cfg m board read l = eqb (length board) (boardLength cfg) && eqb (length read) (boardLength cfg) && sized cfg m l
 
 -- Making: questions 1 to 5; 6, of the starting board and of the buffers lent.
 unfoldable pub makeQuestions : Config → ℕ → List ℕ → Lent → List Question
@@ -74,6 +89,32 @@ formedFor cfg rs i (some double) = true
 formedFor cfg rs i (some crashServer) = true
 formedFor cfg rs i (some crashClient) = true
 
+-- the place of party number p, of 1 to n; the first where there is none
+abbrev pub placeFor : ℕ → ℕ → ℕ
+placeFor n p = cond (within 1 n p) (p - 1) 0
+
+-- the byte at an offset of the record at a position
+abbrev pub byteOf : ℕ → ℕ → List ℕ → ℕ
+byteOf i offset messages = getD messages (recordLength * i + offset) 0
+
+-- the number by which an event is called: of event 3, the byte at an offset of the record at the position, or 0 where none stands there or the
+-- records in flight don't fit the buffer; of any other, the party's
+abbrev pub namedBy : ℕ → ℕ → ℕ → ℕ → ℕ → List ℕ → ℕ
+namedBy count code party i offset messages = cond (eqb code 3) (cond (stands count i messages) (byteOf i offset messages) 0) party
+
+-- the places that an event names: those of the server and of the client of the number by which it is called; offset 2 of a record is its
+-- server, offset 1 its client
+abbrev pub placesOf : Config → ℕ → Call → List ℕ → Places
+placesOf cfg count a messages =
+    record {
+      server = placeFor (cfg .n) (namedBy count (a .code) (a .party) (a .position) 2 messages);
+      client = placeFor (cfg .c) (namedBy count (a .code) (a .party) (a .position) 1 messages);
+    }
+
+-- a part has these places
+abbrev pub hasPlaces : Part → Places → Bool
+hasPlaces p x = eqb (p .server) (x .server) && eqb (p .client) (x .client)
+
 -- 7 to 13, as the protocol has them: 12 is of a record's bytes, and its answer is handed in
 abbrev pub laterQuestions : Config → ℕ → Rig → BoardCall → Lent → List Question
 laterQuestions cfg m r a l =
@@ -83,5 +124,13 @@ laterQuestions cfg m r a l =
 unfoldable pub eventQuestions : Config → ℕ → Rig → BoardCall → List ℕ → Lent → List Question
 eventQuestions cfg m r a read l =
     rigQuestions cfg m
-    ++ ask 6 (eqb (length (a .board)) (boardLength cfg) && eqb (length read) (boardLength cfg) && sized cfg m l && rigWithin cfg m r)
+    ++ ask 6 (allSized cfg m (a .board) read l && rigWithin cfg m r)
     ∷ laterQuestions cfg m r a l
+
+-- An event by a part of a rig: 1 to 5; 6, of every buffer handed in, of how many are in flight, of the part's places, which are to be those that
+-- the event names, and of what its parties keep. 7 to 13 are those of the rig's event (`ChangePost`'s `event`).
+unfoldable pub partQuestions : Config → ℕ → Part → Call → List ℕ → List ℕ → Lent → List Question
+partQuestions cfg m p a board read l =
+    rigQuestions cfg m
+    ++ ask 6 (allSized cfg m board read l && leb (p .count) m && hasPlaces p (placesOf cfg (p .count) a (l .messages)) && partWithin cfg p)
+    ∷ []

@@ -24,8 +24,7 @@ fn asked(cfg: Config, m: usize, part: Part, party: u8) -> u8
     if part.count + cfg.n <= m {
         return 0;
     }
-    let pair = part.pair;
-    let no = client::ask_begin(cfg, pair.client);
+    let no = client::ask_begin(cfg, part.pair.client);
     if no != 0 {
         return no;
     }
@@ -55,10 +54,9 @@ pub(crate) fn write(
     let long = cfg.k * cfg.e;
     let at = part.client * long;
     let to = at + long;
-    let pair = part.pair;
     let acted = parties::begin::write(
         cfg,
-        pair,
+        part.pair,
         board,
         &mut boards[at..to],
         &mut messages[from..end],
@@ -78,7 +76,6 @@ pub(crate) fn read(cfg: Config, m: usize, part: Part, call: Call, messages: &mut
     let count = part.count;
     let from = RECORD * count;
     let end = from + RECORD * cfg.n;
-    let pair = part.pair;
-    let acted = parties::begin::read(cfg, pair, &mut messages[from..end]);
+    let acted = parties::begin::read(cfg, part.pair, &mut messages[from..end]);
     outcome::acted(part, acted, count + acted.sent)
 }

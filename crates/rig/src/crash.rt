@@ -15,8 +15,7 @@ pub(crate) fn server(cfg: Config, part: Part, call: Call) -> Change
     if !named::exists(cfg.n, call.party) {
         return outcome::refused(part, Refusal::Missing);
     }
-    let pair = part.pair;
-    let acted = parties::crash::server(pair);
+    let acted = parties::crash::server(part.pair);
     outcome::acted(part, acted, part.count)
 }
 
@@ -27,7 +26,6 @@ pub(crate) fn client(cfg: Config, part: Part, call: Call) -> Change
     if !named::exists(cfg.c, call.party) {
         return outcome::refused(part, Refusal::Missing);
     }
-    let pair = part.pair;
-    let acted = parties::crash::client(pair);
+    let acted = parties::crash::client(part.pair);
     outcome::acted(part, acted, part.count)
 }

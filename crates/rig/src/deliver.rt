@@ -45,9 +45,14 @@ fn to_server(
     let long = (cfg.d + 1) * cfg.e;
     let at = part.server * long;
     let end = at + long;
-    let pair = part.pair;
     let mut answer = [0u8; RECORD];
-    let acted = parties::deliver::server(cfg, pair, &handed, &mut stores[at..end], &mut answer);
+    let acted = parties::deliver::server(
+        cfg,
+        part.pair,
+        &handed,
+        &mut stores[at..end],
+        &mut answer,
+    );
     settle(part, call.position, acted, &answer, messages)
 }
 
@@ -74,10 +79,9 @@ fn to_client(
     let stop = start + wide;
     let mut sends = [0u8; 1280];
     let end = RECORD * cfg.n;
-    let pair = part.pair;
     let acted = parties::deliver::client(
         cfg,
-        pair,
+        part.pair,
         &handed,
         &boards[at..to],
         &mut elements[start..stop],

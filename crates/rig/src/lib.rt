@@ -14,11 +14,14 @@ mod questions;
 mod within;
 
 use config::Config;
+use config::Refusal;
 use config::Verdict;
 use parties::Answer;
 use parties::Node;
 use parties::Pair;
-ghost use Rattle.rig.specs.Calls.{ChangePost, EventPost, MakePost, called};
+ghost use mathlib.Core.Path.{_≡_};
+ghost use Rattle.rig.specs.Calls.{ChangePost, EventPost, MakePost, called, partAt};
+ghost use Rattle.rig.specs.Questions.{placesOf};
 ghost use Rattle.rig.specs.View.{lent};
 
 // Server s and client c stand in the places s - 1 and c - 1; the places past N and C are not in use. A client that is down says so
@@ -36,12 +39,33 @@ pub struct Call {
     pub position: usize,
 }
 
+// The places of a server and of a client.
+pub struct Places {
+    pub server: usize,
+    pub client: usize,
+}
+
 // What an event can touch of a rig: one server and one client, with their places, and how many records are in flight.
 pub struct Part {
     pub server: usize,
     pub client: usize,
     pub pair: Pair,
     pub count: usize,
+}
+
+impl Part {
+    // The part of these places, parties and count, whatever they are.
+    pub fn of(places: Places, node: Node, client: client::State, count: usize) -> Part
+        ensures { λ p. ⌜ p ≡ partAt places node client count ⌝ }
+    {
+        let pair = Pair { node, client };
+        Part {
+            server: places.server,
+            client: places.client,
+            pair,
+            count,
+        }
+    }
 }
 
 // What an event changes: the part that it can touch, as it leaves it. All else of the rig stays.
@@ -99,7 +123,7 @@ pub fn make(
 pub fn event(
     cfg: Config,
     m: usize,
-    mut rig: Rig,
+    rig: Rig,
     call: Call,
     board: &[u8],
     read: &mut [u8],
@@ -110,10 +134,16 @@ pub fn event(
 ) -> Turn
     ensures { λ r. ⌜ EventPost cfg m rig (called call (now (board .entry))) (now (read .entry)) (lent (now (messages .entry)) (now (stores .entry)) (now (boards .entry)) (now (elements .entry))) r (now (read .exit)) (lent (now (messages .exit)) (now (stores .exit)) (now (boards .exit)) (now (elements .exit))) ⌝ }
 {
+    let no = questions::parties(cfg, m, rig);
+    if no != 0 {
+        return outcome::unturned(rig, Refusal::of(no));
+    }
+    let places = names(cfg, rig.count, call, messages);
+    let part = outcome::part_of(rig, places);
     let change = changes(
         cfg,
         m,
-        rig,
+        part,
         call,
         board,
         read,
@@ -122,24 +152,27 @@ pub fn event(
         boards,
         elements,
     );
-    let answer = change.answer;
-    let part = change.part;
-    let s = part.server;
-    let c = part.client;
-    let pair = part.pair;
-    let node = pair.node;
-    let state = pair.client;
-    rig.servers[s] = node;
-    rig.clients[c] = state;
-    rig.count = part.count;
-    Turn { answer, rig }
+    outcome::turned(rig, change)
 }
 
-// The same event, for a host that keeps its rig in place: what it changes, for the host to put there.
+// The places of the server and of the client of the number by which an event is called: of event 3 the numbers that its record has, of any
+// other the party's for both, used or not; the first place where there is no such party. Both are below 16 where questions 1 to 5 are
+// answered yes.
+pub fn names(cfg: Config, count: usize, call: Call, messages: &[u8]) -> Places
+    ensures { λ r. ⌜ r ≡ placesOf cfg count call (now (messages .entry)) ⌝ }
+{
+    Places {
+        server: named::server(cfg, count, call, messages),
+        client: named::client(cfg, count, call, messages),
+    }
+}
+
+// The same event, questions 1 to 13, for a host that keeps its rig in place: it takes the part whose places `names` gives, and gives it
+// back for the host to put there. 6 is asked of the buffers and of this part, and of no other party.
 pub fn changes(
     cfg: Config,
     m: usize,
-    rig: Rig,
+    part: Part,
     call: Call,
     board: &[u8],
     read: &mut [u8],
@@ -148,7 +181,7 @@ pub fn changes(
     boards: &mut [u8],
     elements: &mut [u8],
 ) -> Change
-    ensures { λ x. ⌜ ChangePost cfg m rig (called call (now (board .entry))) (now (read .entry)) (lent (now (messages .entry)) (now (stores .entry)) (now (boards .entry)) (now (elements .entry))) x (now (read .exit)) (lent (now (messages .exit)) (now (stores .exit)) (now (boards .exit)) (now (elements .exit))) ⌝ }
+    ensures { λ x. ⌜ ChangePost cfg m part call (now (board .entry)) (now (read .entry)) (lent (now (messages .entry)) (now (stores .entry)) (now (boards .entry)) (now (elements .entry))) x (now (read .exit)) (lent (now (messages .exit)) (now (stores .exit)) (now (boards .exit)) (now (elements .exit))) ⌝ }
 {
     let sizes = questions::Sizes {
         messages: messages.len(),
@@ -156,21 +189,16 @@ pub fn changes(
         boards: boards.len(),
         elements: elements.len(),
     };
-    let no = questions::event(cfg, m, rig.count, board.len(), read.len(), sizes);
+    let no = questions::event(cfg, m, part.count, board.len(), read.len(), sizes);
     if no != 0 {
-        return outcome::first(rig.servers[0], rig.clients[0], rig.count, no);
+        return outcome::refused(part, Refusal::of(no));
     }
-    let end = within::places(cfg);
-    let mut i = 0;
-    while i < end {
-        if !within::place(cfg, i, rig.servers[i], rig.clients[i]) {
-            return outcome::first(rig.servers[0], rig.clients[0], rig.count, 6);
-        }
-        i += 1;
+    if !named::has(cfg, part, call, messages) {
+        return outcome::refused(part, Refusal::Shape);
     }
-    let s = named::server(cfg, rig.count, call, messages);
-    let c = named::client(cfg, rig.count, call, messages);
-    let part = outcome::part(s, c, rig.servers[s], rig.clients[c], rig.count);
+    if !within::part(cfg, part) {
+        return outcome::refused(part, Refusal::Shape);
+    }
     dispatch::event(
         cfg,
         m,

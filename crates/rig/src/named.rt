@@ -1,16 +1,17 @@
 // Whom an event names.
 use crate::Call;
+use crate::Part;
 use config::Config;
+use config::RECORD;
 ghost use mathlib.Core.Path.{_≡_};
-ghost use Prim.Native.Nat.{_*_, _≤_, _<_};
-ghost use lib.ListN.{length};
+ghost use Prim.Native.Nat.{_<_};
 ghost use Rattle.config.specs.Questions.{within};
-ghost use Rattle.rig.specs.Calls.{namedBy, placeFor};
+ghost use Rattle.rig.specs.Questions.{hasPlaces, namedBy, placeFor, placesOf};
 
-// The number by which an event is called: of event 3, the byte at an offset of the record at the position, or 0 where there is none; of
-// any other, the party's.
+// The number by which an event is called: of event 3, the byte at an offset of the record at the position, or 0 where none stands there or
+// the records in flight don't fit the buffer; of any other, the party's.
 fn number(count: usize, call: Call, offset: usize, messages: &[u8]) -> usize
-    requires { ⌜ (offset < 80) × (count ≤ 512) × (80 * count ≤ length (now messages)) ⌝ }
+    requires { ⌜ offset < 80 ⌝ }
     ensures { λ r. ⌜ r ≡ namedBy count (call .code) (call .party) (call .position) offset (now (messages .entry)) ⌝ }
 {
     if call.code != 3 {
@@ -20,7 +21,10 @@ fn number(count: usize, call: Call, offset: usize, messages: &[u8]) -> usize
     if count <= position {
         return 0;
     }
-    messages[80 * position + offset] as usize
+    if messages.len() / RECORD < count {
+        return 0;
+    }
+    messages[RECORD * position + offset] as usize
 }
 
 // Whether there is a party of that number, of 1 to n.
@@ -48,7 +52,6 @@ fn place(n: usize, number: usize) -> usize
 
 // The place of the server that an event can touch; offset 2 of a record is its server.
 pub(crate) fn server(cfg: Config, count: usize, call: Call, messages: &[u8]) -> usize
-    requires { ⌜ (count ≤ 512) × (80 * count ≤ length (now messages)) ⌝ }
     ensures { λ r. ⌜ r ≡ placeFor (cfg .n) (namedBy count (call .code) (call .party) (call .position) 2 (now (messages .entry))) ⌝ }
 {
     let s = number(count, call, 2, messages);
@@ -57,9 +60,18 @@ pub(crate) fn server(cfg: Config, count: usize, call: Call, messages: &[u8]) -> 
 
 // That of the client; offset 1 of a record is its client.
 pub(crate) fn client(cfg: Config, count: usize, call: Call, messages: &[u8]) -> usize
-    requires { ⌜ (count ≤ 512) × (80 * count ≤ length (now messages)) ⌝ }
     ensures { λ r. ⌜ r ≡ placeFor (cfg .c) (namedBy count (call .code) (call .party) (call .position) 1 (now (messages .entry))) ⌝ }
 {
     let c = number(count, call, 1, messages);
     place(cfg.c, c)
+}
+
+// Whether a part has the places that an event names.
+pub(crate) fn has(cfg: Config, part: Part, call: Call, messages: &[u8]) -> bool
+    ensures { λ r. ⌜ r ≡ hasPlaces part (placesOf cfg (part .count) call (now (messages .entry))) ⌝ }
+{
+    if part.server != server(cfg, part.count, call, messages) {
+        return false;
+    }
+    part.client == client(cfg, part.count, call, messages)
 }

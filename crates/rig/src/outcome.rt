@@ -1,14 +1,17 @@
 // What an event makes of a part.
 use crate::Change;
 use crate::Part;
+use crate::Places;
+use crate::Rig;
+use crate::Turn;
 use config::Refusal;
 use parties::Acted;
 use parties::Answer;
-use parties::Node;
-use parties::Pair;
 ghost use mathlib.Core.Path.{_≡_};
+ghost use Prim.Native.Nat.{_<_};
+ghost use Rattle.rig.specs.Calls.{turned as turnedBy};
 ghost use Rattle.rig.specs.inner.Deliver.{isRefusal};
-ghost use Rattle.rig.specs.inner.Part.{FirstPost, acting, counting, partAt, refusing};
+ghost use Rattle.rig.specs.inner.Part.{PartAtPost, acting, counting, refusing, unturnedBy};
 
 // A refusal, with the part as it was.
 pub(crate) fn refused(part: Part, why: Refusal) -> Change
@@ -20,33 +23,42 @@ pub(crate) fn refused(part: Part, why: Refusal) -> Change
     }
 }
 
-// What stands in two places, with a count.
-pub(crate) fn part(
-    server: usize,
-    client: usize,
-    node: Node,
-    state: client::State,
-    count: usize,
-) -> Part
-    ensures { λ p. ⌜ p ≡ partAt server client node state count ⌝ }
+// A refusal, with the rig as it was.
+pub(crate) fn unturned(rig: Rig, why: Refusal) -> Turn
+    ensures { λ t. ⌜ t ≡ unturnedBy why rig ⌝ }
 {
-    let pair = Pair {
-        node,
-        client: state,
-    };
-    Part {
-        server,
-        client,
-        pair,
-        count,
+    Turn {
+        answer: Answer::No(why),
+        rig,
     }
 }
 
-// A refusal by its number, with the parties of the first places as they were.
-pub(crate) fn first(node: Node, state: client::State, count: usize, no: u8) -> Change
-    ensures { λ x. ⌜ FirstPost node state count no x ⌝ }
+// What stands in two places of a rig.
+pub(crate) fn part_of(rig: Rig, places: Places) -> Part
+    requires { ⌜ (places .server < 16) × (places .client < 16) ⌝ }
+    ensures { λ p. ⌜ PartAtPost rig places p ⌝ }
 {
-    refused(part(0, 0, node, state, count), Refusal::of(no))
+    let s = places.server;
+    let c = places.client;
+    Part::of(places, rig.servers[s], rig.clients[c], rig.count)
+}
+
+// A rig with what an event leaves of a part of it put in its places.
+pub(crate) fn turned(mut rig: Rig, change: Change) -> Turn
+    requires { ⌜ (change .part .server < 16) × (change .part .client < 16) ⌝ }
+    ensures { λ t. ⌜ t ≡ turnedBy rig change ⌝ }
+{
+    let answer = change.answer;
+    let part = change.part;
+    let s = part.server;
+    let c = part.client;
+    let pair = part.pair;
+    let node = pair.node;
+    let state = pair.client;
+    rig.servers[s] = node;
+    rig.clients[c] = state;
+    rig.count = part.count;
+    Turn { answer, rig }
 }
 
 // Whether an answer is a refusal.

@@ -1,4 +1,6 @@
 // Questions 1 to 6 of the rig's calls: the number of the first that is answered no, or 0.
+use crate::Rig;
+use crate::within;
 use config::Config;
 use config::RECORD;
 ghost use mathlib.Core.List.{[], _∷_, _++_};
@@ -6,6 +8,7 @@ ghost use mathlib.Core.Path.{_≡_};
 ghost use Prim.Native.Nat.{_≤_};
 ghost use Rattle.config.specs.Config.{Valid, mostMessages, rigQuestions};
 ghost use Rattle.config.specs.Questions.{ask as question, firstNo};
+ghost use Rattle.rig.specs.Questions.{partiesWithin};
 ghost use Rattle.rig.specs.inner.Questions.{sizedToEvent, sizedToMake};
 
 // The lengths of the buffers lent to a rig.
@@ -62,6 +65,20 @@ pub(crate) fn make(cfg: Config, m: usize, start: usize, sizes: Sizes) -> u8
         return no;
     }
     if !sized(cfg, m, start, sizes) {
+        return 6;
+    }
+    0
+}
+
+// Questions 1 to 5, and 6 of what every party of a rig keeps.
+pub(crate) fn parties(cfg: Config, m: usize, rig: Rig) -> u8
+    ensures { λ r. ⌜ r ≡ firstNo (rigQuestions cfg m ++ question 6 (partiesWithin cfg rig) ∷ []) ⌝ }
+{
+    let no = cfg.ask_rig(m);
+    if no != 0 {
+        return no;
+    }
+    if !within::all(cfg, rig) {
         return 6;
     }
     0

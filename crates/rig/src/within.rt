@@ -1,10 +1,13 @@
 // Question 6 of what a rig keeps, place by place.
+use crate::Part;
+use crate::Rig;
 use config::Config;
 use parties::Node;
 ghost use mathlib.Core.Bool.{_&&_};
 ghost use mathlib.Core.Path.{_≡_};
 ghost use Prim.Native.Nat.{_<_, _≤_};
 ghost use Rattle.config.specs.Config.{Valid};
+ghost use Rattle.rig.specs.Questions.{partWithin, partiesWithin};
 ghost use Rattle.rig.specs.inner.Within.{clientYes, serverYes};
 
 // Whether the server of place i, if the place is in use, has the number of its place, and what it keeps is within its limits.
@@ -39,7 +42,7 @@ fn client(cfg: Config, i: usize, x: client::State) -> bool
 }
 
 // The same of both parties of place i.
-pub(crate) fn place(cfg: Config, i: usize, x: Node, y: client::State) -> bool
+fn place(cfg: Config, i: usize, x: Node, y: client::State) -> bool
     requires { ⌜ (Valid cfg) × (i < 16) ⌝ }
     ensures { λ r. ⌜ r ≡ (serverYes cfg i x && clientYes cfg i y) ⌝ }
 {
@@ -50,7 +53,7 @@ pub(crate) fn place(cfg: Config, i: usize, x: Node, y: client::State) -> bool
 }
 
 // How many places are in use: the greater of N and C.
-pub(crate) fn places(cfg: Config) -> usize
+fn places(cfg: Config) -> usize
     requires { ⌜ Valid cfg ⌝ }
     ensures { λ r. ⌜ (cfg .n ≤ r) × (cfg .c ≤ r) × (r ≤ 16) ⌝ }
 {
@@ -58,4 +61,31 @@ pub(crate) fn places(cfg: Config) -> usize
         return cfg.c;
     }
     cfg.n
+}
+
+// Whether what every party of a rig keeps is within its limits.
+pub(crate) fn all(cfg: Config, rig: Rig) -> bool
+    requires { ⌜ Valid cfg ⌝ }
+    ensures { λ r. ⌜ r ≡ partiesWithin cfg rig ⌝ }
+{
+    let end = places(cfg);
+    let mut i = 0;
+    while i < end {
+        if !place(cfg, i, rig.servers[i], rig.clients[i]) {
+            return false;
+        }
+        i += 1;
+    }
+    true
+}
+
+// Whether what the parties of a part keep is.
+pub(crate) fn part(cfg: Config, part: Part) -> bool
+    requires { ⌜ (Valid cfg) × (part .server < cfg .n) × (part .client < cfg .c) ⌝ }
+    ensures { λ r. ⌜ r ≡ partWithin cfg part ⌝ }
+{
+    if !server(cfg, part.server, part.pair.node) {
+        return false;
+    }
+    client(cfg, part.client, part.pair.client)
 }

@@ -73,7 +73,11 @@ slice-aggregate-begin-4 c =
     sym (length-take-le (n .result .elements) (r .result) (omega (arith, r .ensures, n .ensures .4)))
 
 begin-requires : tie.Need-begin-requires
-begin-requires c κs = search needs
+begin-requires c κs =
+    let s = c .before .before .before .before .before .before .before .before .before .before .before .before in (
+      rig-valid (s .args .cfg) (s .args .m) (c .before .before .before .before .before .before .before .before .before .before .ask-rig .ensures) (c .before .before .before .before .before .before .before .before .before .if1 .left),
+      c .before .before .before .before .measured .ensures .0,
+    )
 
 returns-2 : tie.Need-returns-2
 returns-2 c = search needs

@@ -46,8 +46,8 @@ use Rattle.rig.specs.declared.Change.{Change}
 use Rattle.rig.specs.declared.Part.{Part}
 use Rattle.rig.specs.declared.Rig.{Rig}
 use Rattle.rig.specs.View.{Lent, flight, lent, messagesOf, partiesOf, view}
-use Rattle.rig.specs.Questions.{formed, formedFor}
-use Rattle.rig.specs.Calls.{EventPost, called, eventNo, placeFor, recordsAfter, turned}
+use Rattle.rig.specs.Questions.{formed, formedFor, placeFor}
+use Rattle.rig.specs.Calls.{EventPost, called, eventNo, recordsAfter, turned}
 use Rattle.rig.specs.inner.Deliver.{HandOverPost, HandedPre, SettlePost, ToClientPost, ToServerPost, isRefusal}
 use Rattle.rig.specs.inner.Part.{acting, refusing}
 use Rattle.rig.specs.inner.Turn.{Ready}
@@ -166,7 +166,7 @@ module _ {cfg : Config} {m : ℕ} {r : Rig} {p : Part} {a : Call} {board read : 
         ∙ place-back (cfg .n) (serverAt handed) (p .server)
         (ready .names .server
         ∙ ap (placeFor (cfg .n))
-        (sym (by-record (p .count) (a .code) (a .party) i 2 (l .messages) code inside) ∙ sym (record-byte i 2 (l .messages) (omega arith))))
+        (sym (by-record (p .count) (a .code) (a .party) i 2 (l .messages) code inside (count-fits ready)) ∙ sym (record-byte i 2 (l .messages) (omega arith))))
         (its-server cfg handed well))
 
     client-named : wellFormed cfg handed ≡ true → messageOf cfg handed .client ≡ clientNumber (p .pair .client .me)
@@ -176,7 +176,7 @@ module _ {cfg : Config} {m : ℕ} {r : Rig} {p : Part} {a : Call} {board read : 
         ∙ place-back (cfg .c) (clientAt handed) (p .client)
         (ready .names .client
         ∙ ap (placeFor (cfg .c))
-        (sym (by-record (p .count) (a .code) (a .party) i 1 (l .messages) code inside) ∙ sym (record-byte i 1 (l .messages) (omega arith))))
+        (sym (by-record (p .count) (a .code) (a .party) i 1 (l .messages) code inside (count-fits ready)) ∙ sym (record-byte i 1 (l .messages) (omega arith))))
         (its-client cfg handed well))
 
     -- 16 is answered yes where 12 is

@@ -1,14 +1,15 @@
 -- Whom an event names: the place of a number, and the number. Assumes nothing.
-use Prim.Native.Nat.{ℕ, _+_, _-_, _≤_, _<_}
+use Prim.Native.Nat.{ℕ, _+_, _-_, _*_, _≤_, _<_}
 use mathlib.Core.Path.{_≡_, refl, sym, ap, subst, _∙_}
 use mathlib.Core.Bool.{Bool, true, false, _&&_}
 use mathlib.Core.List.{List}
 use native.Mathlib.Omega.{arith}
-use borrow.Author.Tests.{eq-eqb, ne-eqb, le-leb, lt-leb}
+use borrow.Author.Tests.{eq-eqb, ne-eqb, le-leb, le-ltb, lt-leb, lt-ltb}
 use lib.Dec.{leb}
+use lib.ListN.{length}
 use Rattle.config.specs.Questions.{within}
 use Rattle.config.proofs.Questions.{within-high, within-low, within-true}
-use Rattle.rig.specs.Calls.{byteOf, namedBy, placeFor}
+use Rattle.rig.specs.Questions.{byteOf, namedBy, placeFor}
 
 -- a number that is none of 1 to n
 pub outside-low : (n q : ℕ) → q < 1 → within 1 n q ≡ false
@@ -43,7 +44,11 @@ module _ (count code party i offset : ℕ) (messages : List ℕ) where
   by-party ne = rw (ne-eqb code 3 ne)
 
   pub by-none : code ≡ 3 → count ≤ i → 0 ≡ namedBy count code party i offset messages
-  by-none e h = rw (eq-eqb code 3 e, le-leb count i h)
+  by-none e h = rw (eq-eqb code 3 e, le-ltb i count h)
 
-  pub by-record : code ≡ 3 → i < count → byteOf i offset messages ≡ namedBy count code party i offset messages
-  by-record e h = rw (eq-eqb code 3 e, lt-leb count i h)
+  -- the buffer has not so many records
+  pub by-short : code ≡ 3 → i < count → length messages < 80 * count → 0 ≡ namedBy count code party i offset messages
+  by-short e h short = rw (eq-eqb code 3 e, lt-ltb i count h, lt-leb (80 * count) (length messages) short)
+
+  pub by-record : code ≡ 3 → i < count → 80 * count ≤ length messages → byteOf i offset messages ≡ namedBy count code party i offset messages
+  by-record e h fit = rw (eq-eqb code 3 e, lt-ltb i count h, le-leb (80 * count) (length messages) fit)

@@ -22,10 +22,9 @@ use Rattle.client.specs.declared.State as client
 use Rattle.client.specs.State.{stateWithin}
 use Rattle.parties.specs.declared.Node.{Node}
 use Rattle.rig.specs.declared.Rig.{Rig}
-use Rattle.rig.specs.Questions.{allBelow, clientWithin, rigWithin, serverWithin}
+use Rattle.rig.specs.Questions.{allBelow, clientWithin, partiesWithin, serverWithin}
 use Rattle.rig.specs.inner.Within.{clientYes, serverYes, unless}
 use Rattle.rig.proofs.Below.{below-all, below-at}
-use Rattle.rig.proofs.RigWithin.{clients-within, servers-within}
 
 -- 1 to 5 are answered yes: the number is 0 exactly if 6 is
 pub six-told : (cfg : Config) → Valid cfg → (holds : Bool) (got : ℕ) → got ≡ firstNo (questions cfg ++ ask 6 holds ∷ []) → eqb got 0 ≡ holds
@@ -86,28 +85,25 @@ module _ (cfg : Config) (r : Rig) where
       ap₂ (λ (u : Option Node) (w : Option client.State). unless (cfg .n) i (serverWithin cfg i u) && unless (cfg .c) i (clientWithin cfg i w))
       (sym (at-getD (r .servers) i x h)) (sym (at-getD (r .clients) i y k))
 
-  module _ (m : ℕ) where
-    -- all places are in order
-    pub all-within : r .count ≤ m → (most : ℕ) → cfg .n ≤ most → cfg .c ≤ most → allBelow most placeYes ≡ true → rigWithin cfg m r ≡ true
-    unfolding rigWithin
-    all-within few most a b h =
-        ap₂ _&&_
-        (ap₂ _&&_ (le-leb (r .count) m few)
-        (below-all (cfg .n) serverAt (λ i l. is-asked (cfg .n) i (serverAt i) l
-        ∙ and-left (unless (cfg .n) i (serverAt i)) (unless (cfg .c) i (clientAt i)) (below-at most placeYes h i (omega (arith, l, a))))))
-        (below-all (cfg .c) clientAt (λ i l. is-asked (cfg .c) i (clientAt i) l
-        ∙ and-right (unless (cfg .n) i (serverAt i)) (unless (cfg .c) i (clientAt i)) (below-at most placeYes h i (omega (arith, l, b)))))
+  -- all places are in order
+  pub all-within : (most : ℕ) → cfg .n ≤ most → cfg .c ≤ most → allBelow most placeYes ≡ true → partiesWithin cfg r ≡ true
+  all-within most a b h =
+      ap₂ _&&_
+      (below-all (cfg .n) serverAt (λ i l. is-asked (cfg .n) i (serverAt i) l
+      ∙ and-left (unless (cfg .n) i (serverAt i)) (unless (cfg .c) i (clientAt i)) (below-at most placeYes h i (omega (arith, l, a)))))
+      (below-all (cfg .c) clientAt (λ i l. is-asked (cfg .c) i (clientAt i) l
+      ∙ and-right (unless (cfg .n) i (serverAt i)) (unless (cfg .c) i (clientAt i)) (below-at most placeYes h i (omega (arith, l, b)))))
 
-    place-yes : rigWithin cfg m r ≡ true → (i : ℕ) → placeYes i ≡ true
-    place-yes h i =
-        ap₂ _&&_
-        (asked-yes (cfg .n) i (serverAt i) (below-at (cfg .n) serverAt (servers-within cfg m r h) i))
-        (asked-yes (cfg .c) i (clientAt i) (below-at (cfg .c) clientAt (clients-within cfg m r h) i))
+  place-yes : partiesWithin cfg r ≡ true → (i : ℕ) → placeYes i ≡ true
+  place-yes h i =
+      ap₂ _&&_
+      (asked-yes (cfg .n) i (serverAt i) (below-at (cfg .n) serverAt (and-left (allBelow (cfg .n) serverAt) (allBelow (cfg .c) clientAt) h) i))
+      (asked-yes (cfg .c) i (clientAt i) (below-at (cfg .c) clientAt (and-right (allBelow (cfg .n) serverAt) (allBelow (cfg .c) clientAt) h) i))
 
-    -- a place is not
-    pub place-no : (i : ℕ) → placeYes i ≡ false → rigWithin cfg m r ≡ false
-    place-no i h = told (rigWithin cfg m r) refl
-      where
-        told : (b : Bool) → rigWithin cfg m r ≡ b → rigWithin cfg m r ≡ false
-        told true e = absurd (true≢false (sym (place-yes e i) ∙ h))
-        told false e = e
+  -- a place is not
+  pub place-no : (i : ℕ) → placeYes i ≡ false → partiesWithin cfg r ≡ false
+  place-no i h = told (partiesWithin cfg r) refl
+    where
+      told : (b : Bool) → partiesWithin cfg r ≡ b → partiesWithin cfg r ≡ false
+      told true e = absurd (true≢false (sym (place-yes e i) ∙ h))
+      told false e = e

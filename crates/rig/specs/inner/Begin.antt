@@ -6,6 +6,7 @@ use mathlib.Core.List.{List}
 use lib.Dec.{eqb, leb}
 use lib.ListN.{length}
 use Rattle.config.specs.declared.Config.{Config}
+use Rattle.config.specs.Config.{recordLength}
 use Rattle.config.specs.Questions.{firstNo, within}
 use Rattle.client.specs.Questions.{askBeginQuestions}
 use Rattle.rig.specs.declared.Call.{Call}
@@ -27,7 +28,7 @@ askedNo cfg m p party =
 -- what a beginning asks of the part and of the messages
 pub record BeginPre (cfg : Config) (m : ℕ) (p : Part) (messages : List ℕ) : Type 0 where
   pub part : PartPre cfg p messages
-  pub long : length messages ≡ 80 * m
+  pub long : length messages ≡ recordLength * m
 
 -- event 1
 abbrev pub WritePost : Config → ℕ → Part → Call → List ℕ → List ℕ → List ℕ → Change → List ℕ → List ℕ → Type 0

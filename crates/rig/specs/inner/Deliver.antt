@@ -6,7 +6,7 @@ use mathlib.Core.List.{List, _++_}
 use lib.ListN.{length}
 use Rattle.laws.specs.Lists.{without}
 use Rattle.config.specs.declared.Config.{Config}
-use Rattle.config.specs.Config.{boardLength}
+use Rattle.config.specs.Config.{boardLength, recordLength}
 use Rattle.record.specs.Kinds.{isForServer}
 use Rattle.record.specs.Record.{kindAt, kindOf}
 use Rattle.config.specs.Config.{storeLength}
@@ -40,7 +40,7 @@ pub record SettlePost (p : Part) (i : ℕ) (y : Acted) (sends messages : List �
   pub acts : x ≡ acting y n p
   pub long : length messages′ ≡ length messages
   pub held : isRefusal (y .answer) ≡ true → (n ≡ p .count) × (messages′ ≡ messages)
-  pub settled : isRefusal (y .answer) ≡ false → i < p .count → 80 * p .count ≤ length messages → 80 * (p .count - 1 + y .sent) ≤ length messages
+  pub settled : isRefusal (y .answer) ≡ false → i < p .count → recordLength * p .count ≤ length messages → recordLength * (p .count - 1 + y .sent) ≤ length messages
       → (n ≡ p .count - 1 + y .sent) × (records n messages′ ≡ without i (records (p .count) messages) ++ records (y .sent) sends)
 
 -- the message is for the part's server

@@ -22,7 +22,7 @@ slice-aggregate-blocks : tie.Need-slice-aggregate-blocks
 slice-aggregate-blocks c =
     let s = c .before .before .before .before .before .before .before .before in
     let r = c .before .before .before .buffer in
-    sym (length-take-le (s .args .v) (r .result) (omega (arith, r .ensures, s .pre)))
+    sym (length-take-le (s .args .v) (r .result) (omega (arith, r .ensures, s .pre .1)))
 
 slice-aggregate-blocks-2 : tie.Need-slice-aggregate-blocks-2
 slice-aggregate-blocks-2 c = search needs
@@ -34,10 +34,10 @@ blocks-requires : tie.Need-blocks-requires
 blocks-requires c κs =
     let s = c .before .before .before .before .before .before .before .before .before .before .before .before .before .before in
     let r = c .before .before .before .before .before .before .before .before .before .buffer in
-    let long = length-take-le (s .args .v) (r .result) (omega (arith, r .ensures, s .pre)) in
+    let long = length-take-le (s .args .v) (r .result) (omega (arith, r .ensures, s .pre .1)) in
     let i = c .before .before .before .before .before .before .before .before .large-buffer .ensures in
     let o = c .before .before .before .before .before .before .before .large-buffer2 .ensures in
-    ((omega arith, omega arith), (omega (arith, long, s .pre, i), omega (arith, long, s .pre, o)))
+    ((s .pre .0, omega arith, omega arith), (omega (arith, long, s .pre .1, i), omega (arith, long, s .pre .1, o)))
 
 same-length : tie.Need-same-length
 same-length c = search needs

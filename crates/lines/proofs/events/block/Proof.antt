@@ -4,6 +4,7 @@ use mathlib.Core.Path.{_≡_}
 use lib.ListN.{length}
 use native.Mathlib.Omega.{arith}
 use borrow.Author.Needs.{needs}
+use Rattle.rig.proofs.Inside.{named-inside}
 use Rattle.lines.proofs.events.block.Statement.{statement}
 use Rattle.lines.proofs.events.block.Tie as tie
 
@@ -49,55 +50,73 @@ sub-if1 c = search needs
 add-next : tie.Need-add-next Inv-loop μ-loop
 add-next c = search needs
 
-add-bytes : tie.Need-add-bytes Inv-loop μ-loop
-add-bytes c = search needs
-
 called-requires : tie.Need-called-requires Inv-loop μ-loop
 called-requires c κs = search needs
 
-sub-changes : tie.Need-sub-changes Inv-loop μ-loop
-sub-changes c = search needs
+names-requires : tie.Need-names-requires Inv-loop μ-loop
+names-requires c κs = search needs
 
-part-changes-start : tie.Need-part-changes-start Inv-loop μ-loop
-part-changes-start c = search needs
+mul-of : tie.Need-mul-of Inv-loop μ-loop
+mul-of c = omega (arith, named-inside (c .before .before .before .before .before .before .before .before .before .before .before .before .before .before .before .pre .0 .0) (c .before .before .before .before .before .before .loop .rig .count) (c .before .before .called .result) (c .before .before .before .before .before .before .loop .messages) (c .names .ensures) .0)
 
-part-changes-end : tie.Need-part-changes-end Inv-loop μ-loop
-part-changes-end c = search needs
+element-copy-out-of : tie.Need-element-copy-out-of Inv-loop μ-loop
+element-copy-out-of c = omega (arith, named-inside (c .before .before .before .before .before .before .before .before .before .before .before .before .before .before .before .pre .0 .0) (c .before .before .before .before .before .before .loop .rig .count) (c .before .before .called .result) (c .before .before .before .before .before .before .loop .messages) (c .names .ensures) .0)
+
+mul-of-2 : tie.Need-mul-of-2 Inv-loop μ-loop
+mul-of-2 c = omega (arith, named-inside (c .before .before .before .before .before .before .before .before .before .before .before .before .before .before .before .before .pre .0 .0) (c .before .before .before .before .before .before .before .loop .rig .count) (c .before .before .before .called .result) (c .before .before .before .before .before .before .before .loop .messages) (c .before .names .ensures) .1)
+
+element-copy-out-of-2 : tie.Need-element-copy-out-of-2 Inv-loop μ-loop
+element-copy-out-of-2 c = omega (arith, named-inside (c .before .before .before .before .before .before .before .before .before .before .before .before .before .before .before .before .pre .0 .0) (c .before .before .before .before .before .before .before .loop .rig .count) (c .before .before .before .called .result) (c .before .before .before .before .before .before .before .loop .messages) (c .before .names .ensures) .1)
+
+of-requires : tie.Need-of-requires Inv-loop μ-loop
+of-requires c κs = search needs
+
+add-board : tie.Need-add-board Inv-loop μ-loop
+add-board c = search needs
+
+sub-board : tie.Need-sub-board Inv-loop μ-loop
+sub-board c = search needs
+
+part-board-start : tie.Need-part-board-start Inv-loop μ-loop
+part-board-start c = search needs
+
+part-board-end : tie.Need-part-board-end Inv-loop μ-loop
+part-board-end c = search needs
 
 changes-requires : tie.Need-changes-requires Inv-loop μ-loop
 changes-requires c κs = search needs
 
 mul-node : tie.Need-mul-node Inv-loop μ-loop
-mul-node c = omega (arith, c .before .before .before .before .before .before .before .before .before .before .before .before .before .before .changes .ensures .inside .0)
+mul-node c = omega (arith, named-inside (c .before .before .before .before .before .before .before .before .before .before .before .before .before .before .before .before .before .before .before .before .before .before .before .before .before .before .before .before .before .before .before .before .before .before .before .before .before .before .before .pre .0 .0) (c .before .before .before .before .before .before .before .before .before .before .before .before .before .before .before .before .before .before .before .before .before .before .before .before .before .before .before .before .before .before .loop .rig .count) (c .before .before .before .before .before .before .before .before .before .before .before .before .before .before .before .before .before .before .before .before .before .before .before .before .before .before .called .result) (c .before .before .before .before .before .before .before .before .before .before .before .before .before .before .before .before .before .before .before .before .before .before .before .before .before .before .before .before .before .before .loop .messages) (c .before .before .before .before .before .before .before .before .before .before .before .before .before .before .before .before .before .before .before .before .before .before .before .before .names .ensures) .0)
 
 element-set-from-node : tie.Need-element-set-from-node Inv-loop μ-loop
-element-set-from-node c = omega (arith, c .before .before .before .before .before .before .before .before .before .before .before .before .before .before .changes .ensures .inside .0)
+element-set-from-node c = omega (arith, named-inside (c .before .before .before .before .before .before .before .before .before .before .before .before .before .before .before .before .before .before .before .before .before .before .before .before .before .before .before .before .before .before .before .before .before .before .before .before .before .before .before .pre .0 .0) (c .before .before .before .before .before .before .before .before .before .before .before .before .before .before .before .before .before .before .before .before .before .before .before .before .before .before .before .before .before .before .loop .rig .count) (c .before .before .before .before .before .before .before .before .before .before .before .before .before .before .before .before .before .before .before .before .before .before .before .before .before .before .called .result) (c .before .before .before .before .before .before .before .before .before .before .before .before .before .before .before .before .before .before .before .before .before .before .before .before .before .before .before .before .before .before .loop .messages) (c .before .before .before .before .before .before .before .before .before .before .before .before .before .before .before .before .before .before .before .before .before .before .before .before .names .ensures) .0)
 
 mul-client : tie.Need-mul-client Inv-loop μ-loop
-mul-client c = omega (arith, c .before .before .before .before .before .before .before .before .before .before .before .before .before .before .changes .ensures .inside .1)
+mul-client c = omega (arith, named-inside (c .before .before .before .before .before .before .before .before .before .before .before .before .before .before .before .before .before .before .before .before .before .before .before .before .before .before .before .before .before .before .before .before .before .before .before .before .before .before .before .pre .0 .0) (c .before .before .before .before .before .before .before .before .before .before .before .before .before .before .before .before .before .before .before .before .before .before .before .before .before .before .before .before .before .before .loop .rig .count) (c .before .before .before .before .before .before .before .before .before .before .before .before .before .before .before .before .before .before .before .before .before .before .before .before .before .before .called .result) (c .before .before .before .before .before .before .before .before .before .before .before .before .before .before .before .before .before .before .before .before .before .before .before .before .before .before .before .before .before .before .loop .messages) (c .before .before .before .before .before .before .before .before .before .before .before .before .before .before .before .before .before .before .before .before .before .before .before .before .names .ensures) .1)
 
 element-set-from-client : tie.Need-element-set-from-client Inv-loop μ-loop
-element-set-from-client c = omega (arith, c .before .before .before .before .before .before .before .before .before .before .before .before .before .before .changes .ensures .inside .1)
+element-set-from-client c = omega (arith, named-inside (c .before .before .before .before .before .before .before .before .before .before .before .before .before .before .before .before .before .before .before .before .before .before .before .before .before .before .before .before .before .before .before .before .before .before .before .before .before .before .before .pre .0 .0) (c .before .before .before .before .before .before .before .before .before .before .before .before .before .before .before .before .before .before .before .before .before .before .before .before .before .before .before .before .before .before .loop .rig .count) (c .before .before .before .before .before .before .before .before .before .before .before .before .before .before .before .before .before .before .before .before .before .before .before .before .before .before .called .result) (c .before .before .before .before .before .before .before .before .before .before .before .before .before .before .before .before .before .before .before .before .before .before .before .before .before .before .before .before .before .before .loop .messages) (c .before .before .before .before .before .before .before .before .before .before .before .before .before .before .before .before .before .before .before .before .before .before .before .before .names .ensures) .1)
 
 line-requires : tie.Need-line-requires Inv-loop μ-loop
 line-requires c κs =
-    let l = c .before .before .before .before .before .before .before .before .before .before .before .before .before .before .before .before .before .before .before .before .before .before .before .before .before .before .before .loop in
+    let l = c .before .before .before .before .before .before .before .before .before .before .before .before .before .before .before .before .before .before .before .before .before .before .before .before .before .before .before .before .before .before .before .before .loop in
     let e = c .before .before .before .before .before .before .before .before .before .before .before .before .before .before .before .before .changes in
-    omega (arith, l .inv .0 .reads, l .inv .0 .writes, l .inv .0 .rooms, e .kept .1 .1 .1 .1 .1 .0, c .before .before .before .before .before .before .before .before .before .before .before .before .before .before .before .before .before .before .before .before .before .before .before .before .if2 .left)
+    omega (arith, l .inv .0 .reads, l .inv .0 .writes, l .inv .0 .rooms, e .kept .1 .1 .1 .1 .1 .0, c .before .before .before .before .before .before .before .before .before .before .before .before .before .before .before .before .before .before .before .before .before .before .before .before .before .before .before .before .before .if2 .left)
 
 wrapping-add-u64-requires : tie.Need-wrapping-add-u64-requires Inv-loop μ-loop
 wrapping-add-u64-requires c κs = search needs
 
 loop-less : tie.Need-loop-less Inv-loop μ-loop
 loop-less c =
-    let i = c .before .before .before .before .before .before .before .before .before .before .before .before .before .before .before .before .before .before .before .before .before .before .before .before .before .before .before .before .before .before .before .loop .inv .0 in
-    omega (arith, i .sizes, i .before, c .before .before .before .before .before .before .before .before .before .before .before .before .before .before .before .before .before .before .before .before .before .before .before .before .before .before .before .before .before .if1 .taken)
+    let i = c .before .before .before .before .before .before .before .before .before .before .before .before .before .before .before .before .before .before .before .before .before .before .before .before .before .before .before .before .before .before .before .before .before .before .before .before .loop .inv .0 in
+    omega (arith, i .sizes, i .before, c .before .before .before .before .before .before .before .before .before .before .before .before .before .before .before .before .before .before .before .before .before .before .before .before .before .before .before .before .before .before .before .before .before .before .if1 .taken)
 
 loop-again : tie.Need-loop-again Inv-loop μ-loop
 loop-again c =
-    let i = c .before .before .before .before .before .before .before .before .before .before .before .before .before .before .before .before .before .before .before .before .before .before .before .before .before .before .before .before .before .before .before .loop .inv in
-    let more = c .before .before .before .before .before .before .before .before .before .before .before .before .before .before .before .before .before .before .before .before .before .before .before .before .before .before .before .before .before .if1 .taken in
-    let room = c .before .before .before .before .before .before .before .before .before .before .before .before .before .before .before .before .before .before .before .before .before .before .before .before .before .before .before .before .if2 .left in
+    let i = c .before .before .before .before .before .before .before .before .before .before .before .before .before .before .before .before .before .before .before .before .before .before .before .before .before .before .before .before .before .before .before .before .before .before .before .before .loop .inv in
+    let more = c .before .before .before .before .before .before .before .before .before .before .before .before .before .before .before .before .before .before .before .before .before .before .before .before .before .before .before .before .before .before .before .before .before .before .if1 .taken in
+    let room = c .before .before .before .before .before .before .before .before .before .before .before .before .before .before .before .before .before .before .before .before .before .before .before .before .before .before .before .before .before .before .before .before .before .if2 .left in
     let e = c .before .before .before .before .before .before .before .before .before .before .before .before .before .before .before .before .before .before .before .before .changes in
     let l = c .before .before .before .line in (
       record {
@@ -170,11 +189,17 @@ block-spec =
     loop-holds
     sub-if1
     add-next
-    add-bytes
     called-requires
-    sub-changes
-    part-changes-start
-    part-changes-end
+    names-requires
+    mul-of
+    element-copy-out-of
+    mul-of-2
+    element-copy-out-of-2
+    of-requires
+    add-board
+    sub-board
+    part-board-start
+    part-board-end
     changes-requires
     mul-node
     element-set-from-node

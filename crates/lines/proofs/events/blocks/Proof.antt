@@ -72,7 +72,7 @@ returns : tie.Need-returns Inv-loop μ-loop
 returns c = search needs
 
 block-requires : tie.Need-block-requires Inv-loop μ-loop
-block-requires c κs = search needs
+block-requires c κs = ((c .before .before .before .before .before .before .before .before .before .before .before .before .before .before .before .before .before .before .before .before .before .before .pre .0 .0, (search needs), (search needs)), (search needs))
 
 flush-requires : tie.Need-flush-requires Inv-loop μ-loop
 flush-requires c κs = search needs

@@ -26,14 +26,14 @@ ask-begin-requires c κs = search needs
 
 returns-3 : tie.Need-returns-3
 returns-3 c =
-    let a = c .before .before .before .before .before .before .before .before .args in
-    asked-idle (a .cfg) (a .m) (a .part) (a .party) (sym (c .before .before .before .before .before .before .before .exists .ensures) ∙ not-false _ (c .before .before .before .before .before .before .if1 .left)) (c .before .before .before .if2 .left)
+    let a = c .before .before .before .before .before .before .before .args in
+    asked-idle (a .cfg) (a .m) (a .part) (a .party) (sym (c .before .before .before .before .before .before .exists .ensures) ∙ not-false _ (c .before .before .before .before .before .if1 .left)) (c .before .before .if2 .left)
     (c .before .ask-begin .result) (c .before .ask-begin .ensures) (c .if3 .taken)
 
 returns-4 : tie.Need-returns-4
 returns-4 c =
-    let a = c .before .before .before .before .before .before .before .before .args in
-    asked-full (a .cfg) (a .m) (a .part) (a .party) (sym (c .before .before .before .before .before .before .before .exists .ensures) ∙ not-false _ (c .before .before .before .before .before .before .if1 .left)) (c .before .before .before .if2 .left)
+    let a = c .before .before .before .before .before .before .before .args in
+    asked-full (a .cfg) (a .m) (a .part) (a .party) (sym (c .before .before .before .before .before .before .exists .ensures) ∙ not-false _ (c .before .before .before .before .before .if1 .left)) (c .before .before .if2 .left)
     (c .before .ask-begin .result) (c .before .ask-begin .ensures) (c .if3 .left)
 
 pub asked-spec : {M : Type 1} → statement M

@@ -42,16 +42,16 @@ part-read-start c = search needs
 
 part-read-end : tie.Need-part-read-end
 part-read-end c =
-    let s = c .before .before .before .before .before in
+    let s = c .before .before .before .before in
     let a = s .args in
-    omega (arith, s .pre .long, asked-yes (a .cfg) (a .m) (a .part) (a .call .party) (sym (c .before .before .if1 .left) ∙ c .before .before .before .asked .ensures) .1)
+    omega (arith, s .pre .long, asked-yes (a .cfg) (a .m) (a .part) (a .call .party) (sym (c .before .if1 .left) ∙ c .before .before .asked .ensures) .1)
 
 read-requires : tie.Need-read-requires
 read-requires c κs = search needs
 
 add-acted : tie.Need-add-acted
 add-acted c =
-    let s = c .before .before .before .before .before .before .before .before .before .before in
+    let s = c .before .before .before .before .before .before .before .before .before in
     omega (arith, sent-room (s .pre .part .valid .e-high) (c .before .before .before .read .ensures [] [] [] []), c .before .before .messages .given .0, s .pre .part .few, s .pre .part .valid .n-high)
 
 acted-requires : tie.Need-acted-requires
@@ -62,11 +62,11 @@ same-length c = search needs
 
 returns-2 : tie.Need-returns-2
 returns-2 c =
-    let s = c .before .before .before .before .before .before .before .before .before .before .before in
+    let s = c .before .before .before .before .before .before .before .before .before .before in
     let a = s .args in
     let n = a .part .count in
     let w = c .before .before .before .before .read in
-    read-acted (a .cfg) (a .m) (a .part) (a .call) (now (a .messages)) (c .acted .result) (sym (c .before .before .before .before .before .before .before .before .if1 .left) ∙ c .before .before .before .before .before .before .before .before .before .asked .ensures)
+    read-acted (a .cfg) (a .m) (a .part) (a .call) (now (a .messages)) (c .acted .result) (sym (c .before .before .before .before .before .before .before .if1 .left) ∙ c .before .before .before .before .before .before .before .before .asked .ensures)
     (s .pre .long) (w .result) _ (w .last .1 .1 .0) _ (c .acted .ensures) (lent-is (now (a .messages)) (80 * n) (80 * a .cfg .n))
     (over-lent (80 * n) (80 * a .cfg .n) (w .last .1 .1 .0) (now (a .messages)))
     (c .before .before .before .messages .given .0) (w .ensures)

@@ -60,7 +60,7 @@ part-write-start c = search needs
 
 part-write-end : tie.Need-part-write-end
 part-write-end c =
-    let s = c .before .before .before .before .before .before .before .before .before in
+    let s = c .before .before .before .before .before .before .before .before in
     let a = s .args in
     omega (arith, part-fits (a .part .client) (a .cfg .c) (boardLength (a .cfg)) (s .pre .0 .part .client), s .pre .1)
 
@@ -72,16 +72,16 @@ part-write-start-2 c = search needs
 
 part-write-end-2 : tie.Need-part-write-end-2
 part-write-end-2 c =
-    let s = c .before .before .before .before .before .before .before .before .before .before in
+    let s = c .before .before .before .before .before .before .before .before .before in
     let a = s .args in
-    omega (arith, s .pre .0 .long, asked-yes (a .cfg) (a .m) (a .part) (a .call .party) (sym (c .before .before .before .before .before .if1 .left) ∙ c .before .before .before .before .before .before .asked .ensures) .1)
+    omega (arith, s .pre .0 .long, asked-yes (a .cfg) (a .m) (a .part) (a .call .party) (sym (c .before .before .before .before .if1 .left) ∙ c .before .before .before .before .before .asked .ensures) .1)
 
 write-requires : tie.Need-write-requires
 write-requires c κs = search needs
 
 add-acted : tie.Need-add-acted
 add-acted c =
-    let s = c .before .before .before .before .before .before .before .before .before .before .before .before .before .before .before .before .before in
+    let s = c .before .before .before .before .before .before .before .before .before .before .before .before .before .before .before .before in
     omega (arith, sent-room (s .pre .0 .part .valid .e-high) (c .before .before .before .before .before .write .ensures [] [] []), c .before .before .messages .given .0, s .pre .0 .part .few, s .pre .0 .part .valid .n-high)
 
 acted-requires : tie.Need-acted-requires
@@ -95,12 +95,12 @@ same-length-2 c = search needs
 
 returns-2 : tie.Need-returns-2
 returns-2 c =
-    let s = c .before .before .before .before .before .before .before .before .before .before .before .before .before .before .before .before .before .before in
+    let s = c .before .before .before .before .before .before .before .before .before .before .before .before .before .before .before .before .before in
     let a = s .args in
     let n = a .part .count in
     let v = boardLength (a .cfg) in
     let w = c .before .before .before .before .before .before .write in
-    write-acted (a .cfg) (a .m) (a .part) (a .call) (now (a .messages)) (c .acted .result) (sym (c .before .before .before .before .before .before .before .before .before .before .before .before .before .if1 .left) ∙ c .before .before .before .before .before .before .before .before .before .before .before .before .before .before .asked .ensures)
+    write-acted (a .cfg) (a .m) (a .part) (a .call) (now (a .messages)) (c .acted .result) (sym (c .before .before .before .before .before .before .before .before .before .before .before .before .if1 .left) ∙ c .before .before .before .before .before .before .before .before .before .before .before .before .before .asked .ensures)
     (s .pre .0 .long) (w .result) _ (w .last .1 .1 .1 .1 .0) _ (c .acted .ensures) (lent-is (now (a .messages)) (80 * n) (80 * a .cfg .n))
     (over-lent (80 * n) (80 * a .cfg .n) (w .last .1 .1 .1 .1 .0) (now (a .messages))) (c .before .before .before .messages .given .0)
     (now (a .board)) (now (a .boards)) _ (w .last .1 .1 .1 .0) _ (lent-is (now (a .boards)) (a .part .client * v) v) (over-lent (a .part .client * v) v (w .last .1 .1 .1 .0) (now (a .boards)))

@@ -25,9 +25,9 @@ acted-requires c κs = search needs
 
 returns-2 : tie.Need-returns-2
 returns-2 c =
-    let a = c .before .before .before .before .before .args in
+    let a = c .before .before .before .before .args in
     client-crashed (a .cfg) (a .part) (a .call) (c .acted .result) (c .before .client .result) (c .acted .ensures)
-    (sym (c .before .before .before .before .exists .ensures) ∙ not-false _ (c .before .before .before .if1 .left)) (c .before .client .ensures)
+    (sym (c .before .before .before .exists .ensures) ∙ not-false _ (c .before .before .if1 .left)) (c .before .client .ensures)
 
 pub client-spec : {M : Type 1} → statement M
 client-spec =

@@ -63,7 +63,7 @@ mul-end : tie.Need-mul-end
 mul-end c = let s = c .before .before .before .before .before .before .before .before .before in omega (arith, s .pre .part .valid .n-high)
 
 slice-aggregate-client : tie.Need-slice-aggregate-client
-slice-aggregate-client c = let s = c .before .before .before .before .before .before .before .before .before .before .before in sym (taken-long (s .pre .handing) (s .pre .part .fits))
+slice-aggregate-client c = let s = c .before .before .before .before .before .before .before .before .before .before in sym (taken-long (s .pre .handing) (s .pre .part .fits))
 
 sub-client : tie.Need-sub-client
 sub-client c = search needs
@@ -73,7 +73,7 @@ part-client-start c = search needs
 
 part-client-end : tie.Need-part-client-end
 part-client-end c =
-    let s = c .before .before .before .before .before .before .before .before .before .before .before in
+    let s = c .before .before .before .before .before .before .before .before .before .before in
     let a = s .args in
     omega (arith, part-fits (a .part .client) (a .cfg .c) (boardLength (a .cfg)) (s .pre .part .client), s .pre .boards-long)
 
@@ -85,7 +85,7 @@ part-client-start-2 c = search needs
 
 part-client-end-2 : tie.Need-part-client-end-2
 part-client-end-2 c =
-    let s = c .before .before .before .before .before .before .before .before .before .before .before .before in
+    let s = c .before .before .before .before .before .before .before .before .before .before .before in
     let a = s .args in
     omega (arith, part-fits (a .part .client) (a .cfg .c) (a .cfg .n * a .cfg .e) (s .pre .part .client), s .pre .elements-long)
 
@@ -96,17 +96,17 @@ part-sends-start : tie.Need-part-sends-start
 part-sends-start c = search needs
 
 part-sends-end : tie.Need-part-sends-end
-part-sends-end c = let s = c .before .before .before .before .before .before .before .before .before .before .before .before .before in omega (arith, s .pre .part .valid .n-high)
+part-sends-end c = let s = c .before .before .before .before .before .before .before .before .before .before .before .before in omega (arith, s .pre .part .valid .n-high)
 
 client-requires : tie.Need-client-requires
 client-requires c κs = search needs
 
 sub-if1 : tie.Need-sub-if1
-sub-if1 c = let s = c .before .before .before .before .before .before .before .before .before .before .before .before .before .before .before .before .before .before .before .before .before .before in omega (arith, s .pre .handing .inside)
+sub-if1 c = let s = c .before .before .before .before .before .before .before .before .before .before .before .before .before .before .before .before .before .before .before .before .before in omega (arith, s .pre .handing .inside)
 
 add-if1 : tie.Need-add-if1
 add-if1 c =
-    let s = c .before .before .before .before .before .before .before .before .before .before .before .before .before .before .before .before .before .before .before .before .before .before .before in
+    let s = c .before .before .before .before .before .before .before .before .before .before .before .before .before .before .before .before .before .before .before .before .before .before in
     let n = s .args .cfg .n in
     let high = s .pre .part .valid .n-high in
     omega (arith, sent-room (s .pre .part .valid .e-high) (c .before .before .before .before .before .before .before .client .ensures [] .acts), c .before .before .before .before .sends2 .given ∙ zeros-front n high, high, s .pre .part .few)
@@ -122,7 +122,7 @@ same-length-2 c = search needs
 
 returns : tie.Need-returns
 returns c =
-    let s = c .before .before .before .before .before .before .before .before .before .before .before .before .before .before .before .before .before .before .before .before .before .before .before .before .before in
+    let s = c .before .before .before .before .before .before .before .before .before .before .before .before .before .before .before .before .before .before .before .before .before .before .before .before in
     let a = s .args in
     let v = boardLength (a .cfg) in
     let wide = a .cfg .n * a .cfg .e in
@@ -135,14 +135,14 @@ returns c =
 
 slice-aggregate-settle : tie.Need-slice-aggregate-settle
 slice-aggregate-settle c =
-    let s = c .before .before .before .before .before .before .before .before .before .before .before .before .before .before .before .before .before .before .before .before .before .before .before .before .before in
+    let s = c .before .before .before .before .before .before .before .before .before .before .before .before .before .before .before .before .before .before .before .before .before .before .before .before in
     let n = s .args .cfg .n in
     let high = s .pre .part .valid .n-high in
     sym (zeros-behind n (c .before .before .before .before .before .before .before .before .before .client .last .1 .1 .1 .1 .1 .0) high (c .before .before .before .before .before .before .sends2 .given ∙ zeros-front n high))
 
 settle-requires : tie.Need-settle-requires
 settle-requires c κs =
-    let s = c .before .before .before .before .before .before .before .before .before .before .before .before .before .before .before .before .before .before .before .before .before .before .before .before .before .before in
+    let s = c .before .before .before .before .before .before .before .before .before .before .before .before .before .before .before .before .before .before .before .before .before .before .before .before .before in
     let n = s .args .cfg .n in
     let high = s .pre .part .valid .n-high in
     let long = c .before .before .before .before .before .before .before .sends2 .given ∙ zeros-front n high in
@@ -159,7 +159,7 @@ same-length-5 c = search needs
 
 returns-2 : tie.Need-returns-2
 returns-2 c =
-    let s = c .before .before .before .before .before .before .before .before .before .before .before .before .before .before .before .before .before .before .before .before .before .before .before .before .before .before .before .before .before in
+    let s = c .before .before .before .before .before .before .before .before .before .before .before .before .before .before .before .before .before .before .before .before .before .before .before .before .before .before .before .before in
     let a = s .args in
     let v = boardLength (a .cfg) in
     let wide = a .cfg .n * a .cfg .e in

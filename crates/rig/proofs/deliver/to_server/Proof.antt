@@ -33,7 +33,7 @@ add-end c =
     omega (arith, part-fits (a .part .server) (a .cfg .n) (storeLength (a .cfg)) (s .pre .part .server), stores-small (a .cfg) (s .pre .part .valid))
 
 slice-aggregate-server : tie.Need-slice-aggregate-server
-slice-aggregate-server c = let s = c .before .before .before .before .before .before .before in sym (taken-long (s .pre .handing) (s .pre .part .fits))
+slice-aggregate-server c = let s = c .before .before .before .before .before .before in sym (taken-long (s .pre .handing) (s .pre .part .fits))
 
 sub-server : tie.Need-sub-server
 sub-server c = search needs
@@ -43,7 +43,7 @@ part-server-start c = search needs
 
 part-server-end : tie.Need-part-server-end
 part-server-end c =
-    let s = c .before .before .before .before .before .before .before in
+    let s = c .before .before .before .before .before .before in
     let a = s .args in
     omega (arith, part-fits (a .part .server) (a .cfg .n) (storeLength (a .cfg)) (s .pre .part .server), s .pre .stores-long)
 
@@ -57,7 +57,7 @@ slice-aggregate-settle : tie.Need-slice-aggregate-settle
 slice-aggregate-settle c = search needs
 
 settle-requires : tie.Need-settle-requires
-settle-requires c κs = let s = c .before .before .before .before .before .before .before .before .before .before .before .before .before .before .before in sent-room (s .pre .part .valid .e-high) (c .before .before .before .before .before .server .ensures [] [] [])
+settle-requires c κs = let s = c .before .before .before .before .before .before .before .before .before .before .before .before .before .before in sent-room (s .pre .part .valid .e-high) (c .before .before .before .before .before .server .ensures [] [] [])
 
 same-length : tie.Need-same-length
 same-length c = search needs
@@ -67,7 +67,7 @@ same-length-2 c = search needs
 
 returns : tie.Need-returns
 returns c =
-    let s = c .before .before .before .before .before .before .before .before .before .before .before .before .before .before .before .before .before .before in
+    let s = c .before .before .before .before .before .before .before .before .before .before .before .before .before .before .before .before .before in
     let a = s .args in
     let long = storeLength (a .cfg) in
     let w = c .before .before .before .before .before .before .before .before .server in

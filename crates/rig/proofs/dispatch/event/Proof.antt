@@ -1,33 +1,10 @@
 use denote.Ref.{now}
 use borrow.Author.Needs.{needs}
-use Rattle.rig.specs.View.{lent}
-use Rattle.rig.proofs.dispatch.Laws.{none-such}
 use Rattle.rig.proofs.dispatch.event.Statement.{statement}
 use Rattle.rig.proofs.dispatch.event.Tie as tie
 
-write-requires : tie.Need-write-requires
-write-requires c κs = let pre = c .before .before .before .before .before .before .before .before .before .pre in (record { part = pre .part; long = pre .messages }, pre .boards)
-
-read-requires : tie.Need-read-requires
-read-requires c κs = let pre = c .before .before .before .before .before .before .before .before .pre in record { part = pre .part; long = pre .messages }
-
 hand-over-requires : tie.Need-hand-over-requires
-hand-over-requires c κs = c .before .before .before .before .before .before .before .before .before .before .before .before .pre
-
-lose-requires : tie.Need-lose-requires
-lose-requires c κs = search needs
-
-double-requires : tie.Need-double-requires
-double-requires c κs = search needs
-
-server-requires : tie.Need-server-requires
-server-requires c κs = search needs
-
-client-requires : tie.Need-client-requires
-client-requires c κs = search needs
-
-refused-requires : tie.Need-refused-requires
-refused-requires c κs = search needs
+hand-over-requires c κs = c .before .before .before .before .before .before .before .before .before .before .before .before .before .pre
 
 same-length : tie.Need-same-length
 same-length c = search needs
@@ -35,16 +12,8 @@ same-length c = search needs
 same-length-2 : tie.Need-same-length-2
 same-length-2 c = search needs
 
-returns : tie.Need-returns
-returns c = let a = c .before .before .before .before .before .before .before .before .before .before .before .before .before .before .args in c .before .before .before .before .write .ensures (now (a .read)) (now (a .stores)) (now (a .elements)) (c .before .before .before .before .before .before .before .match .keys1)
-
 same-length-3 : tie.Need-same-length-3
 same-length-3 c = search needs
-
-returns-2 : tie.Need-returns-2
-returns-2 c =
-    let a = c .before .before .before .before .before .before .before .before .before .before .before .args in
-    c .before .before .read .ensures (now (a .board)) (now (a .read)) (now (a .stores)) (now (a .boards)) (now (a .elements)) (c .before .before .before .before .match .keys2)
 
 same-length-4 : tie.Need-same-length-4
 same-length-4 c = search needs
@@ -52,76 +21,37 @@ same-length-4 c = search needs
 same-length-5 : tie.Need-same-length-5
 same-length-5 c = search needs
 
+returns : tie.Need-returns
+returns c = c .before .before .before .before .before .before .before .before .hand-over .ensures (now (c .before .before .before .before .before .before .before .before .before .before .before .before .before .before .before .before .before .before .before .before .before .before .args .board)) (c .before .before .before .before .before .before .before .before .before .before .before .before .before .before .if1 .taken)
+
+other-requires : tie.Need-other-requires
+other-requires c κs =
+    let pre = c .before .before .before .before .before .before .before .before .before .before .pre in
+    record { part = pre .part; messages-long = pre .messages; boards-long = pre .boards; code = c .before .before .if1 .left }
+
 same-length-6 : tie.Need-same-length-6
 same-length-6 c = search needs
 
 same-length-7 : tie.Need-same-length-7
 same-length-7 c = search needs
 
-same-length-8 : tie.Need-same-length-8
-same-length-8 c = search needs
-
-returns-3 : tie.Need-returns-3
-returns-3 c = let a = c .before .before .before .before .before .before .before .before .before .before .before .before .before .before .before .before .before .before .before .before .before .args in c .before .before .before .before .before .before .before .before .hand-over .ensures (now (a .board)) (c .before .before .before .before .before .before .before .before .before .before .before .before .before .before .match .keys3)
-
-same-length-9 : tie.Need-same-length-9
-same-length-9 c = search needs
-
-returns-4 : tie.Need-returns-4
-returns-4 c =
-    let a = c .before .before .before .before .before .before .before .before .before .before .before .args in
-    c .before .before .lose .ensures (a .cfg) (a .m) (now (a .board)) (now (a .read)) (now (a .stores)) (now (a .boards)) (now (a .elements)) (c .before .before .before .before .match .keys4)
-
-same-length-10 : tie.Need-same-length-10
-same-length-10 c = search needs
-
-returns-5 : tie.Need-returns-5
-returns-5 c =
-    let a = c .before .before .before .before .before .before .before .before .before .before .before .args in
-    c .before .before .double .ensures (a .cfg) (now (a .board)) (now (a .read)) (now (a .stores)) (now (a .boards)) (now (a .elements)) (c .before .before .before .before .match .keys5)
-
-returns-6 : tie.Need-returns-6
-returns-6 c =
-    let a = c .before .before .before .before .before .before .before .before .args in
-    c .server .ensures (a .m) (now (a .board)) (now (a .read)) (lent (now (a .messages)) (now (a .stores)) (now (a .boards)) (now (a .elements))) (c .before .match .keys6)
-
-returns-7 : tie.Need-returns-7
-returns-7 c =
-    let a = c .before .before .before .before .before .before .before .before .args in
-    c .client .ensures (a .m) (now (a .board)) (now (a .read)) (lent (now (a .messages)) (now (a .stores)) (now (a .boards)) (now (a .elements))) (c .before .match .keys7)
-
-returns-8 : tie.Need-returns-8
-returns-8 c =
-    let k = c .before .match .rest in
-    none-such (c .refused .ensures) (k .0 .0 .0 .0 .0 .0 .1) (k .0 .0 .0 .0 .0 .1) (k .0 .0 .0 .0 .1) (k .0 .0 .0 .1) (k .0 .0 .1) (k .0 .1) (k .1)
+returns-2 : tie.Need-returns-2
+returns-2 c =
+    let a = c .before .before .before .before .before .before .before .before .before .before .before .before .before .before .before .args in
+    c .before .before .before .before .other .ensures (now (a .read)) (now (a .stores)) (now (a .elements))
 
 pub event-spec : {M : Type 1} → statement M
 event-spec =
     tie.close
     (tie.spec
-    write-requires
-    read-requires
     hand-over-requires
-    lose-requires
-    double-requires
-    server-requires
-    client-requires
-    refused-requires
     same-length
     same-length-2
-    returns
     same-length-3
-    returns-2
     same-length-4
     same-length-5
+    returns
+    other-requires
     same-length-6
     same-length-7
-    same-length-8
-    returns-3
-    same-length-9
-    returns-4
-    same-length-10
-    returns-5
-    returns-6
-    returns-7
-    returns-8)
+    returns-2)

@@ -1,6 +1,6 @@
 use mathlib.Core.Path.{ap, _∙_}
 use borrow.Author.Needs.{needs}
-use Rattle.rig.specs.Calls.{placeFor}
+use Rattle.rig.specs.Questions.{placeFor}
 use Rattle.rig.proofs.named.client.Statement.{statement}
 use Rattle.rig.proofs.named.client.Tie as tie
 

@@ -17,8 +17,8 @@ use Rattle.config.specs.Config.{Valid, questions, storeLength}
 use Rattle.config.specs.Number.{clientNumber, serverNumber}
 use Rattle.config.specs.Questions.{Question, ask, firstNo, numbered}
 use Rattle.config.specs.Refusal.{refusalNumber, verdictNumber}
-use Rattle.config.proofs.Questions.{firstNo-no, firstNo-pass, firstNo-stop, firstNo-yes, none-first, none-rest, questions-numbered, yes-next}
-use Rattle.config.proofs.Valid.{valid, valid-asked}
+use Rattle.config.proofs.Questions.{firstNo-pass, firstNo-stop, none-first, none-rest, questions-numbered, yes-next}
+use Rattle.config.proofs.Valid.{valid}
 use Rattle.record.specs.declared.Header.{Header}
 use Rattle.record.specs.declared.Reading.{Reading}
 use Rattle.record.specs.Calls.{ReadPost, withElement}
@@ -34,8 +34,7 @@ use Rattle.server.specs.declared.Stepped.{Stepped}
 use Rattle.server.specs.Calls.{StepPost, answerBytes, answers, forServer, outcome, stateQuestions, stepQuestions}
 use Rattle.server.specs.Within.{ValidState, stateWithin as serverStateWithin}
 use Rattle.server.specs.View as serverView
-use Rattle.server.proofs.Asked.{both-no, not-six, state-valid}
-use Rattle.server.proofs.Laws as serverLaws
+use Rattle.server.proofs.Asked.{both-no, not-six}
 use Rattle.server.proofs.Laws.{OnMessage, on-message}
 use Rattle.client.specs.Send.{front, recordsOf}
 use Rattle.client.specs.State as clientView

@@ -1,5 +1,5 @@
 -- What the parties of a rig do in an event, one server and one client of them: what each call asks, and what it leaves.
-use Prim.Native.Nat.{ℕ, _*_, _≤_}
+use Prim.Native.Nat.{ℕ, _≤_}
 use mathlib.Core.Bool.{Bool, true, false, cond, _&&_}
 use mathlib.Core.Path.{_≡_}
 use mathlib.Core.Option.{Option}

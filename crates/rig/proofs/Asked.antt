@@ -91,10 +91,6 @@ module _ (cfg : Config) (m : ℕ) (r : Rig) (a : BoardCall) (read : List ℕ) (l
 
   -- where it was not refused
   module _ (h : firstNo (eventQuestions cfg m r a read l) ≡ 0) where
-    pub event-valid : Valid cfg
-    unfolding eventQuestions
-    event-valid = is-valid cfg m shape (laterQuestions cfg m r a l) h
-
     shaped : shape ≡ true
     unfolding eventQuestions
     shaped = six cfg m shape (laterQuestions cfg m r a l) h .0
@@ -111,15 +107,6 @@ module _ (cfg : Config) (m : ℕ) (r : Rig) (a : BoardCall) (read : List ℕ) (l
 
     pub event-board : length (a .board) ≡ boardLength cfg
     event-board = eqb-true (length (a .board)) (boardLength cfg) (and-left boardIs readIs handed)
-
-    pub event-read : length read ≡ boardLength cfg
-    event-read = eqb-true (length read) (boardLength cfg) (and-right boardIs readIs handed)
-
-    pub event-sized : sized cfg m l ≡ true
-    event-sized = and-right (boardIs && readIs) (sized cfg m l) lengths
-
-    pub event-within : rigWithin cfg m r ≡ true
-    event-within = and-right (boardIs && readIs && sized cfg m l) (rigWithin cfg m r) shaped
 
 -- of an event that was not refused there is a code, and 8 to 11 are answered yes
 module _ (cfg : Config) (m : ℕ) (v : BoardRig) (a : BoardCall) (formed : Bool) where

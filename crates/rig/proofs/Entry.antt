@@ -25,14 +25,14 @@ use Rattle.rig.specs.declared.Places.{Places}
 use Rattle.rig.specs.declared.Rig.{Rig}
 use Rattle.rig.specs.declared.Turn.{Turn}
 use Rattle.rig.specs.View.{Lent}
-use Rattle.rig.specs.Questions.{allBelow, allSized, clientWithin, eventQuestions, hasPlaces, laterQuestions, namedBy, partiesWithin, partQuestions, partWithin, placesOf, rigWithin, serverWithin, sized}
+use Rattle.rig.specs.Questions.{allBelow, allSized, clientWithin, eventQuestions, hasPlaces, laterQuestions, partiesWithin, partQuestions, partWithin, placesOf, rigWithin, serverWithin, sized}
 use Rattle.rig.specs.Calls.{ChangePost, EventPost, PartOf, called, eventNo, partNo, turned, withPart}
 use Rattle.rig.specs.inner.Part.{Names, PartAtPost, refusing, unturnedBy}
 use Rattle.rig.specs.inner.Turn.{TurnPost, TurnPre}
 use Rattle.rig.proofs.Below.{below-at}
 use Rattle.rig.proofs.Pairs.{put-same}
 use Rattle.rig.proofs.Sizes.{boards-are, elements-are, messages-are, stores-are}
-use Rattle.rig.proofs.named.Laws.{place-below}
+use Rattle.rig.proofs.named.Laws.{names-client, names-server}
 use Rattle.rig.proofs.outcome.Laws.{refused-event}
 
 -- ---- the number of 1 to 6
@@ -140,14 +140,10 @@ module _ (cfg : Config) (m : ℕ) (p : Part) (a : Call) (board read : List ℕ) 
           }
 
       pub server-low : p .server < cfg .n
-      server-low =
-          subst (λ i. i < cfg .n) (sym (its-names .server))
-          (place-below (cfg .n) (namedBy (p .count) (a .code) (a .party) (a .position) 2 (l .messages)) (lent-valid .n-low))
+      server-low = names-server lent-valid its-names
 
       pub client-low : p .client < cfg .c
-      client-low =
-          subst (λ i. i < cfg .c) (sym (its-names .client))
-          (place-below (cfg .c) (namedBy (p .count) (a .code) (a .party) (a .position) 1 (l .messages)) (lent-valid .c-low))
+      client-low = names-client lent-valid its-names
 
       -- or what its parties keep is past its limits
       pub part-no : partWithin cfg p ≡ false → 6 ≡ partNo cfg m p a board read l
@@ -237,16 +233,6 @@ module _ (cfg : Config) (m : ℕ) (r : Rig) (a : Call) (board read : List ℕ) (
     passed-valid = rig-valid cfg m refl (both-yes .0)
 
     module _ {p : Part} (part : PartOf r p) (names : Names cfg p a (l .messages)) where
-      server-here : p .server < cfg .n
-      server-here =
-          subst (λ i. i < cfg .n) (sym (names .server))
-          (place-below (cfg .n) (namedBy (p .count) (a .code) (a .party) (a .position) 2 (l .messages)) (passed-valid .n-low))
-
-      client-here : p .client < cfg .c
-      client-here =
-          subst (λ i. i < cfg .c) (sym (names .client))
-          (place-below (cfg .c) (namedBy (p .count) (a .code) (a .party) (a .position) 1 (l .messages)) (passed-valid .c-low))
-
       serverAt : ℕ → Bool
       serverAt i = serverWithin cfg i (getElem? (r .servers) i)
 
@@ -258,9 +244,9 @@ module _ (cfg : Config) (m : ℕ) (r : Rig) (a : Call) (board read : List ℕ) (
       pair-within =
           ap₂ _&&_
           (ap (serverWithin cfg (p .server)) (sym (part .node))
-          ∙ below-at (cfg .n) serverAt (and-left (allBelow (cfg .n) serverAt) (allBelow (cfg .c) clientAt) (both-yes .1)) (p .server) server-here)
+          ∙ below-at (cfg .n) serverAt (and-left (allBelow (cfg .n) serverAt) (allBelow (cfg .c) clientAt) (both-yes .1)) (p .server) (names-server passed-valid names))
           (ap (clientWithin cfg (p .client)) (sym (part .client))
-          ∙ below-at (cfg .c) clientAt (and-right (allBelow (cfg .n) serverAt) (allBelow (cfg .c) clientAt) (both-yes .1)) (p .client) client-here)
+          ∙ below-at (cfg .c) clientAt (and-right (allBelow (cfg .n) serverAt) (allBelow (cfg .c) clientAt) (both-yes .1)) (p .client) (names-client passed-valid names))
 
       abbrev own : Bool
       own = hasPlaces p (placesOf cfg (p .count) a (l .messages))

@@ -2,7 +2,7 @@
 -- Assumes nothing.
 use Prim.Native.Nat.{ℕ, _+_, _*_, _≤_, _<_}
 use mathlib.Core.Path.{_≡_, sym, ap, ap₂, subst, _∙_}
-use mathlib.Core.Bool.{Bool, true, _&&_}
+use mathlib.Core.Bool.{true, _&&_}
 use mathlib.Core.Option.{some}
 use mathlib.Core.List.{List}
 use native.Mathlib.Omega.{arith}
@@ -23,14 +23,14 @@ use Rattle.rig.specs.declared.Call.{Call}
 use Rattle.rig.specs.declared.Part.{Part}
 use Rattle.rig.specs.declared.Rig.{Rig}
 use Rattle.rig.specs.View.{Lent, partiesOf}
-use Rattle.rig.specs.Questions.{clientWithin, namedBy, placeFor, rigWithin, serverWithin, sized}
+use Rattle.rig.specs.Questions.{clientWithin, placeFor, rigWithin, serverWithin, sized}
 use Rattle.rig.specs.Calls.{called}
-use Rattle.rig.specs.inner.Turn.{Ready, TurnPre}
+use Rattle.rig.specs.inner.Turn.{Ready}
 use Rattle.rig.proofs.RigWithin.{clients-within, count-most, fits-at, servers-within}
 use Rattle.rig.proofs.Pairs.{pair-among, partsOf}
 use Rattle.rig.proofs.Six.{six-board, six-most, six-read, six-sized, six-valid, six-within}
 use Rattle.rig.proofs.Sizes.{boards-are, elements-are, messages-are, stores-are}
-use Rattle.rig.proofs.named.Laws.{by-party, place-back, place-below}
+use Rattle.rig.proofs.named.Laws.{by-party, names-client, names-server, place-back}
 
 module _ {cfg : Config} {m : ℕ} {r : Rig} {p : Part} {a : Call} {board read : List ℕ} {l : Lent} (ready : Ready cfg m r p a board read l) where
   pub is-valid : Valid cfg
@@ -64,14 +64,10 @@ module _ {cfg : Config} {m : ℕ} {r : Rig} {p : Part} {a : Call} {board read : 
   elements-long = elements-are cfg m (length (l .messages)) (length (l .stores)) (length (l .boards)) (length (l .elements)) sizes
 
   pub server-below : p .server < cfg .n
-  server-below =
-      subst (λ i. i < cfg .n) (sym (ready .names .server))
-      (place-below (cfg .n) (namedBy (p .count) (a .code) (a .party) (a .position) 2 (l .messages)) (is-valid .n-low))
+  server-below = names-server is-valid (ready .names)
 
   pub client-below : p .client < cfg .c
-  client-below =
-      subst (λ i. i < cfg .c) (sym (ready .names .client))
-      (place-below (cfg .c) (namedBy (p .count) (a .code) (a .party) (a .position) 1 (l .messages)) (is-valid .c-low))
+  client-below = names-client is-valid (ready .names)
 
   pub count-below : p .count ≤ m
   count-below = subst (λ i. i ≤ m) (ready .part .count) (count-most cfg m r is-within)
@@ -79,22 +75,6 @@ module _ {cfg : Config} {m : ℕ} {r : Rig} {p : Part} {a : Call} {board read : 
   -- the records in flight stand in the messages
   pub count-fits : 80 * p .count ≤ length (l .messages)
   count-fits = omega (arith, count-below, messages-long)
-
-  pub turn-pre : TurnPre cfg m p l
-  turn-pre =
-      record {
-        part = record {
-          valid = is-valid;
-          few = omega (arith, count-below, is-most);
-          server = server-below;
-          client = client-below;
-          fits = count-fits;
-        };
-        messages = messages-long;
-        stores = stores-long;
-        boards = boards-long;
-        elements = elements-long;
-      }
 
   -- its parts have their lengths
   pub store-long : length (partsOf cfg p l .store) ≡ storeLength cfg

@@ -1,14 +1,14 @@
 -- What is seen of parties by their places, when one of them and its part of a buffer change. Assumes nothing.
 use Prim.Native.Nat.{ℕ, _+_, _-_, _≤_, _<_}
-use mathlib.Core.Path.{_≡_, refl, sym, ap, ap₂, fun-ext, _∙_}
-use mathlib.Core.Bool.{Bool, true, false, cond}
+use mathlib.Core.Path.{_≡_, refl, ap, ap₂, fun-ext, _∙_}
+use mathlib.Core.Bool.{Bool, true, false}
 use mathlib.Core.Option.{Option, none, some}
 use mathlib.Core.List.{List}
 use native.Mathlib.Omega.{arith}
 use lib.ListN.{length, set, getElem?}
 use Rattle.laws.proofs.Lists.{at-set, at-set-other}
 use Rattle.config.specs.Questions.{within}
-use Rattle.config.proofs.Questions.{within-high, within-low, within-true}
+use Rattle.config.proofs.Questions.{within-low, within-true}
 use Rattle.protocol.specs.Number.{upd}
 use Rattle.protocol.proofs.Basics.{upd-elim}
 use Rattle.rig.specs.View.{place}

@@ -3,12 +3,12 @@
 use Prim.Native.Nat.{ℕ, zero, suc, _+_, _-_, _*_, _≤_, _<_}
 use mathlib.Core.Path.{_≡_, refl, sym, ap, ap₂, subst, _∙_}
 use mathlib.Core.Bool.{Bool, true, false, cond, not, _&&_, true≢false}
-use mathlib.Core.Option.{Option, none, some}
+use mathlib.Core.Option.{Option, some}
 use mathlib.Core.List.{List, [], _∷_, _++_, map}
 use native.Mathlib.Omega.{arith}
-use borrow.Author.Tests.{eq-eqb, ne-eqb, not-false}
+use borrow.Author.Tests.{eq-eqb, ne-eqb}
 use lib.Dec.{eqb}
-use lib.ListN.{length, take, drop, getElem?, length-map}
+use lib.ListN.{length, take, getElem?, length-map}
 use lib.Seq.{drop-at, length-take-le}
 use Rattle.laws.specs.Lists.{without}
 use Rattle.laws.specs.Parts.{over, part}
@@ -29,9 +29,9 @@ use Rattle.server.specs.Within.{stateWithin as serverStateWithin}
 use Rattle.client.specs.Questions.{isFor, stepSized}
 use Rattle.client.specs.State.{stateWithin}
 use Rattle.flight.specs.Flight.{AppendPost, RemovePost, recordAt, records}
-use Rattle.flight.proofs.Laws.{append-count, append-long, append-records, at-record, length-records, record-byte, record-long, records-front, records-take, remove-count, remove-long, remove-records}
+use Rattle.flight.proofs.Laws.{append-count, append-long, append-records, at-record, length-records, record-byte, record-long, records-take, remove-count, remove-long, remove-records}
 use Rattle.protocol.specs.Board.{isAccepted, refused}
-use Rattle.protocol.specs.Boards.{BoardActed, BoardAnswer, BoardCall, BoardEnded, BoardMessage, BoardParties, decode, deliver, encode, order}
+use Rattle.protocol.specs.Boards.{BoardActed, BoardCall, BoardEnded, BoardMessage, BoardParties, decode, deliver, encode, order}
 use Rattle.protocol.specs.Client as client
 use Rattle.protocol.specs.Parties as parties
 use Rattle.protocol.specs.Parties.{clientActs, quiet, serverActs}

@@ -1,15 +1,20 @@
 -- Whom an event names: the place of a number, and the number. Assumes nothing.
 use Prim.Native.Nat.{ℕ, _+_, _-_, _*_, _≤_, _<_}
-use mathlib.Core.Path.{_≡_, refl, sym, ap, subst, _∙_}
+use mathlib.Core.Path.{_≡_, refl, sym, ap, subst}
 use mathlib.Core.Bool.{Bool, true, false, _&&_}
 use mathlib.Core.List.{List}
 use native.Mathlib.Omega.{arith}
 use borrow.Author.Tests.{eq-eqb, ne-eqb, le-leb, le-ltb, lt-leb, lt-ltb}
 use lib.Dec.{leb}
 use lib.ListN.{length}
+use Rattle.config.specs.declared.Config.{Config}
+use Rattle.config.specs.Config.{Valid}
 use Rattle.config.specs.Questions.{within}
-use Rattle.config.proofs.Questions.{within-high, within-low, within-true}
+use Rattle.config.proofs.Questions.{within-high, within-low}
+use Rattle.rig.specs.declared.Call.{Call}
+use Rattle.rig.specs.declared.Part.{Part}
 use Rattle.rig.specs.Questions.{byteOf, namedBy, placeFor}
+use Rattle.rig.specs.inner.Part.{Names}
 
 -- a number that is none of 1 to n
 pub outside-low : (n q : ℕ) → q < 1 → within 1 n q ≡ false
@@ -52,3 +57,15 @@ module _ (count code party i offset : ℕ) (messages : List ℕ) where
 
   pub by-record : code ≡ 3 → i < count → 80 * count ≤ length messages → byteOf i offset messages ≡ namedBy count code party i offset messages
   by-record e h fit = rw (eq-eqb code 3 e, lt-ltb i count h, le-leb (80 * count) (length messages) fit)
+
+-- the places of a part that an event names are in use
+module _ {cfg : Config} (valid : Valid cfg) {p : Part} {a : Call} {messages : List ℕ} (names : Names cfg p a messages) where
+  pub names-server : p .server < cfg .n
+  names-server =
+      subst (λ i. i < cfg .n) (sym (names .server))
+      (place-below (cfg .n) (namedBy (p .count) (a .code) (a .party) (a .position) 2 messages) (valid .n-low))
+
+  pub names-client : p .client < cfg .c
+  names-client =
+      subst (λ i. i < cfg .c) (sym (names .client))
+      (place-below (cfg .c) (namedBy (p .count) (a .code) (a .party) (a .position) 1 messages) (valid .c-low))

@@ -2,7 +2,6 @@ use mathlib.Core.Bool.{_&&_}
 use mathlib.Core.Option.{some}
 use mathlib.Core.Path.{sym, ap, ap₂, _∙_}
 use native.Mathlib.Omega.{arith}
-use borrow.Author.Needs.{needs}
 use borrow.Author.Tests.{not-true, not-false}
 use Rattle.rig.specs.Questions.{clientWithin, partWithin, serverWithin}
 use Rattle.rig.proofs.within.Laws.{is-asked}

@@ -11,5 +11,5 @@ fn main() {
         c: 2,
     };
     let start = [0u8; 1];
-    lines::run(cfg, 64, &start);
+    stream::run(cfg, 64, &start);
 }

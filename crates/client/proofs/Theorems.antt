@@ -34,7 +34,7 @@ use Rattle.client.specs.declared.Phase.the-variants.{Idle, Asking, PreWr
 use Rattle.client.specs.declared.State.{State}
 use Rattle.client.specs.Calls.{BeginPost, CrashPost, StepPost, clientStep, endedOf, freshState, inPhase, shown, stepOf, unlessNo}
 use Rattle.client.specs.Questions.{answerQuestions, callQuestions, crashQuestions, stepQuestions, stepSized}
-use Rattle.client.specs.Quorum.{Alike, Elements, OwnTag, Quorum, phaseNumber}
+use Rattle.client.specs.Quorum.{AlikeSteps, Elements, OwnTag, Quorum, phaseNumber}
 use Rattle.client.specs.Send.{front, recordsOf}
 use Rattle.client.specs.Servers.{member}
 use Rattle.client.specs.State.{Lent, bare, phaseOf, phaseWithin, received, seen, stateWithin, view}
@@ -269,7 +269,7 @@ module _ (cfg : Config) (x : State) (message : List ℕ) (la la′ lb lb′ : Le
   move-one : stepOf cfg x message la ≡ stepOf cfg x message lb
   move-one = λ i. unlessNo (first-one i) (same i) (boards.clientStep cfg (clientNumber (x .me)) (same i) (messageOf cfg message))
 
-  pub step-alike : Alike cfg a b la′ lb′
+  pub step-alike : AlikeSteps cfg a b la′ lb′
   step-alike =
       record {
         number = post-a .answered .number ∙ first-one ∙ sym (post-b .answered .number);

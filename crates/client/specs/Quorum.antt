@@ -61,7 +61,7 @@ OwnTag me (FinalisingRead tag counted sent) = Unit {0}
 OwnTag me Down = Unit {0}
 
 -- two steps that answer alike: the number, what is sent, how the operation ended with the lent board, and the client
-pub record Alike (cfg : Config) (a b : Moved) (la lb : Lent) : Type 0 where
+pub record AlikeSteps (cfg : Config) (a b : Moved) (la lb : Lent) : Type 0 where
   pub number : verdictNumber (a .verdict) ≡ verdictNumber (b .verdict)
   pub sent : a .sent ≡ b .sent
   pub out : la .sends ≡ lb .sends

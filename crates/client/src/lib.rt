@@ -22,6 +22,9 @@ ghost use Rattle.client.specs.Calls.{BeginPost, CrashPost, FreshPost, St
 ghost use Rattle.client.specs.State.{lent};
 ghost use Rattle.client.specs.Questions.{askBeginQuestions, beginReadQuestions, beginWriteQuestions, stateQuestions};
 
+// The highest number of a tag, and of an operation.
+pub(crate) const HIGHEST_NUMBER: u32 = 4_294_967_295;
+
 mod count;
 mod gather;
 mod next;

@@ -1,5 +1,6 @@
 // What a client is to do once an answer is counted.
 use super::Ended;
+use super::HIGHEST_NUMBER;
 use super::Phase;
 use super::State;
 use super::servers;
@@ -110,7 +111,7 @@ fn asked(me: Client, writes: bool, best: Tag) -> Move
             sent: 0,
         });
     }
-    if best.number < 4_294_967_295 {
+    if best.number < HIGHEST_NUMBER {
         let own = me.number();
         let tag = Tag {
             number: best.number + 1,

@@ -7,6 +7,7 @@ use config::Verdict;
 use tag::Tag;
 ghost use mathlib.Core.Path.{_≡_};
 ghost use Prim.Native.Nat.{_<_};
+ghost use Rattle.record.specs.Record.{highestNumber};
 ghost use Rattle.client.specs.Calls.{inPhase};
 ghost use Rattle.client.specs.inner.Outcome.{RefusedPost, acceptedOf, begunOf};
 
@@ -48,7 +49,7 @@ pub(crate) fn in_phase(x: State, phase: Phase) -> State
 
 // The client in its next operation, asking; nobody is counted.
 pub(crate) fn begun(x: State, writes: bool) -> State
-    requires { ⌜ x .operation < 4294967295 ⌝ }
+    requires { ⌜ x .operation < highestNumber ⌝ }
     ensures { λ r. ⌜ r ≡ begunOf x writes ⌝ }
 {
     let me = x.me;

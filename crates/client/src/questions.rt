@@ -1,4 +1,5 @@
 // The questions of a client's calls.
+use super::HIGHEST_NUMBER;
 use super::Phase;
 use super::State;
 use super::ask;
@@ -184,7 +185,7 @@ pub(crate) fn idle(x: State) -> u8
     let phase = x.phase;
     match phase {
         Phase::Idle => {
-            if x.operation < 4_294_967_295 {
+            if x.operation < HIGHEST_NUMBER {
                 return 0;
             }
             11

@@ -67,6 +67,15 @@ firstNo-stop [] rest some = absurd (some refl)
 firstNo-stop (ask number true ∷ first) rest some = firstNo-stop first rest some
 firstNo-stop (ask number false ∷ first) rest some = refl
 
+-- what stands behind a question tells nothing where that one, or one before it, is answered no
+pub firstNo-behind : (first : List Question) (number : ℕ) (holds : Bool) (xs ys : List Question)
+    → (firstNo first ≡ 0 → holds ≡ true → firstNo xs ≡ firstNo ys) → firstNo (first ++ ask number holds ∷ xs) ≡ firstNo (first ++ ask number holds ∷ ys)
+unfolding firstNo
+firstNo-behind [] number true xs ys h = h refl refl
+firstNo-behind [] number false xs ys h = refl
+firstNo-behind (ask n true ∷ first) number holds xs ys h = firstNo-behind first number holds xs ys h
+firstNo-behind (ask n false ∷ first) number holds xs ys h = refl
+
 -- where all are answered yes, the first are, and the rest
 pub none-first : (first rest : List Question) → firstNo (first ++ rest) ≡ 0 → firstNo first ≡ 0
 unfolding firstNo

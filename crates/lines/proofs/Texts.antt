@@ -1,26 +1,63 @@
 -- Texts put into a buffer, one after another.
-use Prim.Native.Nat.{ℕ, suc, _+_, _*_, _/_, _%_, _≤_, _<_}
+use Prim.Native.Nat.{ℕ, _+_, _-_, _*_, _/_, _%_, _≤_, _<_}
 use mathlib.Core.Path.{_≡_, refl, sym, ap, ap₂, subst₂, _∙_}
-use mathlib.Core.List.{List, [], _∷_, _++_, append-assoc, append-nil}
+use mathlib.Core.List.{List, [], _∷_, _++_, append-assoc}
 use native.Mathlib.Omega.{arith}
+use native.Mathlib.Nat.{add-zero}
 use native.Mathlib.Numerals.{add-one}
-use lib.ListN.{length, take, set, getD, length-append, length-set}
-use lib.Seq.{length-take-le, take-at, take-length, take-suc, take-suc-set}
+use lib.ListN.{length, take, drop, set, getD, length-append, length-set, take-append-drop}
+use lib.Seq.{drop-drop, length-take-le, set-split, take-at, take-suc}
+use Rattle.laws.specs.Parts.{over}
+use Rattle.laws.proofs.Parts.{over-copied-rest, over-length, over-rest}
 use Rattle.io.specs.Digits.{glyph}
-use Rattle.lines.specs.Line.{Appended, hexOf}
+use Rattle.lines.specs.Line.{hexOf}
+use Rattle.lines.specs.inner.Text.{Appended}
+
+-- bytes put behind others that were put there
+over-joined : (out : List ℕ) (a : ℕ) (s t : List ℕ) → a + length s + length t ≤ length out
+    → over (a + length s) (length t) t (over a (length s) s out) ≡ over a (length (s ++ t)) (s ++ t) out
+over-joined out a s t room =
+    ap₂ (λ (x y : List ℕ). x ++ (t ++ y)) front (rest ∙ ap (λ (n : ℕ). drop n out) both)
+    ∙ append-assoc (take a out) s (t ++ drop (a + length (s ++ t)) out)
+    ∙ ap (λ (l : List ℕ). take a out ++ l) (sym (append-assoc s t (drop (a + length (s ++ t)) out)))
+  where
+    both : a + length s + length t ≡ a + length (s ++ t)
+    both = omega (arith, length-append s t)
+
+    fits : a + length s ≤ length out
+    fits = omega (arith, room)
+
+    front : take (a + length s) (over a (length s) s out) ≡ take a out ++ s
+    front =
+        ap (take (a + length s)) (sym (append-assoc (take a out) s (drop (a + length s) out)))
+        ∙ take-at (take a out ++ s) (drop (a + length s) out) (a + length s)
+        (omega (arith, length-append (take a out) s, length-take-le a out (omega (arith, fits))))
+
+    rest : drop (a + length s + length t) (over a (length s) s out) ≡ drop (a + length s + length t) out
+    rest =
+        sym (drop-drop (length t) (a + length s) (over a (length s) s out))
+        ∙ ap (drop (length t)) (over-rest a (length s) s out refl fits)
+        ∙ drop-drop (length t) (a + length s) out
 
 -- a second text after the first
 pub joined : {out : List ℕ} {a : ℕ} {s mid : List ℕ} {b : ℕ} {t last : List ℕ} {r : ℕ} → Appended out a s mid b → Appended mid b t last r
     → Appended out a (s ++ t) last r
-joined {out} {a} {s} {mid} {b} {t} p q =
+joined {out} {a} {s} {mid} {b} {t} {last} {r} p q =
+    let long : length mid ≡ length out =
+    ap length (p .whole) ∙ over-length a (length s) s out refl (omega (arith, p .place, p .room)) in
     record {
       place = omega (arith, p .place, q .place, length-append s t);
-      shown = q .shown ∙ ap (λ (l : List ℕ). l ++ t) (p .shown) ∙ append-assoc (take a out) s t;
+      room = omega (arith, q .room, long);
+      whole =
+          q .whole
+          ∙ ap₂ (λ (n : ℕ) (l : List ℕ). over n (length t) t l) (p .place) (p .whole)
+          ∙ over-joined out a s t (omega (arith, p .place, q .place, q .room, long));
     }
 
 -- no text
-pub nothing : (out : List ℕ) (a : ℕ) → Appended out a [] out a
-nothing out a = record { place = omega arith; shown = sym (append-nil (take a out)) }
+pub nothing : (out : List ℕ) (a : ℕ) → a ≤ length out → Appended out a [] out a
+nothing out a h =
+    record { place = omega arith; room = h; whole = rw add-zero (sym (take-append-drop a out)) }
 
 -- the same text and place
 pub recast : {out : List ℕ} {a : ℕ} {s t last : List ℕ} {r u : ℕ} → s ≡ t → r ≡ u → Appended out a s last r → Appended out a t last u
@@ -28,18 +65,17 @@ recast {out} {a} {s} {t} {last} e f p = subst₂ (λ (x : List ℕ) (y : ℕ). A
 
 -- one byte
 pub one : (out : List ℕ) (a x : ℕ) → a < length out → Appended out a (x ∷ []) (set out a x) (a + 1)
-one out a x h = record { place = refl; shown = rw add-one (take-suc-set out a x h) }
+one out a x h = record { place = refl; room = omega (arith, h); whole = rw add-one (set-split out a x h) }
 
 -- the bytes of a word, copied into the buffer's part from the place on
-pub copied : (out : List ℕ) (a : ℕ) (w part tail rest : List ℕ) (n : ℕ) → a ≤ length out → n ≡ length w → part ≡ take (length w) w ++ tail
-    → Appended out a w (take a out ++ (part ++ rest)) (a + n)
-copied out a w part tail rest n h e p =
+pub copied : (out : List ℕ) (a : ℕ) (w part : List ℕ) (n : ℕ) → a + length w ≤ length out → n ≡ length w
+    → part ≡ take (length w) w ++ drop (length w) (take (length out - a) (drop a out))
+    → Appended out a w (take a out ++ (part ++ drop (length out - a) (drop a out))) (a + n)
+copied out a w part n h e p =
     record {
       place = ap (λ (k : ℕ). a + k) e;
-      shown =
-          ap (λ (l : List ℕ). take (a + n) (take a out ++ (l ++ rest))) (p ∙ ap (λ (l : List ℕ). l ++ tail) (take-length w))
-          ∙ ap (λ (l : List ℕ). take (a + n) l) (ap (λ (l : List ℕ). take a out ++ l) (append-assoc w tail rest) ∙ sym (append-assoc (take a out) w (tail ++ rest)))
-          ∙ take-at (take a out ++ w) (tail ++ rest) (a + n) (omega (arith, length-append (take a out) w, length-take-le a out h));
+      room = omega (arith, h, e);
+      whole = over-copied-rest a (length w) w out part refl h p;
     }
 
 -- the digits of one more byte

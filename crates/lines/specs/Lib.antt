@@ -1,1 +1,4 @@
+pub mod Block
+pub mod Event
 pub mod Line
+pub mod inner

@@ -1,14 +1,12 @@
 -- The line of an event: "its count from 1, then `ok`, `written Z C`, `spent`, `read Z C` with the board in two lower-case hexadecimal
 -- digits, or `no` with the number".
-use Prim.Native.Nat.{ℕ, zero, suc, _+_, _/_, _%_}
+use Prim.Native.Nat.{ℕ, zero, suc, _/_, _%_}
 use mathlib.Core.Bool.{cond}
 use mathlib.Core.List.{List, [], _∷_, _++_}
-use mathlib.Core.Path.{_≡_}
 use lib.Dec.{ltb}
-use lib.ListN.{length, take}
-use Rattle.config.specs.Refusal.{refusalNumber}
 use Rattle.tag.specs.declared.Tag.{Tag}
-use Rattle.parties.specs.declared.Answer.{Answer}
+use Rattle.protocol.specs.Board.{refused, nothingEnded, writtenBy, spentBy, readBy}
+use Rattle.protocol.specs.Boards.{BoardAnswer}
 use Rattle.io.specs.Digits.{glyph}
 
 -- the decimal digits of a number that has at most so many
@@ -47,19 +45,14 @@ shownOf t board = (32 ∷ 114 ∷ 101 ∷ 97 ∷ 100 ∷ []) ++ tagOf t ++ blank
 unfoldable pub refusedOf : ℕ → List ℕ
 refusedOf number = (32 ∷ 110 ∷ 111 ∷ 32 ∷ []) ++ decimalOf number ++ newline
 
--- what follows the count, with the bytes in the lent buffer
-unfoldable pub saidOf : Answer → List ℕ → List ℕ
-saidOf Answer.Nothing read = 32 ∷ 111 ∷ 107 ∷ 10 ∷ []
-saidOf (Answer.Written c t) read = writtenOf t
-saidOf (Answer.Spent c) read = 32 ∷ 115 ∷ 112 ∷ 101 ∷ 110 ∷ 116 ∷ 10 ∷ []
-saidOf (Answer.Read c t) read = shownOf t read
-saidOf (Answer.No why) read = refusedOf (refusalNumber why)
+-- what follows the count: "the client whose operation ended isn't printed"
+unfoldable pub saidOf : BoardAnswer → List ℕ
+saidOf nothingEnded = 32 ∷ 111 ∷ 107 ∷ 10 ∷ []
+saidOf (writtenBy c t) = writtenOf t
+saidOf (spentBy c) = 32 ∷ 115 ∷ 112 ∷ 101 ∷ 110 ∷ 116 ∷ 10 ∷ []
+saidOf (readBy c t board) = shownOf t board
+saidOf (refused number) = refusedOf number
 
--- the line of an event
-unfoldable pub lineOf : ℕ → Answer → List ℕ → List ℕ
-lineOf count answer read = decimalOf count ++ saidOf answer read
-
--- A text is put into a buffer from a place on, and r is the place after it.
-pub record Appended (out : List ℕ) (at : ℕ) (text out′ : List ℕ) (r : ℕ) : Type 0 where
-  pub place : r ≡ at + length text
-  pub shown : take r out′ ≡ take at out ++ text
+-- the line of an event, from its count and its answer as the history has it
+unfoldable pub lineOf : ℕ → BoardAnswer → List ℕ
+lineOf count answer = decimalOf count ++ saidOf answer

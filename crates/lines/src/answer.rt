@@ -4,7 +4,9 @@ use parties::Answer;
 use tag::Tag;
 ghost use Prim.Native.Nat.{_+_, _*_, _≤_};
 ghost use lib.ListN.{length};
-ghost use Rattle.lines.specs.Line.{Appended, lineOf, refusedOf, saidOf, shownOf, tagOf, writtenOf};
+ghost use Rattle.parties.specs.Acts.{answerOf};
+ghost use Rattle.lines.specs.Line.{lineOf, refusedOf, saidOf, shownOf, tagOf, writtenOf};
+ghost use Rattle.lines.specs.inner.Text.{Appended};
 
 // A tag, with a blank before each part.
 fn tagged(tag: Tag, out: &mut [u8], at: usize) -> usize
@@ -52,7 +54,7 @@ fn refused(number: u8, out: &mut [u8], at: usize) -> usize
 // What follows the count.
 fn said(answer: Answer, read: &[u8], out: &mut [u8], at: usize) -> usize
     requires { ⌜ at + (64 + 2 * length (now read)) ≤ length (now out) ⌝ }
-    ensures { λ r. ⌜ Appended (now (out .entry)) at (saidOf answer (now (read .entry))) (now (out .exit)) r × (r ≤ at + (64 + 2 * length (now (read .entry)))) ⌝ }
+    ensures { λ r. ⌜ Appended (now (out .entry)) at (saidOf (answerOf answer (now (read .entry)))) (now (out .exit)) r × (r ≤ at + (64 + 2 * length (now (read .entry)))) ⌝ }
 {
     match answer {
         Answer::Nothing => text::word(b" ok\n", out, at),
@@ -66,7 +68,7 @@ fn said(answer: Answer, read: &[u8], out: &mut [u8], at: usize) -> usize
 // Puts an event's line into a buffer from a place on, and answers the place after it. The board of a read is the bytes read.
 pub(crate) fn line(count: u64, answer: Answer, read: &[u8], out: &mut [u8], at: usize) -> usize
     requires { ⌜ at + (84 + 2 * length (now read)) ≤ length (now out) ⌝ }
-    ensures { λ r. ⌜ Appended (now (out .entry)) at (lineOf count answer (now (read .entry))) (now (out .exit)) r × (r ≤ at + (84 + 2 * length (now (read .entry)))) ⌝ }
+    ensures { λ r. ⌜ Appended (now (out .entry)) at (lineOf count (answerOf answer (now (read .entry)))) (now (out .exit)) r × (r ≤ at + (84 + 2 * length (now (read .entry)))) ⌝ }
 {
     let after = text::decimal(count, out, at);
     said(answer, read, out, after)

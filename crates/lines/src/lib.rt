@@ -1,105 +1,138 @@
-// Events from standard input to lines on standard output: what the programs board and simulate share. Every function is proved to
-// be safe and to end, but for reading and writing, whose C functions' contracts are assumed; no public function has a `requires`.
+// Events as records of bytes, and their lines: all that the programs do between reading a block and writing one. `block` is their loop. Its
+// contract says that the calls are those of the records in turn, that a list of events (`Runs`) goes on by them, and that the lines are those of
+// its answers. Every function is proved, nothing is assumed, and no public function has a `requires`.
 mod answer;
-mod events;
+mod event;
 mod text;
 
 use config::Config;
-use config::Verdict;
-ghost use Prim.Native.Nat.{_+_, _*_, _≤_};
+use events::Part;
+use events::Rig;
+ghost use Prim.Native.Nat.{_+_, _-_, _*_, _≤_};
+ghost use mathlib.Core.Bool.{cond, _&&_};
 ghost use mathlib.Core.Path.{_≡_};
-ghost use Rattle.config.specs.Config.{Valid};
+ghost use lib.Dec.{eqb, leb, ltb};
+ghost use Rattle.config.specs.Config.{rigQuestions};
+ghost use Rattle.config.specs.Lengths.{lengthsOf};
+ghost use Rattle.config.specs.Questions.{firstNo};
+ghost use Rattle.events.specs.View.{lent};
+ghost use Rattle.lines.specs.Block.{BlockPost, lineRoom};
+ghost use Rattle.lines.specs.Event.{eventLength, littleOf};
 
-// Makes a rig of a starting board and runs the events of standard input on it, one line an event. A making that is refused has the
-// line of count 0.
-pub fn run(cfg: Config, m: usize, start: &[u8]) {
-    let no = cfg.ask_rig(m);
-    if no != 0 {
-        refused(no);
-        return;
-    }
-    let mut messages = io::large_buffer();
-    let mut stores = io::large_buffer();
-    let mut boards = io::large_buffer();
-    let mut elements = io::large_buffer();
-    let long = measured(cfg, m);
-    let message_end = long.messages;
-    let store_end = long.stores;
-    let board_end = long.boards;
-    let element_end = long.elements;
-    begin(
-        cfg,
-        m,
-        long.board,
-        start,
-        &mut messages[..message_end],
-        &mut stores[..store_end],
-        &mut boards[..board_end],
-        &mut elements[..element_end],
-    );
+// What running a block leaves: the rig, the count of the next event, how many bytes of the input were taken, and how many of the output
+// are in use.
+pub struct Ran {
+    pub rig: Rig,
+    pub count: u64,
+    pub taken: usize,
+    pub used: usize,
 }
 
-// The lengths of a board, and of the buffers lent to a rig.
-struct Lengths {
-    board: usize,
-    messages: usize,
-    stores: usize,
-    boards: usize,
-    elements: usize,
-}
-
-fn measured(cfg: Config, m: usize) -> Lengths
-    requires { ⌜ Valid cfg × (m ≤ 512) ⌝ }
-    ensures { λ r. ⌜ (r .board ≤ 1024) × (r .messages ≤ 40960) × (r .stores ≤ 8192) × (r .boards ≤ 16384) × (r .elements ≤ 16384) ⌝ }
-{
-    let long = cfg.lengths(m);
-    Lengths {
-        board: long.board,
-        messages: long.messages,
-        stores: cfg.n * long.store,
-        boards: cfg.c * long.board,
-        elements: cfg.c * long.elements,
-    }
-}
-
-// A number of two bytes, the low one first.
-pub fn little(low: u8, high: u8) -> usize
-    ensures { λ r. ⌜ r ≡ low + 256 * high ⌝ }
-{
-    low as usize + 256 * high as usize
-}
-
-// The line of a header or a starting board that is cut short.
-pub fn short() {
-    io::write_all(1, b"0 short\n");
-}
-
-// The line of a making that is refused, by its number.
-pub fn refused(no: u8) {
-    io::write_all(1, b"0 no ");
-    io::print_decimal(1, no as u64);
-    io::write_all(1, b"\n");
-}
-
-// Makes the rig in buffers of its lengths.
-fn begin(
+// Runs the whole records of an input on a rig, as far as there is room for their lines in the output; `count` is that of the first. The
+// rig stays in place: of each event the part that it can touch is taken and put back.
+pub fn block(
     cfg: Config,
     m: usize,
-    v: usize,
-    start: &[u8],
+    mut rig: Rig,
+    mut count: u64,
+    input: &[u8],
+    output: &mut [u8],
     messages: &mut [u8],
     stores: &mut [u8],
     boards: &mut [u8],
     elements: &mut [u8],
-)
-    requires { ⌜ (Valid cfg) × (v ≤ 1024) ⌝ }
+) -> Ran
+    ensures { λ r. ⌜ BlockPost cfg m rig (lent (now (messages .entry)) (now (stores .entry)) (now (boards .entry)) (now (elements .entry))) count (now (input .entry)) (now (output .entry)) r (lent (now (messages .exit)) (now (stores .exit)) (now (boards .exit)) (now (elements .exit))) (now (output .exit)) ⌝ }
 {
-    let made = rig::make(cfg, m, start, messages, stores, boards, elements);
-    let verdict = made.verdict;
-    let Verdict::No(why) = verdict else {
-        let rig = made.rig;
-        events::all(cfg, m, rig, v, messages, stores, boards, elements);
-        return;
-    };
-    refused(why.number());
+    let v = board_length(cfg, m);
+    let size = event::size(v);
+    let starts = starts(cfg, m, v, output.len());
+    let mut space = [0u8; 1024];
+    let read: &mut [u8] = &mut space[..v];
+    let mut taken = 0;
+    let mut used = 0;
+    while goes_on(input.len(), taken, size, used, starts) {
+        let call = event::called(taken, input);
+        let places = events::names(cfg, rig.count, call, messages);
+        let s = places.server;
+        let c = places.client;
+        let part = Part::of(places, rig.servers[s], rig.clients[c], rig.count);
+        let board = event::board(taken, v, input);
+        let change = events::changes(
+            cfg,
+            m,
+            part,
+            call,
+            board,
+            read,
+            messages,
+            stores,
+            boards,
+            elements,
+        );
+        let answer = change.answer;
+        let after = change.part;
+        let pair = after.pair;
+        let node = pair.node;
+        let client = pair.client;
+        rig.servers[s] = node;
+        rig.clients[c] = client;
+        rig.count = after.count;
+        used = answer::line(count, answer, read, output, used);
+        count = std::num::wrapping_add_u64(count, 1);
+        taken += size;
+    }
+    Ran {
+        rig,
+        count,
+        taken,
+        used,
+    }
+}
+
+// The bytes of an event's record; 4 where the configuration is refused.
+pub fn event_length(cfg: Config, m: usize) -> usize
+    ensures { λ r. ⌜ r ≡ eventLength (lengthsOf cfg m .board) ⌝ }
+{
+    event::size(board_length(cfg, m))
+}
+
+// The bytes of a board; 0 where the configuration is refused.
+fn board_length(cfg: Config, m: usize) -> usize
+    ensures { λ r. ⌜ r ≡ lengthsOf cfg m .board ⌝ }
+{
+    let long = cfg.lengths(m);
+    long.board
+}
+
+// In how many places of an output, from its front on, a line may begin: none where the configuration or M is refused.
+fn starts(cfg: Config, m: usize, v: usize, long: usize) -> usize
+    ensures { λ r. ⌜ r ≡ cond (eqb (firstNo (rigQuestions cfg m)) 0) (long + 1 - lineRoom v) 0 ⌝ }
+{
+    if cfg.ask_rig(m) != 0 {
+        return 0;
+    }
+    if long < 84 {
+        return 0;
+    }
+    let room = long - 84;
+    if room / 2 < v {
+        return 0;
+    }
+    room - 2 * v + 1
+}
+
+// Whether a whole record is left, and room for a line.
+fn goes_on(long: usize, taken: usize, size: usize, used: usize, starts: usize) -> bool
+    requires { ⌜ taken ≤ long ⌝ }
+    ensures { λ r. ⌜ r ≡ (leb size (long - taken) && ltb used starts) ⌝ }
+{
+    size <= long - taken && used < starts
+}
+
+// A number of two bytes, the low one first.
+pub fn little(low: u8, high: u8) -> usize
+    ensures { λ r. ⌜ r ≡ littleOf low high ⌝ }
+{
+    low as usize + 256 * high as usize
 }

@@ -1,8 +1,8 @@
 -- What a call of the parties leaves, from what the party's own call leaves.
-use Prim.Native.Nat.{ℕ, _+_, _*_, _≤_}
+use Prim.Native.Nat.{ℕ}
 use mathlib.Core.Path.{_≡_, refl, sym, ap, ap₂, subst, _∙_}
 use mathlib.Core.Bool.{Bool, true, false, cond, _&&_, true≢false}
-use mathlib.Core.List.{List, []}
+use mathlib.Core.List.{List}
 use native.Mathlib.Omega.{arith}
 use borrow.Author.Tests.{eq-eqb, ne-eqb}
 use lib.Dec.{eqb}
@@ -22,7 +22,6 @@ use Rattle.server.specs.View as serverView
 use Rattle.client.specs.declared.Ended.{Ended}
 use Rattle.client.specs.declared.Ended.the-variants.{Nothing, Written, Spent, Read}
 use Rattle.client.specs.declared.Moved.{Moved}
-use Rattle.client.specs.declared.State as client
 use Rattle.client.specs.Calls.{Answered, unlessNo}
 use Rattle.client.specs.Send.{front, recordsOf}
 use Rattle.client.specs.Calls.{endedOf, shown}
@@ -34,7 +33,6 @@ use Rattle.protocol.specs.Client as protocolClient
 use Rattle.protocol.specs.Parties as protocol
 use Rattle.protocol.specs.Parties.{withPair}
 use Rattle.parties.specs.declared.Acted.{Acted}
-use Rattle.parties.specs.declared.Answer.{Answer}
 use Rattle.parties.specs.declared.Pair.{Pair}
 use Rattle.parties.specs.Acts.{ActPost, Parts, among, answerOf, isRead, pairWithin}
 use Rattle.parties.specs.Sound.{Sound}

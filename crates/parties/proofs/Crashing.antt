@@ -1,18 +1,23 @@
 -- A party crashes.
 use Prim.Native.Nat.{ℕ}
-use mathlib.Core.Path.{_≡_, refl, sym, subst}
-use mathlib.Core.Bool.{true, false, _&&_}
+use mathlib.Core.Path.{_≡_, refl, sym, ap, subst, _∙_}
+use mathlib.Core.Bool.{Bool, true, false, cond}
 use mathlib.Core.List.{List, [], _∷_}
+use borrow.Author.Tests.{eq-eqb}
 use Rattle.laws.proofs.Bools.{and-left, and-right}
 use Rattle.config.specs.declared.Config.{Config}
 use Rattle.config.specs.declared.Refusal.{Refusal}
+use Rattle.config.specs.declared.Verdict.{Verdict}
 use Rattle.config.specs.Number.{clientNumber, serverNumber}
 use Rattle.config.specs.Questions.{ask, firstNo, within}
+use Rattle.config.specs.Refusal.{verdictNumber}
 use Rattle.config.proofs.Questions.{firstNo-no, firstNo-yes}
 use Rattle.server.specs.Within.{stateWithin as serverStateWithin}
 use Rattle.server.specs.View as serverView
 use Rattle.client.specs.declared.Phase.{Phase}
-use Rattle.client.specs.declared.State as client
+use Rattle.client.specs.declared.Moved.{Moved}
+use Rattle.client.specs.Calls.{CrashPost, inPhase}
+use Rattle.client.specs.Questions.{crashQuestions}
 use Rattle.client.specs.State as clientView
 use Rattle.client.specs.State.{phaseOf, phaseWithin, stateWithin}
 use Rattle.protocol.specs.Board.{nothingEnded}
@@ -20,8 +25,8 @@ use Rattle.protocol.specs.Parties.{quiet}
 use Rattle.protocol.proofs.Pairs.{crash-client-pair, crash-server-pair}
 use Rattle.parties.specs.declared.Acted.{Acted}
 use Rattle.parties.specs.declared.Pair.{Pair}
-use Rattle.parties.specs.Acts.{ActPost, Parts, crashesClient, crashesServer, isUp}
-use Rattle.parties.specs.inner.Acted.{quietly, refusing}
+use Rattle.parties.specs.Acts.{ActPost, Parts, crashesClient, crashesServer}
+use Rattle.parties.specs.inner.Acted.{endedBy, movedOn, quietly, refusing}
 use Rattle.parties.proofs.Acts.{accepted-act, refused-act}
 use Rattle.parties.proofs.Sound.{sound-none}
 use Rattle.client.specs.Send.{recordsOf}
@@ -48,12 +53,13 @@ module _ (cfg : Config) (x : Pair) (l : Parts) (sends read : List ℕ) where
   server-down-is down =
       refused-act cfg (firstNo (ask 9 (x .node .up) ∷ [])) (crashesServer x) x l sends read Refusal.Down (sym (firstNo-no 9 (x .node .up) [] down))
 
-  client-crashed-is : isUp (x .client .phase) ≡ true
-      → ActPost cfg (firstNo (ask 9 (isUp (x .client .phase)) ∷ [])) (crashesClient x) x l sends read (quietly (clientDown x)) l sends read
+  abbrev number : ℕ
+  number = firstNo (crashQuestions cfg (x .client))
+
+  client-down : number ≡ 0 → ActPost cfg number (crashesClient x) x l sends read (quietly (clientDown x)) l sends read
   unfolding quiet recordsOf firstNo clientView.view phaseOf stateWithin phaseWithin
-  client-crashed-is up =
-      accepted-act cfg (firstNo (ask 9 (isUp (x .client .phase)) ∷ [])) (crashesClient x) x l sends read (firstNo-yes 9 (isUp (x .client .phase)) [] up)
-      (quietly (clientDown x)) l sends read [] nothingEnded
+  client-down none =
+      accepted-act cfg number (crashesClient x) x l sends read none (quietly (clientDown x)) l sends read [] nothingEnded
       (λ p. crash-client-pair p (serverNumber (x .node .state .me)) (serverView.view cfg (x .node .state) (l .store)) (x .node .up)
       (clientNumber (x .client .me)) (clientView.view cfg (x .client) (l .kept) (l .elements)))
       refl refl refl sound-none (λ _. refl) (refl, refl)
@@ -64,27 +70,30 @@ module _ (cfg : Config) (x : Pair) (l : Parts) (sends read : List ℕ) where
       ))
       (refl, refl, refl)
 
-  client-down-is : isUp (x .client .phase) ≡ false
-      → ActPost cfg (firstNo (ask 9 (isUp (x .client .phase)) ∷ [])) (crashesClient x) x l sends read (refusing Refusal.Down x) l sends read
-  client-down-is down =
-      refused-act cfg (firstNo (ask 9 (isUp (x .client .phase)) ∷ [])) (crashesClient x) x l sends read Refusal.Down
-      (sym (firstNo-no 9 (isUp (x .client .phase)) [] down))
-
   abbrev ServerPost : Acted → Type 0
   ServerPost r = ActPost cfg (firstNo (ask 9 (x .node .up) ∷ [])) (crashesServer x) x l sends read r l sends read
 
   abbrev ClientPost : Acted → Type 0
-  ClientPost r = ActPost cfg (firstNo (ask 9 (isUp (x .client .phase)) ∷ [])) (crashesClient x) x l sends read r l sends read
+  ClientPost r = ActPost cfg number (crashesClient x) x l sends read r l sends read
 
-  -- the four, of what the code gives
+  -- of what the code gives
   pub server-crashed : x .node .up ≡ true → (r : Acted) → r ≡ quietly (serverDown x) → ServerPost r
   server-crashed up r e = subst ServerPost (sym e) (server-crashed-is up)
 
   pub server-is-down : x .node .up ≡ false → (r : Acted) → r ≡ refusing Refusal.Down x → ServerPost r
   server-is-down down r e = subst ServerPost (sym e) (server-down-is down)
 
-  pub client-crashed : isUp (x .client .phase) ≡ true → (r : Acted) → r ≡ quietly (clientDown x) → ClientPost r
-  client-crashed up r e = subst ClientPost (sym e) (client-crashed-is up)
+  pub client-crashed : (y : Moved) → CrashPost cfg (x .client) y → (r : Acted) → r ≡ movedOn (y .verdict) x y → ClientPost r
+  client-crashed y post r e = subst ClientPost (sym e) (by (y .verdict) refl)
+    where
+      is-down : number ≡ 0 → movedOn Verdict.Accepted x y ≡ quietly (clientDown x)
+      is-down none =
+          let s = post .state ∙ ap (λ (b : Bool). cond b (inPhase (x .client) Phase.Down) (x .client)) (eq-eqb number 0 none) in
+          λ i. record { answer = endedBy (s i .me) (post .nothing i); pair = record { node = x .node; client = s i }; sent = post .sent i }
 
-  pub client-is-down : isUp (x .client .phase) ≡ false → (r : Acted) → r ≡ refusing Refusal.Down x → ClientPost r
-  client-is-down down r e = subst ClientPost (sym e) (client-down-is down)
+      by : (w : Verdict) → y .verdict ≡ w → ClientPost (movedOn w x y)
+      by Verdict.Accepted h =
+          let none : number ≡ 0 = sym (post .number) ∙ ap verdictNumber h in
+          subst ClientPost (sym (is-down none)) (client-down none)
+      by (Verdict.No why) h =
+          refused-act cfg number (crashesClient x) x l sends read why (sym (ap verdictNumber h) ∙ post .number)

@@ -2,6 +2,7 @@ pub mod Acts
 pub mod Beginning
 pub mod Crashing
 pub mod Formed
+pub mod Making
 pub mod Owned
 pub mod Sound
 pub mod ToClient

@@ -18,7 +18,6 @@ use Rattle.tag.specs.Tag.{start}
 use Rattle.tag.proofs.Tag as tag
 use Rattle.record.specs.Record.{highestNumber}
 use Rattle.laws.specs.Bytes.{Bytes}
-use Rattle.server.specs.declared.State.{State}
 use Rattle.server.specs.View.{tagAt}
 use Rattle.client.specs.declared.Phase.{Phase}
 use Rattle.client.specs.declared.Phase.the-variants.{Idle, Asking, PreWriting, FinalisingWrite, FinalisingRead, Down}

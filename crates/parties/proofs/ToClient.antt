@@ -1,19 +1,19 @@
 -- A record handed to a client: its questions, and what is left of them.
-use Prim.Native.Nat.{ℕ, _*_, _≤_}
+use Prim.Native.Nat.{ℕ, _≤_}
 use mathlib.Core.Path.{_≡_, refl, sym, ap, ap₂, subst, _∙_}
 use mathlib.Core.Bool.{Bool, true, false, cond, not, _&&_, true≢false}
 use mathlib.Core.List.{List, [], _∷_, _++_, append-assoc}
 use mathlib.Core.Option.{Option, none, some}
 use native.Mathlib.Omega.{arith}
 use native.Mathlib.Decide.{ℕ-discrete}
-use borrow.Author.Tests.{eq-eqb, ne-eqb, eqb-true}
+use borrow.Author.Tests.{ne-eqb, eqb-true}
 use lib.Dec.{eqb, ltb}
 use lib.ListN.{length}
 use Rattle.laws.proofs.Bools.{and-left, and-right}
 use Rattle.config.specs.declared.Config.{Config}
 use Rattle.config.specs.declared.Refusal.{Refusal}
 use Rattle.config.specs.declared.Verdict.{Verdict}
-use Rattle.config.specs.Config.{Valid, questions, storeLength}
+use Rattle.config.specs.Config.{Valid, questions}
 use Rattle.config.specs.Number.{clientNumber, serverNumber}
 use Rattle.config.specs.Questions.{Question, ask, firstNo, numbered, within}
 use Rattle.config.specs.Refusal.{refusalNumber, verdictNumber}
@@ -24,7 +24,6 @@ use Rattle.tag.specs.Tag.{key}
 use Rattle.code.specs.Element.{element}
 use Rattle.code.specs.Decoded.{decodedPairs}
 use Rattle.record.specs.declared.Kind.{Kind}
-use Rattle.record.specs.declared.Kind.the-variants.{Query, QueryAnswer, PreWrite, PreWriteAnswer, WriteFinalise, WriteFinaliseAnswer, ReadFinalise, ReadFinaliseAnswer}
 use Rattle.record.specs.Kinds.{isForClient, isForServer}
 use Rattle.record.specs.Record.{highestNumber, isPresent, kindNumber, messageClauses, messageOf, ofConfig, presence, wellFormed}
 use Rattle.record.proofs.Clauses.{all-at}
@@ -42,7 +41,7 @@ use Rattle.client.specs.Questions.{callQuestions, isFor, stepQuestions, stepSiz
 use Rattle.client.specs.Send.{front, recordsOf}
 use Rattle.client.specs.State as clientView
 use Rattle.client.specs.State.{lent, phaseWithin, placed, placedAt, stateWithin}
-use Rattle.protocol.specs.Boards.{BoardActed, BoardClient, BoardMessage, BoardMoved, BoardParties, BoardPhase, decode, encode, order}
+use Rattle.protocol.specs.Boards.{BoardClient, BoardMessage, BoardMoved, BoardParties, BoardPhase, decode, encode, order}
 use Rattle.protocol.specs.Client as protocol
 use Rattle.protocol.specs.Client.{idle, asking, preWriting, finalisingWrite, finalisingRead, down, asked, awaited, awaits, counted, counting, endRead, ends, enough, enoughToRead, isFirst, nothing, sendPreWrites, sendReadFinalises, sendWriteFinalises, settle, settling, spent, stays}
 use Rattle.protocol.specs.Parties as parties
@@ -51,8 +50,7 @@ use Rattle.protocol.proofs.Basics.{cond-elim}
 use Rattle.protocol.proofs.Pairs.{deliver-client}
 use Rattle.parties.specs.declared.Acted.{Acted}
 use Rattle.parties.specs.declared.Pair.{Pair}
-use Rattle.parties.specs.Acts.{ActPost, ClientPost, Parts, among, answerOf, delivers, isRead, pairWithin, parts, toClientQuestions}
-use Rattle.parties.specs.Sound.{Sound}
+use Rattle.parties.specs.Acts.{ActPost, ClientPost, Parts, among, answerOf, delivers, parts, toClientQuestions}
 use Rattle.parties.specs.inner.Acted.{endedBy, movedOn, quietly, refusing}
 use Rattle.parties.proofs.Acts.{accepted-act, its-answer, not-read, refused-act}
 use Rattle.parties.proofs.Formed.{NumberedPhase, client-seen-fits, step-fits}

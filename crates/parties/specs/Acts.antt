@@ -16,8 +16,6 @@ use Rattle.server.specs.declared.State as serverState
 use Rattle.server.specs.Calls.{forServer}
 use Rattle.server.specs.Within.{stateWithin as serverStateWithin}
 use Rattle.server.specs.View as serverView
-use Rattle.client.specs.declared.Phase.{Phase}
-use Rattle.client.specs.declared.Phase.the-variants.{Idle, Asking, PreWriting, FinalisingWrite, FinalisingRead, Down}
 use Rattle.client.specs.declared.State as clientState
 use Rattle.client.specs.Questions.{isFor, stepSized}
 use Rattle.client.specs.Send.{front, recordsOf}
@@ -65,15 +63,6 @@ isRead (Answer.No why) = false
 -- what the parties do, or, refused with a number, the parties as they were, with nothing sent
 abbrev pub outcome : ℕ → (BoardParties → BoardActed) → BoardParties → BoardActed
 outcome number act p = cond (eqb number 0) (act p) (record { parties = p; sends = []; answer = refused number })
-
--- "9. Is the party to begin or crash up?", of a client
-unfoldable pub isUp : Phase → Bool
-isUp Idle = true
-isUp (Asking writes best counted) = true
-isUp (PreWriting tag counted) = true
-isUp (FinalisingWrite tag counted) = true
-isUp (FinalisingRead tag counted sent) = true
-isUp Down = false
 
 -- question 6 of the two
 abbrev pub pairWithin : Config → Pair → Bool
@@ -133,8 +122,7 @@ toClientQuestions cfg x handed kept elements sends read =
     ∷ ask 16 (isFor x (messageOf cfg handed))
     ∷ []
 
--- A record handed to the client. What is sent is caused by an answer that carries no element and ends nothing: where something is sent, no
--- buffer but that of the sends is touched.
+-- A record handed to the client: where something is sent, no buffer but that of the sends is touched.
 pub record ClientPost (cfg : Config) (number : ℕ) (act : BoardParties → BoardActed) (x : Pair) (l : Parts) (sends read : List ℕ) (r : Acted) (l′ : Parts) (sends′ read′ : List ℕ) : Type 0 where
   pub acts : ActPost cfg number act x l sends read r l′ sends′ read′
   pub quiet : 1 ≤ r .sent → (l′ ≡ l) × (read′ ≡ read)

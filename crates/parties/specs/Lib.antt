@@ -1,3 +1,5 @@
 pub mod Acts
+pub mod Fresh
 pub mod Sound
+pub mod Within
 pub mod inner

@@ -1,1 +1,2 @@
 pub mod Acted
+pub mod Fresh

@@ -3,18 +3,18 @@ use crate::Acted;
 use crate::Node;
 use crate::Pair;
 use crate::outcome;
-use client::Phase;
+use config::Config;
 use config::Refusal;
 ghost use mathlib.Core.List.{List, [], _∷_};
 ghost use Prim.Native.Nat.{ℕ};
-ghost use mathlib.Core.Path.{_≡_};
-ghost use Rattle.config.specs.declared.Config.{Config};
+ghost use Rattle.config.specs.declared.Config as declared;
 ghost use Rattle.config.specs.Questions.{ask, firstNo};
-ghost use Rattle.parties.specs.Acts.{ActPost, Parts, crashesClient, crashesServer, isUp};
+ghost use Rattle.client.specs.Questions.{crashQuestions};
+ghost use Rattle.parties.specs.Acts.{ActPost, Parts, crashesClient, crashesServer};
 
 // The server crashes: question 9. All that it keeps stays.
 pub fn server(pair: Pair) -> Acted
-    ensures { λ r. ⌜ ((cfg : Config) (l : Parts) (sends read : List ℕ) → ActPost cfg (firstNo (ask 9 (pair .node .up) ∷ [])) (crashesServer pair) pair l sends read r l sends read) ⌝ }
+    ensures { λ r. ⌜ ((cfg : declared.Config) (l : Parts) (sends read : List ℕ) → ActPost cfg (firstNo (ask 9 (pair .node .up) ∷ [])) (crashesServer pair) pair l sends read r l sends read) ⌝ }
 {
     let node = pair.node;
     let client = pair.client;
@@ -26,43 +26,11 @@ pub fn server(pair: Pair) -> Acted
     outcome::quiet(Pair { node: down, client })
 }
 
-// The client crashes: question 9.
-pub fn client(pair: Pair) -> Acted
-    ensures { λ r. ⌜ ((cfg : Config) (l : Parts) (sends read : List ℕ) → ActPost cfg (firstNo (ask 9 (isUp (pair .client .phase)) ∷ [])) (crashesClient pair) pair l sends read r l sends read) ⌝ }
+// The client crashes: questions 1 to 6, and 9.
+pub fn client(cfg: Config, pair: Pair) -> Acted
+    ensures { λ r. ⌜ ((l : Parts) (sends read : List ℕ) → ActPost cfg (firstNo (crashQuestions cfg (pair .client))) (crashesClient pair) pair l sends read r l sends read) ⌝ }
 {
-    let node = pair.node;
-    let x = pair.client;
-    let phase = x.phase;
-    if !is_up(phase) {
-        return outcome::refused(pair, Refusal::Down);
-    }
-    let me = x.me;
-    let down = client::State {
-        me,
-        operation: x.operation,
-        phase: Phase::Down,
-    };
-    outcome::quiet(Pair { node, client: down })
-}
-
-// Whether a client in that phase is up.
-fn is_up(phase: Phase) -> bool
-    ensures { λ r. ⌜ r ≡ isUp phase ⌝ }
-{
-    match phase {
-        Phase::Idle => true,
-        Phase::Asking {
-            writes: _,
-            best: _,
-            counted: _,
-        } => true,
-        Phase::PreWriting { tag: _, counted: _ } => true,
-        Phase::FinalisingWrite { tag: _, counted: _ } => true,
-        Phase::FinalisingRead {
-            tag: _,
-            counted: _,
-            sent: _,
-        } => true,
-        Phase::Down => false,
-    }
+    let client = pair.client;
+    let y = client::crash(cfg, client);
+    outcome::moved(pair, y)
 }

@@ -1,10 +1,12 @@
-// The parties of a rig that one event can touch, a server and a client, and what they do in it. Their parts of the buffers are lent, and
-// what they send goes to a lent buffer: of the messages in flight nothing is known here. Every function is proved, nothing is assumed,
-// and no public function has a `requires`.
+// The parties of a rig that one event can touch, a server and a client: their making, what they do in an event, and question 6 of each in its
+// place. Their parts of the buffers are lent, and what they send goes to a lent buffer: of the messages in flight nothing is known here. Every
+// function is proved, nothing is assumed, and no public function has a `requires`.
 pub mod begin;
 pub mod crash;
 pub mod deliver;
+pub mod fresh;
 mod outcome;
+pub mod questions;
 
 use config::Client;
 use config::Refusal;

@@ -1,7 +1,7 @@
 -- Tests, and functions changed at one number.
 use Prim.Native.Nat.{ℕ}
 use mathlib.Core.Path.{_≡_, refl, sym, _∙_, ap, fun-ext}
-use mathlib.Core.Bool.{Bool, true, false, cond, _&&_, false≢true}
+use mathlib.Core.Bool.{Bool, true, false, cond, _&&_, _||_, false≢true}
 use mathlib.Core.Logic.{_⊎_, inl, inr}
 use mathlib.Core.Option.{none, some, Option·none-ne-some, Option·some-injective}
 use lib.Dec.{eqb}
@@ -20,6 +20,14 @@ either false = inr refl
 pub and-true : (a b : Bool) → (a && b) ≡ true → (a ≡ true) × (b ≡ true)
 and-true true b e = (refl, e)
 and-true false b e = absurd (false≢true e)
+
+pub or-left : (a b : Bool) → (a || b) ≡ false → a ≡ false
+or-left true b h = h
+or-left false b h = refl
+
+pub or-right : (a b : Bool) → (a || b) ≡ false → b ≡ false
+or-right true b h = absurd (false≢true (sym h))
+or-right false b h = h
 
 -- a function changed at n, shown at m: m is n, or m is another
 pub upd-elim : {A : Type 0} (P : A → Type 0) (f : ℕ → A) (n : ℕ) (a : A) (m : ℕ) → (m ≡ n → P a) → ((m ≡ n → ⊥) → P (f m)) → P (upd f n a m)

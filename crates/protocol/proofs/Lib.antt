@@ -24,6 +24,8 @@ mod Events
 mod Recorded
 mod Fresh
 pub mod Flight
+pub mod Reordered
+pub mod Alike
 mod Move
 mod Sort
 mod Replay

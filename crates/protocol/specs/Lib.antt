@@ -6,5 +6,6 @@ pub mod Board
 pub mod Endings
 pub mod Parties
 pub mod Rig
+pub mod Alike
 pub mod Laws
 pub mod Boards

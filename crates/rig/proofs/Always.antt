@@ -18,12 +18,13 @@ use Rattle.protocol.specs.Client.{beginQuestions}
 use Rattle.protocol.specs.Parties.{questionsToBegin, questionsToCrashClient, questionsToCrashServer}
 use Rattle.protocol.specs.Rig as protocol
 use Rattle.protocol.specs.Rig.{Code, beginWrite, beginRead, handOver, lose, double, crashServer, crashClient, codeOf, positionQuestions, questionsTo11}
-use Rattle.rig.specs.declared.Rig.{Rig}
-use Rattle.rig.specs.View.{Lent, flight, view}
-use Rattle.rig.specs.Questions.{formedFor, laterQuestions, rigWithin, sized}
-use Rattle.rig.specs.Calls.{eventNo}
+use Rattle.events.specs.declared.Rig.{Rig}
+use Rattle.events.specs.View.{Lent, flight, view}
+use Rattle.events.specs.Questions.{formedFor, laterQuestions, rigWithin, sized}
+use Rattle.events.specs.Calls.{eventNo}
 use Rattle.rig.specs.Runs.{Runs, made, event}
-use Rattle.rig.proofs.Asked.{asked-six, lacks, make-five, make-sized, skip}
+use Rattle.rig.proofs.Making.{make-five, make-sized}
+use Rattle.events.proofs.Asked.{asked-six, lacks, skip}
 
 module _ (cfg : Config) (m : ℕ) (start : Board) where
   pub always-five : {r : Rig} {l : Lent} {events : List BoardEvent} → Runs cfg m start r l events → firstNo (rigQuestions cfg m) ≡ 0

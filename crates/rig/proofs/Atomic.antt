@@ -16,12 +16,13 @@ use Rattle.protocol.specs.Rig as protocol
 use Rattle.protocol.specs.Rig.{Code, codeOf, fresh, moves, refuses, unlessNo}
 use Rattle.protocol.proofs.Boards as boards
 use Rattle.parties.specs.Acts.{answerOf}
-use Rattle.rig.specs.declared.Rig.{Rig}
-use Rattle.rig.specs.View.{Lent, flight, view}
-use Rattle.rig.specs.Questions.{formedFor}
-use Rattle.rig.specs.Calls.{eventNo, outcome}
+use Rattle.events.specs.declared.Rig.{Rig}
+use Rattle.events.specs.View.{Lent, flight, view}
+use Rattle.events.specs.Questions.{formedFor}
+use Rattle.events.specs.Calls.{eventNo, outcome}
 use Rattle.rig.specs.Runs.{Runs, made, event}
-use Rattle.rig.proofs.Asked.{event-board, event-later, make-board, make-valid, no-code, to-11}
+use Rattle.rig.proofs.Making.{make-board, make-valid}
+use Rattle.events.proofs.Asked.{event-board, event-later, no-code, to-11}
 
 abbrev eventOf : BoardCall → BoardAnswer → BoardEvent
 eventOf a x = record { call = a; answer = x }

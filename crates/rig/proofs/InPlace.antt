@@ -14,16 +14,16 @@ use Rattle.config.proofs.Questions.{last-yes, rigQuestions-numbered}
 use Rattle.client.specs.declared.State as client
 use Rattle.protocol.specs.Boards.{Board, BoardEvent}
 use Rattle.parties.specs.declared.Node.{Node}
-use Rattle.rig.specs.declared.Call.{Call}
-use Rattle.rig.specs.declared.Change.{Change}
-use Rattle.rig.specs.declared.Places.{Places}
-use Rattle.rig.specs.declared.Rig.{Rig}
-use Rattle.rig.specs.View.{Lent}
-use Rattle.rig.specs.Questions.{partiesWithin, placesOf, rigWithin}
-use Rattle.rig.specs.Calls.{ChangePost, EventPost, called, partAt, turned}
+use Rattle.events.specs.declared.Call.{Call}
+use Rattle.events.specs.declared.Change.{Change}
+use Rattle.events.specs.declared.Places.{Places}
+use Rattle.events.specs.declared.Rig.{Rig}
+use Rattle.events.specs.View.{Lent}
+use Rattle.events.specs.Questions.{partiesWithin, placesOf, rigWithin}
+use Rattle.events.specs.Calls.{ChangePost, EventPost, called, partAt, turned}
 use Rattle.rig.specs.Runs.{Runs}
 use Rattle.rig.proofs.Always.{always-five, always-within}
-use Rattle.rig.proofs.Entry.{rig-changed}
+use Rattle.events.proofs.Entry.{rig-changed}
 
 module _ {cfg : Config} {m : ℕ} {start : Board} {r : Rig} {l : Lent} {events : List BoardEvent} (runs : Runs cfg m start r l events) (a : Call) where
   abbrev named : Places

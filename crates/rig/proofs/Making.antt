@@ -1,43 +1,30 @@
--- A fresh rig: its parties, one by one and all together, and what is seen of it. Assumes nothing.
+-- A fresh rig: what its questions show, its parties together, and what is seen of it. Assumes nothing.
 use Prim.Native.Nat.{ℕ, _+_, _-_, _*_, _≤_, _<_, min}
 use mathlib.Core.Path.{_≡_, refl, sym, ap, ap₂, subst, fun-ext, _∙_}
 use mathlib.Core.Bool.{Bool, true, false, cond, _&&_}
 use mathlib.Core.Option.{Option, some}
-use mathlib.Core.List.{List, [], _∷_, _++_}
+use mathlib.Core.List.{List, [], _++_}
 use native.Mathlib.Omega.{arith}
 use native.Mathlib.Decide.{ℕ-discrete}
 use lib.Dec.{eqb}
-use borrow.Author.Tests.{eq-eqb, le-leb}
+use borrow.Author.Tests.{eq-eqb, eqb-true, le-leb}
 use lib.ListN.{length, take, drop, set, getElem?}
 use Rattle.laws.specs.Parts.{over, part}
+use Rattle.laws.proofs.Bools.{and-left, and-right}
 use Rattle.laws.proofs.Lists.{at-set, at-set-other}
 use Rattle.laws.proofs.Parts.{lent-length, over-lent, part-other, part-own}
 use Rattle.config.specs.declared.Config.{Config}
-use Rattle.config.specs.declared.Client.{Client as ClientNumber}
-use Rattle.config.specs.declared.Server.{Server as ServerNumber}
 use Rattle.config.specs.declared.Verdict.{Verdict}
-use Rattle.config.specs.Config.{Valid, questions, rigQuestions}
-use Rattle.config.specs.Number.{clientNumber, clientQuestions, serverNumber}
-use Rattle.config.specs.Questions.{ask, firstNo, lastQuestion, numbered, within}
+use Rattle.config.specs.Config.{Valid, boardLength, rigQuestions, storeLength}
+use Rattle.config.specs.Questions.{firstNo, lastQuestion, numbered, within}
 use Rattle.config.specs.Refusal.{verdictNumber}
-use Rattle.config.proofs.Questions.{firstNo-high, firstNo-pass, firstNo-yes, last-yes, questions-numbered, within-high, within-low, within-true}
-use Rattle.config.proofs.Valid.{valid-asked}
+use Rattle.config.proofs.Questions.{firstNo-high, none-first, within-high, within-low, within-true}
 use Rattle.code.specs.Element.{element}
-use Rattle.code.specs.Encode.{EncodePost, encodeQuestions}
-use Rattle.code.proofs.Decoding.{length-element}
-use Rattle.code.proofs.Encodable.{accepted as encode-accepted}
-use Rattle.server.specs.declared.Stepped.{Stepped}
 use Rattle.server.specs.Calls as server
-use Rattle.config.specs.Config.{storeLength}
-use Rattle.server.specs.Within as limits
 use Rattle.server.specs.View as serverView
-use Rattle.server.proofs.Invariant.{fresh-within}
-use Rattle.server.proofs.Laws as serverLaws
-use Rattle.client.specs.declared.NewState.{NewState}
 use Rattle.client.specs.declared.State as client
-use Rattle.client.specs.Calls as clientCalls
 use Rattle.client.specs.State as clientView
-use Rattle.client.specs.State.{phaseOf, phaseWithin, stateWithin}
+use Rattle.client.specs.State.{phaseOf}
 use Rattle.flight.specs.Flight.{records}
 use Rattle.protocol.specs.Boards.{Board, freshParties, freshRig}
 use Rattle.protocol.specs.Client.{freshClient}
@@ -45,66 +32,52 @@ use Rattle.protocol.specs.Parties as parties
 use Rattle.protocol.specs.Rig as rig
 use Rattle.protocol.specs.Server.{freshServer, noServer}
 use Rattle.parties.specs.declared.Node.{Node}
-use Rattle.rig.specs.declared.Rig.{Rig}
-use Rattle.rig.specs.View.{Lent, clientOf, clientSeen, messagesOf, partiesOf, place, serverOf, serverSeen, upOf, upSeen, view}
-use Rattle.rig.specs.Questions.{clientWithin, makeQuestions, rigWithin, serverWithin, sizedBy}
-use Rattle.rig.specs.Calls.{MakePost, freshNode, freshState, leastRig, makeNo}
-use Rattle.rig.specs.inner.Fresh.{FreshClients, FreshServer, FreshServers, NodePost, NodePre, RigPost, RigPre}
-use Rattle.rig.proofs.Below.{below-all}
-use Rattle.rig.proofs.Asked.{make-board, make-sized, make-valid}
-use Rattle.rig.proofs.Sizes.{stores-are}
+use Rattle.parties.specs.declared.fresh.NewNode.{NewNode}
+use Rattle.parties.specs.Fresh.{FreshServerPost, freshNode, freshState, serverNo}
+use Rattle.events.specs.declared.Rig.{Rig}
+use Rattle.events.specs.View.{Lent, clientOf, clientSeen, messagesOf, partiesOf, place, serverOf, serverSeen, upOf, upSeen, view}
+use Rattle.parties.specs.Within.{clientInPlace, serverInPlace}
+use Rattle.parties.proofs.Making.{client-within, node-within}
+use Rattle.events.specs.Questions.{rigWithin, sized, sizedBy}
+use Rattle.rig.specs.Calls.{MakePost, leastRig, makeNo, makeQuestions}
+use Rattle.rig.specs.inner.Fresh.{FreshClients, FreshServer, FreshServers, RigPost, RigPre}
+use Rattle.events.proofs.Below.{below-all}
+use Rattle.events.proofs.Asked.{is-valid, six}
+use Rattle.events.proofs.Lengths.{stores-are}
+
+-- ---- no question is answered no
+
+-- a making that got no number
+module _ (cfg : Config) (m : ℕ) (start : Board) (l : Lent) (h : firstNo (makeQuestions cfg m start l) ≡ 0) where
+  abbrev startIs : Bool
+  startIs = eqb (length start) (boardLength cfg)
+
+  pub make-five : firstNo (rigQuestions cfg m) ≡ 0
+  unfolding makeQuestions
+  make-five = none-first (rigQuestions cfg m) _ h
+
+  pub make-valid : Valid cfg
+  unfolding makeQuestions
+  make-valid = is-valid cfg m (startIs && sized cfg m l) [] h
+
+  made-shaped : (startIs && sized cfg m l) ≡ true
+  unfolding makeQuestions
+  made-shaped = six cfg m (startIs && sized cfg m l) [] h .0
+
+  pub make-board : length start ≡ boardLength cfg
+  make-board = eqb-true (length start) (boardLength cfg) (and-left startIs (sized cfg m l) made-shaped)
+
+  pub make-sized : sized cfg m l ≡ true
+  make-sized = and-right startIs (sized cfg m l) made-shaped
 
 -- ---- one party
 
--- server s
-module _ (cfg : Config) (s : ℕ) (start store : List ℕ) (pre : NodePre cfg s start store) where
-  -- its element is encoded
-  pub encoded : (buffer after : List ℕ) (r : Verdict) → length buffer ≡ cfg .e → EncodePost cfg start s buffer after r → after ≡ element cfg start s
-  encoded buffer after r long post =
-      post .buffer
-      ∙ ap (λ (b : Bool). cond b (element cfg start s) buffer)
-      (eq-eqb (firstNo (encodeQuestions cfg (length start) s (length buffer))) 0
-      (sym (encode-accepted cfg (length start) s (length buffer) (valid-asked cfg (pre .valid)) (pre .start-length) long
-      (within-low 1 (cfg .n) s (pre .inside)) (within-high 1 (cfg .n) s (pre .inside)))))
-
-  -- and put into its store
-  pub node-made : (me : ServerNumber) → serverNumber me ≡ s → (buffer after : List ℕ) → buffer ≡ element cfg start s → (r : Stepped)
-      → server.FreshPost cfg me buffer store after r → NodePost cfg s start store after (record { state = r .state; up = true })
-  unfolding server.freshQuestions firstNo
-  node-made me own buffer after is r post =
-      let accepted : verdictNumber (r .verdict) ≡ 0 =
-      post .number
-      ∙ firstNo-pass (questions cfg) (ask 6 (eqb (length buffer) (cfg .e) && eqb (length store) (storeLength cfg)) ∷ ask 8 (within 1 (cfg .n) (serverNumber me)) ∷ []) (questions-numbered cfg) (valid-asked cfg (pre .valid))
-      ∙ firstNo-yes 6 _ (ask 8 (within 1 (cfg .n) (serverNumber me)) ∷ [])
-      (ap₂ _&&_ (eq-eqb (length buffer) (cfg .e) (ap length is ∙ length-element cfg start s)) (eq-eqb (length store) (storeLength cfg) (pre .store-length)))
-      ∙ firstNo-yes 8 _ [] (ap (within 1 (cfg .n)) own ∙ pre .inside) in
-      let node : record { state = r .state; up = true } ≡ freshNode s = ap (λ z. record { state = z; up = true }) (post .state) ∙ ap freshNode own in
-      record {
-        is = node;
-        seen = ap (λ (x : Node). serverView.view cfg (x .state) after) (sym node) ∙ serverLaws.fresh-view cfg me buffer store after r post accepted ∙ ap freshServer is;
-        long = serverLaws.fresh-valid cfg me buffer store after r post accepted .long ∙ sym (pre .store-length);
-      }
-
--- it passes question 6
-pub node-within : (cfg : Config) (s : ℕ) (store : List ℕ) (e : List ℕ) → within 1 (cfg .n) s ≡ true
-    → serverView.view cfg (freshNode s .state) store ≡ freshServer e → limits.stateWithin cfg (freshNode s .state) ≡ true
-unfolding server.freshState
-node-within cfg s store e inside is =
-    serverLaws.within-state cfg (freshNode s .state) store inside (ap (limits.serverWithin cfg) is ∙ fresh-within cfg e)
-
--- client c
-module _ (cfg : Config) (c : ℕ) (valid : Valid cfg) (inside : within 1 (cfg .c) c ≡ true) where
-  asked : (me : ClientNumber) → clientNumber me ≡ c → firstNo (clientQuestions cfg (clientNumber me)) ≡ 0
-  unfolding clientQuestions
-  asked me own =
-      last-yes (questions cfg) 8 _ (questions-numbered cfg) (valid-asked cfg valid) (ap (within 1 (cfg .c)) own ∙ inside)
-
-  pub client-is : (me : ClientNumber) → clientNumber me ≡ c → (r : NewState) → clientCalls.FreshPost cfg me r → r ≡ NewState.Made (freshState c)
-  client-is me own r post = post .made (asked me own) ∙ ap (λ n. NewState.Made (freshState n)) own
-
-  pub client-within : stateWithin cfg (freshState c) ≡ true
-  unfolding stateWithin phaseWithin
-  client-within = rw inside
+-- server 1 is made where it can be, and is given where none can
+pub least-node : {cfg : Config} {start before after : List ℕ} {r : NewNode} → FreshServerPost cfg 1 start before after r → r .node ≡ freshNode 1
+least-node {cfg} {start} {before} {after} {r} post = elim (ℕ-discrete (serverNo cfg 1 start before) 0) as (λ _. r .node ≡ freshNode 1) [
+  | yes z ↦ post .made z
+  | no n ↦ post .refused n .0
+]
 
 -- ---- one place more
 
@@ -127,15 +100,16 @@ module _ (cfg : Config) (start : List ℕ) (i : ℕ) (nodes : List Node) (x : No
   abbrev at : ℕ
   at = i * wide
 
-  pub servers-more : NodePost cfg (i + 1) start (take (at + wide - at) (drop at stores)) after x → i < length nodes → FreshServers cfg start i nodes stores
+  pub servers-more : {r : NewNode} → FreshServerPost cfg (i + 1) start (take (at + wide - at) (drop at stores)) after r
+      → serverNo cfg (i + 1) start (take (at + wide - at) (drop at stores)) ≡ 0 → x ≡ r .node → i < length nodes → FreshServers cfg start i nodes stores
       → FreshServers cfg start (i + 1) (set nodes i x) (take at stores ++ (after ++ drop (at + wide - at) (drop at stores)))
-  servers-more post room below =
+  servers-more post none is room below =
       let long : length after ≡ wide = post .long ∙ lent-length stores at wide fits in
       let stores′ = over at wide after stores in
       subst (FreshServers cfg start (i + 1) (set nodes i x)) (sym (over-lent at wide after stores))
       (places-more (λ j o. FreshServer cfg start j o (part wide j stores′)) i nodes x room
       (λ j h. subst (FreshServer cfg start j (getElem? nodes j)) (sym (part-other wide i after stores long fits j (λ e. omega (arith, e, h)))) (below j h))
-      (subst (FreshServer cfg start i (some x)) (sym (part-own wide i after stores long fits)) (record { is = ap some (post .is); seen = post .seen })))
+      (subst (FreshServer cfg start i (some x)) (sym (part-own wide i after stores long fits)) (record { is = ap some (is ∙ post .made none); seen = post .seen none })))
 
 -- ---- the rig
 
@@ -208,18 +182,18 @@ module _ (cfg : Config) (m : ℕ) (start : Board) (l : Lent) (got : ℕ) (asked 
       sees =
           ap₂ (λ p n. record { parties = p; inFlight = messagesOf cfg (records n (l .messages)) }) parties-seen (post .nothing)
 
-      server-within : (i : ℕ) → i < cfg .n → serverWithin cfg i (getElem? (r .servers) i) ≡ true
-      unfolding serverWithin server.freshState
+      server-within : (i : ℕ) → i < cfg .n → serverInPlace cfg i (getElem? (r .servers) i) ≡ true
+      unfolding serverInPlace server.freshState
       server-within i h =
           let fresh = post .servers .fresh i h in
-          ap (serverWithin cfg i) (fresh .is)
+          ap (serverInPlace cfg i) (fresh .is)
           ∙ ap₂ _&&_ (eq-eqb (i + 1) (i + 1) refl)
           (node-within cfg (i + 1) _ _ (within-true 1 (cfg .n) (i + 1) (omega arith) (omega (arith, h))) (fresh .seen))
 
-      client-stands : (i : ℕ) → i < cfg .c → clientWithin cfg i (getElem? (r .clients) i) ≡ true
-      unfolding clientWithin
+      client-stands : (i : ℕ) → i < cfg .c → clientInPlace cfg i (getElem? (r .clients) i) ≡ true
+      unfolding clientInPlace
       client-stands i h =
-          ap (clientWithin cfg i) (post .clients i h)
+          ap (clientInPlace cfg i) (post .clients i h)
           ∙ ap₂ _&&_ (eq-eqb (i + 1) (i + 1) refl)
           (client-within cfg (i + 1) (making .valid) (within-true 1 (cfg .c) (i + 1) (omega arith) (omega (arith, h))))
 
@@ -228,8 +202,8 @@ module _ (cfg : Config) (m : ℕ) (start : Board) (l : Lent) (got : ℕ) (asked 
       stands =
           ap₂ _&&_ (le-leb (r .count) m (omega (arith, post .nothing)))
           (ap₂ _&&_
-          (below-all (cfg .n) (λ i. serverWithin cfg i (getElem? (r .servers) i)) server-within)
-          (below-all (cfg .c) (λ i. clientWithin cfg i (getElem? (r .clients) i)) client-stands))
+          (below-all (cfg .n) (λ i. serverInPlace cfg i (getElem? (r .servers) i)) server-within)
+          (below-all (cfg .c) (λ i. clientInPlace cfg i (getElem? (r .clients) i)) client-stands))
 
       pub make-done : MakePost cfg m start l (record { verdict = Verdict.Accepted; rig = r }) l′
       make-done =

@@ -11,9 +11,9 @@ use Rattle.config.specs.Questions.{firstNo}
 use Rattle.protocol.specs.Boards.{Board, BoardCall, BoardEvent, BoardRig, event as protocolEvent, freshRig, moveOf, questions, run}
 use Rattle.protocol.specs.Rig as protocol
 use Rattle.protocol.specs.Rig.{codeOf, unlessNo}
-use Rattle.rig.specs.declared.Rig.{Rig}
-use Rattle.rig.specs.View.{Lent, view}
-use Rattle.rig.specs.Calls.{outcome}
+use Rattle.events.specs.declared.Rig.{Rig}
+use Rattle.events.specs.View.{Lent, view}
+use Rattle.events.specs.Calls.{outcome}
 use Rattle.rig.specs.Runs.{Runs, Whole, callsOf, event, made}
 use Rattle.rig.proofs.Always.{always-asks}
 use Rattle.rig.proofs.Never.{always-twelve}

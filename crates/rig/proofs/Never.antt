@@ -28,12 +28,12 @@ use Rattle.protocol.specs.Rig.{Code, beginWrite, beginRead, handOver, lose, dou
 use Rattle.parties.specs.Sound.{Sound}
 use Rattle.parties.proofs.Formed.{ActedFits, PartiesFit, begin-fits, crash-client-fits, crash-server-fits, deliver-fits, fresh-fits, quiet-fits}
 use Rattle.parties.proofs.Sound.{sound-append, sound-at, sound-doubled, sound-first, sound-none, sound-rest, sound-without}
-use Rattle.rig.specs.declared.Rig.{Rig}
-use Rattle.rig.specs.View.{Lent, flight, messagesOf, view}
-use Rattle.rig.specs.Questions.{eventQuestions, formed, formedFor}
-use Rattle.rig.specs.Calls.{eventNo, outcome, recordsAfter}
+use Rattle.events.specs.declared.Rig.{Rig}
+use Rattle.events.specs.View.{Lent, flight, messagesOf, view}
+use Rattle.events.specs.Questions.{eventQuestions, formed, formedFor}
+use Rattle.events.specs.Calls.{eventNo, outcome, recordsAfter}
 use Rattle.rig.specs.Runs.{Runs, made, event}
-use Rattle.rig.proofs.Asked.{event-later, lacks, no-code, skip, to-11}
+use Rattle.events.proofs.Asked.{event-later, lacks, no-code, skip, to-11}
 use Rattle.rig.proofs.Atomic.{execution, origin}
 
 -- ---- the protocol's moves keep to the limits

@@ -7,8 +7,8 @@ use denote.Laws.{Is}
 use Rattle.client.proofs.State as client
 use Rattle.parties.proofs.Node as node
 use Rattle.parties.proofs.Owned.{array-length}
-use Rattle.rig.specs.declared.Rig.{Rig}
-use Rattle.rig.proofs.Rig as rig
+use Rattle.events.specs.declared.Rig.{Rig}
+use Rattle.events.proofs.Rig as rig
 
 pub server-places : (r : Rig) (vs : List Val) → Is rig.the-row r vs → length (r .servers) ≡ 16
 server-places r vs p = array-length node.the-field 16 (r .servers) _ (p .1 .1 .0)

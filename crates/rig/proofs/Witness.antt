@@ -18,16 +18,18 @@ use Rattle.server.specs.Calls as server
 use Rattle.server.specs.View as serverView
 use Rattle.server.specs.View.{each}
 use Rattle.protocol.specs.Server.{freshServer}
-use Rattle.rig.specs.declared.Call.{Call}
-use Rattle.rig.specs.declared.Part.{Part}
-use Rattle.rig.specs.declared.Rig.{Rig}
-use Rattle.rig.specs.View.{Lent}
-use Rattle.rig.specs.Questions.{allSized, clientWithin, hasPlaces, partQuestions, partWithin, placesOf, rigWithin, serverWithin}
-use Rattle.rig.specs.Calls.{PartOf, freshNode, freshState, partNo, withPart}
-use Rattle.rig.proofs.Below.{below-all}
-use Rattle.rig.proofs.Entry.{client-low, lent-valid, server-low}
-use Rattle.rig.proofs.Making.{client-within, node-within}
-use Rattle.rig.proofs.RigWithin.{part-within}
+use Rattle.events.specs.declared.Call.{Call}
+use Rattle.events.specs.declared.Part.{Part}
+use Rattle.events.specs.declared.Rig.{Rig}
+use Rattle.events.specs.View.{Lent}
+use Rattle.parties.specs.Within.{clientInPlace, serverInPlace}
+use Rattle.events.specs.Questions.{allSized, hasPlaces, partQuestions, partWithin, placesOf, rigWithin}
+use Rattle.events.specs.Calls.{PartOf, partNo, withPart}
+use Rattle.parties.specs.Fresh.{freshNode, freshState}
+use Rattle.events.proofs.Below.{below-all}
+use Rattle.events.proofs.Entry.{client-low, lent-valid, server-low}
+use Rattle.parties.proofs.Making.{client-within, node-within}
+use Rattle.events.proofs.RigWithin.{part-within}
 
 each-at : {A : Type 0} (f : ℕ → A) (i n j : ℕ) → j < n → getElem? (each f i n) j ≡ some (f (i + j))
 unfolding each
@@ -47,29 +49,29 @@ abbrev pub others : Rig
 others = record { servers = each (λ i. freshNode (i + 1)) 0 16; clients = each (λ i. freshState (i + 1)) 0 16; count = 0 }
 
 module _ (cfg : Config) (valid : Valid cfg) where
-  server-at : (i : ℕ) → i < cfg .n → serverWithin cfg i (getElem? (others .servers) i) ≡ true
-  unfolding serverWithin serverView.view each freshServer server.freshState
+  server-at : (i : ℕ) → i < cfg .n → serverInPlace cfg i (getElem? (others .servers) i) ≡ true
+  unfolding serverInPlace serverView.view each freshServer server.freshState
   server-at i h =
       let e : 0 + i ≡ i = omega arith in
-      ap (serverWithin cfg i) (each-at (λ j. freshNode (j + 1)) 0 16 i (omega (arith, h, valid .n-high)))
-      ∙ ap (λ k. serverWithin cfg i (some (freshNode (k + 1)))) e
+      ap (serverInPlace cfg i) (each-at (λ j. freshNode (j + 1)) 0 16 i (omega (arith, h, valid .n-high)))
+      ∙ ap (λ k. serverInPlace cfg i (some (freshNode (k + 1)))) e
       ∙ ap₂ _&&_ (eq-eqb (i + 1) (i + 1) refl)
       (node-within cfg (i + 1) [] (serverView.elementAt cfg [] 0) (within-true 1 (cfg .n) (i + 1) (omega arith) (omega (arith, h))) refl)
 
-  client-at : (i : ℕ) → i < cfg .c → clientWithin cfg i (getElem? (others .clients) i) ≡ true
-  unfolding clientWithin
+  client-at : (i : ℕ) → i < cfg .c → clientInPlace cfg i (getElem? (others .clients) i) ≡ true
+  unfolding clientInPlace
   client-at i h =
       let e : 0 + i ≡ i = omega arith in
-      ap (clientWithin cfg i) (each-at (λ j. freshState (j + 1)) 0 16 i (omega (arith, h, valid .c-high)))
-      ∙ ap (λ k. clientWithin cfg i (some (freshState (k + 1)))) e
+      ap (clientInPlace cfg i) (each-at (λ j. freshState (j + 1)) 0 16 i (omega (arith, h, valid .c-high)))
+      ∙ ap (λ k. clientInPlace cfg i (some (freshState (k + 1)))) e
       ∙ ap₂ _&&_ (eq-eqb (i + 1) (i + 1) refl) (client-within cfg (i + 1) valid (within-true 1 (cfg .c) (i + 1) (omega arith) (omega (arith, h))))
 
   others-within : (m : ℕ) → rigWithin cfg m others ≡ true
   unfolding rigWithin
   others-within m =
       ap₂ _&&_ (le-leb 0 m (omega arith))
-      (ap₂ _&&_ (below-all (cfg .n) (λ i. serverWithin cfg i (getElem? (others .servers) i)) server-at)
-      (below-all (cfg .c) (λ i. clientWithin cfg i (getElem? (others .clients) i)) client-at))
+      (ap₂ _&&_ (below-all (cfg .n) (λ i. serverInPlace cfg i (getElem? (others .servers) i)) server-at)
+      (below-all (cfg .c) (λ i. clientInPlace cfg i (getElem? (others .clients) i)) client-at))
 
 pub some-rig : (cfg : Config) (m : ℕ) (p : Part) (a : Call) (board read : List ℕ) (l : Lent) → partNo cfg m p a board read l ≡ 0
     → PartOf (withPart others p) p × (rigWithin cfg m (withPart others p) ≡ true)
@@ -96,6 +98,6 @@ some-rig cfg m p a board read l e =
         count = refl;
       },
       part-within cfg m others (others-within cfg valid m) p (leb-true (p .count) m (and-right long few two)) server client
-          (and-left (serverWithin cfg (p .server) (some (p .pair .node))) (clientWithin cfg (p .client) (some (p .pair .client))) pair)
-          (and-right (serverWithin cfg (p .server) (some (p .pair .node))) (clientWithin cfg (p .client) (some (p .pair .client))) pair),
+          (and-left (serverInPlace cfg (p .server) (some (p .pair .node))) (clientInPlace cfg (p .client) (some (p .pair .client))) pair)
+          (and-right (serverInPlace cfg (p .server) (some (p .pair .node))) (clientInPlace cfg (p .client) (some (p .pair .client))) pair),
     )

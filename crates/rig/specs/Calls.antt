@@ -1,43 +1,28 @@
--- The rig's calls: what each answers and leaves.
-use Prim.Native.Nat.{ℕ, _-_}
-use mathlib.Core.Bool.{true, false}
+-- The making of a rig: what it asks, answers and leaves.
+use Prim.Native.Nat.{ℕ}
+use mathlib.Core.Bool.{true, _&&_}
 use mathlib.Core.Path.{_≡_}
-use mathlib.Core.Option.{Option, none, some}
-use mathlib.Core.List.{List, _++_, map}
-use lib.ListN.{length, drop, getElem?, replicate, set}
-use Rattle.laws.specs.Lists.{toList, without}
+use mathlib.Core.List.{List, [], _∷_, _++_}
+use lib.Dec.{eqb}
+use lib.ListN.{length, replicate}
 use Rattle.config.specs.declared.Config.{Config}
-use Rattle.config.specs.Questions.{firstNo}
+use Rattle.config.specs.Config.{boardLength, rigQuestions}
+use Rattle.config.specs.Questions.{Question, ask, firstNo}
 use Rattle.config.specs.Refusal.{verdictNumber}
-use Rattle.record.specs.Record.{recordOf}
-use Rattle.server.specs.Calls as server
-use Rattle.client.specs.declared.State as client
-use Rattle.client.specs.Calls as clientCalls
-use Rattle.protocol.specs.Boards.{Board, BoardCall, BoardMessage, BoardTurn, freshRig, moveOf}
-use Rattle.protocol.specs.Rig.{Code, beginWrite, beginRead, handOver, lose, double, crashServer, crashClient, codeOf, unlessNo}
-use Rattle.protocol.specs.Board.{refused}
-use Rattle.parties.specs.declared.Node.{Node}
-use Rattle.parties.specs.Acts.{answerOf, isRead}
-use Rattle.rig.specs.declared.Call.{Call}
-use Rattle.rig.specs.declared.Change.{Change}
+use Rattle.protocol.specs.Boards.{Board, freshRig}
+use Rattle.parties.specs.Fresh.{freshNode, freshState}
+use Rattle.events.specs.declared.Rig.{Rig}
+use Rattle.events.specs.View.{Lent, view}
+use Rattle.events.specs.Questions.{rigWithin, sized}
 use Rattle.rig.specs.declared.Made.{Made}
-use Rattle.rig.specs.declared.Part.{Part}
-use Rattle.rig.specs.declared.Places.{Places}
-use Rattle.rig.specs.declared.Rig.{Rig}
-use Rattle.rig.specs.declared.Turn.{Turn}
-use Rattle.rig.specs.View.{Lent, flight, view}
-use Rattle.rig.specs.Questions.{eventQuestions, makeQuestions, partQuestions, rigWithin, sized}
-
--- a fresh server in its place, up, and a fresh client: of number 1, 2, ..
-abbrev pub freshNode : ℕ → Node
-freshNode s = record { state = server.freshState (record { 0 = s }); up = true }
-
-abbrev pub freshState : ℕ → client.State
-freshState c = clientCalls.freshState (record { 0 = c })
 
 -- the rig that a refused making gives: nothing is in flight, and every place has a fresh party of number 1
 abbrev pub leastRig : Rig
 leastRig = record { servers = replicate 16 (freshNode 1); clients = replicate 16 (freshState 1); count = 0 }
+
+-- Making: questions 1 to 5; 6, of the starting board and of the buffers lent.
+unfoldable pub makeQuestions : Config → ℕ → List ℕ → Lent → List Question
+makeQuestions cfg m start l = rigQuestions cfg m ++ ask 6 (eqb (length start) (boardLength cfg) && sized cfg m l) ∷ []
 
 -- the number of the first question that is answered no, or 0
 abbrev pub makeNo : Config → ℕ → Board → Lent → ℕ
@@ -54,84 +39,3 @@ pub record MakePost (cfg : Config) (m : ℕ) (start : Board) (l : Lent) (r : Mad
   -- "The first "no" is returned; state and buffers hold their old content"
   pub held : (makeNo cfg m start l ≡ 0 → ⊥) → l′ ≡ l
   pub refused : (makeNo cfg m start l ≡ 0 → ⊥) → r .rig ≡ leastRig
-
--- an event as it is called: its code, party and position, and the board handed in
-abbrev pub called : Call → Board → BoardCall
-called a board = record { code = a .code; party = a .party; position = a .position; board = board }
-
--- the refusal's number, or 0
-abbrev pub eventNo : Config → ℕ → Rig → BoardCall → List ℕ → Lent → ℕ
-eventNo cfg m r a read l = firstNo (eventQuestions cfg m r a read l)
-
--- what the protocol's event leaves and answers, or the refusal with all as it was
-abbrev pub outcome : Config → ℕ → Rig → BoardCall → List ℕ → Lent → BoardTurn
-outcome cfg m r a read l = unlessNo (view cfg r l) (moveOf cfg (view cfg r l) a (codeOf (a .code))) (eventNo cfg m r a read l)
-
--- the records in flight after an event that was not refused, with the messages then in flight: those that stay are left byte for
--- byte, "in order of sending", and what is sent stands at the end
-unfoldable pub recordsAfter : Config → List (List ℕ) → ℕ → List BoardMessage → Option Code → List (List ℕ)
-recordsAfter cfg rs i ms none = rs
-recordsAfter cfg rs i ms (some beginWrite) = rs ++ map (recordOf cfg) (drop (length rs) ms)
-recordsAfter cfg rs i ms (some beginRead) = rs ++ map (recordOf cfg) (drop (length rs) ms)
-recordsAfter cfg rs i ms (some handOver) = without i rs ++ map (recordOf cfg) (drop (length rs - 1) ms)
-recordsAfter cfg rs i ms (some lose) = without i rs
-recordsAfter cfg rs i ms (some double) = rs ++ toList (getElem? rs i)
-recordsAfter cfg rs i ms (some crashServer) = rs
-recordsAfter cfg rs i ms (some crashClient) = rs
-
--- An event, with the lent buffers as they were and as they are left.
-pub record EventPost (cfg : Config) (m : ℕ) (r : Rig) (a : BoardCall) (read : List ℕ) (l : Lent) (t : Turn) (read′ : List ℕ) (l′ : Lent) : Type 0 where
-  -- the refusal, or what the protocol's event answers
-  pub answer : answerOf (t .answer) read′ ≡ outcome cfg m r a read l .answer
-  -- "in a lent buffer, touched in no other answer"
-  pub untouched : isRead (t .answer) ≡ false → read′ ≡ read
-  -- the rig left is what the protocol's event leaves
-  pub seen : view cfg (t .rig) l′ ≡ outcome cfg m r a read l .rig
-  -- the records in flight, byte for byte
-  pub records : eventNo cfg m r a read l ≡ 0
-      → flight (t .rig) l′ ≡ recordsAfter cfg (flight r l) (a .position) (outcome cfg m r a read l .rig .inFlight) (codeOf (a .code))
-  -- the rig left passes every question about a state
-  pub within : eventNo cfg m r a read l ≡ 0 → rigWithin cfg m (t .rig) ≡ true
-  pub lengths : sized cfg m l′ ≡ sized cfg m l
-  -- "The first "no" is returned; state and buffers hold their old content"
-  pub held : (eventNo cfg m r a read l ≡ 0 → ⊥) → (t .rig ≡ r) × (l′ ≡ l)
-
--- the rig with a part put in its places
-abbrev pub withPart : Rig → Part → Rig
-withPart r p =
-    record {
-      servers = set (r .servers) (p .server) (p .pair .node);
-      clients = set (r .clients) (p .client) (p .pair .client);
-      count = p .count;
-    }
-
--- what a change makes of a rig
-abbrev pub turned : Rig → Change → Turn
-turned r x = record { answer = x .answer; rig = withPart r (x .part) }
-
--- the part of these places, parties and count
-abbrev pub partAt : Places → Node → client.State → ℕ → Part
-partAt x node state count = record { server = x .server; client = x .client; pair = record { node = node; client = state }; count = count }
-
--- a part is of a rig: its parties stand there in its places, and the count is the rig's
-pub record PartOf (r : Rig) (p : Part) : Type 0 where
-  pub node : getElem? (r .servers) (p .server) ≡ some (p .pair .node)
-  pub client : getElem? (r .clients) (p .client) ≡ some (p .pair .client)
-  pub count : r .count ≡ p .count
-
--- the first of the part's questions that is answered no, or 0
-abbrev pub partNo : Config → ℕ → Part → Call → List ℕ → List ℕ → Lent → ℕ
-partNo cfg m p a board read l = firstNo (partQuestions cfg m p a board read l)
-
--- The same event by the part of a rig that it can touch.
-pub record ChangePost (cfg : Config) (m : ℕ) (p : Part) (a : Call) (board read : List ℕ) (l : Lent) (x : Change) (read′ : List ℕ) (l′ : Lent) : Type 0 where
-  -- its places stay
-  pub server : x .part .server ≡ p .server
-  pub client : x .part .client ≡ p .client
-  -- "The first "no" is returned; state and buffers hold their old content"
-  pub refuses : (partNo cfg m p a board read l ≡ 0 → ⊥)
-      → (answerOf (x .answer) read′ ≡ refused (partNo cfg m p a board read l)) × (x .part ≡ p) × (read′ ≡ read) × (l′ ≡ l)
-  -- of every rig that the part is of and whose parties pass question 6: what is left, put into the part's places, is what the rig's event
-  -- leaves, with its answer and its buffers
-  pub event : partNo cfg m p a board read l ≡ 0 → (r : Rig) → PartOf r p → rigWithin cfg m r ≡ true
-      → EventPost cfg m r (called a board) read l (turned r x) read′ l′

@@ -1,5 +1,5 @@
+pub mod Alike
 pub mod Calls
-pub mod Questions
+pub mod InPlace
 pub mod Runs
-pub mod View
 pub mod inner

@@ -10,10 +10,11 @@ use Rattle.laws.specs.Bytes.{Bytes}
 use Rattle.protocol.specs.Boards.{Board, BoardCall, BoardEvent}
 use Rattle.parties.specs.Acts.{answerOf}
 use Rattle.rig.specs.declared.Made.{Made}
-use Rattle.rig.specs.declared.Rig.{Rig}
-use Rattle.rig.specs.declared.Turn.{Turn}
-use Rattle.rig.specs.View.{Lent}
-use Rattle.rig.specs.Calls.{MakePost, EventPost}
+use Rattle.events.specs.declared.Rig.{Rig}
+use Rattle.events.specs.declared.Turn.{Turn}
+use Rattle.events.specs.View.{Lent}
+use Rattle.events.specs.Calls.{EventPost}
+use Rattle.rig.specs.Calls.{MakePost}
 
 -- A list of events, from a making, with the rig and the buffers as its last event left them.
 pub data Runs (cfg : Config) (m : ℕ) (start : Board) : Rig → Lent → List BoardEvent → Type 0 where
@@ -35,3 +36,7 @@ callsOf events = map (λ x. x .call) events
 unfoldable pub Whole : {cfg : Config} {m : ℕ} {start : Board} {r : Rig} {l : Lent} {events : List BoardEvent} → Runs cfg m start r l events → Type 0
 Whole (made b p e) = Unit {0}
 Whole {cfg = cfg} (event runs a b read read′ p) = Whole runs × (length (a .board) ≡ boardLength cfg) × (length read ≡ boardLength cfg)
+
+-- a list of events of which that is so
+abbrev pub WholeRuns : (cfg : Config) (m : ℕ) (start : Board) → Rig → Lent → List BoardEvent → Type 0
+WholeRuns cfg m start r l events = (runs : Runs cfg m start r l events) × Whole runs

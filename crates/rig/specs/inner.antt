@@ -1,9 +1,3 @@
-pub mod Begin
-pub mod Crash
-pub mod Deliver
 pub mod Fresh
-pub mod Message
-pub mod Part
-pub mod Questions
 pub mod Turn
 pub mod Within

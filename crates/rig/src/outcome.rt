@@ -1,27 +1,15 @@
-// What an event makes of a part.
-use crate::Change;
-use crate::Part;
-use crate::Places;
-use crate::Rig;
-use crate::Turn;
+// A rig and a part of it.
 use config::Refusal;
-use parties::Acted;
+use events::Change;
+use events::Part;
+use events::Places;
+use events::Rig;
+use events::Turn;
 use parties::Answer;
 ghost use mathlib.Core.Path.{_≡_};
 ghost use Prim.Native.Nat.{_<_};
-ghost use Rattle.rig.specs.Calls.{turned as turnedBy};
-ghost use Rattle.rig.specs.inner.Deliver.{isRefusal};
-ghost use Rattle.rig.specs.inner.Part.{PartAtPost, acting, counting, refusing, unturnedBy};
-
-// A refusal, with the part as it was.
-pub(crate) fn refused(part: Part, why: Refusal) -> Change
-    ensures { λ x. ⌜ x ≡ refusing why part ⌝ }
-{
-    Change {
-        answer: Answer::No(why),
-        part,
-    }
-}
+ghost use Rattle.events.specs.Calls.{turned as turnedBy};
+ghost use Rattle.rig.specs.inner.Turn.{PartAtPost, unturnedBy};
 
 // A refusal, with the rig as it was.
 pub(crate) fn unturned(rig: Rig, why: Refusal) -> Turn
@@ -59,48 +47,4 @@ pub(crate) fn turned(mut rig: Rig, change: Change) -> Turn
     rig.clients[c] = state;
     rig.count = part.count;
     Turn { answer, rig }
-}
-
-// Whether an answer is a refusal.
-pub(crate) fn is_refusal(answer: Answer) -> bool
-    ensures { λ r. ⌜ r ≡ isRefusal answer ⌝ }
-{
-    match answer {
-        Answer::Nothing => false,
-        Answer::Written { client: _, tag: _ } => false,
-        Answer::Spent { client: _ } => false,
-        Answer::Read { client: _, tag: _ } => false,
-        Answer::No(_) => true,
-    }
-}
-
-// The parties have acted, and so many records are in flight.
-pub(crate) fn acted(part: Part, acted: Acted, count: usize) -> Change
-    ensures { λ x. ⌜ x ≡ acting acted count part ⌝ }
-{
-    let answer = acted.answer;
-    let pair = acted.pair;
-    let after = Part {
-        server: part.server,
-        client: part.client,
-        pair,
-        count,
-    };
-    Change {
-        answer,
-        part: after,
-    }
-}
-
-// Nothing ended, the parties are as they were, and so many records are in flight.
-pub(crate) fn counted(part: Part, count: usize) -> Change
-    ensures { λ x. ⌜ x ≡ counting count part ⌝ }
-{
-    let pair = part.pair;
-    let quiet = Acted {
-        answer: Answer::Nothing,
-        pair,
-        sent: 0,
-    };
-    acted(part, quiet, count)
 }

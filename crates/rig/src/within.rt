@@ -1,49 +1,39 @@
 // Question 6 of what a rig keeps, place by place.
-use crate::Part;
-use crate::Rig;
 use config::Config;
+use events::Rig;
 use parties::Node;
 ghost use mathlib.Core.Bool.{_&&_};
 ghost use mathlib.Core.Path.{_≡_};
-ghost use Prim.Native.Nat.{_<_, _≤_};
+ghost use Prim.Native.Nat.{_≤_};
 ghost use Rattle.config.specs.Config.{Valid};
-ghost use Rattle.rig.specs.Questions.{partWithin, partiesWithin};
+ghost use Rattle.events.specs.Questions.{partiesWithin};
 ghost use Rattle.rig.specs.inner.Within.{clientYes, serverYes};
 
 // Whether the server of place i, if the place is in use, has the number of its place, and what it keeps is within its limits.
 fn server(cfg: Config, i: usize, x: Node) -> bool
-    requires { ⌜ (Valid cfg) × (i < 16) ⌝ }
+    requires { ⌜ Valid cfg ⌝ }
     ensures { λ r. ⌜ r ≡ serverYes cfg i x ⌝ }
 {
     if cfg.n <= i {
         return true;
     }
-    let state = x.state;
-    let me = state.me;
-    if me.number() as usize != i + 1 {
-        return false;
-    }
-    server::ask(cfg, state, (cfg.d + 1) * cfg.e) == 0
+    parties::questions::server(cfg, i, x) == 0
 }
 
 // The same of the client of place i.
 fn client(cfg: Config, i: usize, x: client::State) -> bool
-    requires { ⌜ (Valid cfg) × (i < 16) ⌝ }
+    requires { ⌜ Valid cfg ⌝ }
     ensures { λ r. ⌜ r ≡ clientYes cfg i x ⌝ }
 {
     if cfg.c <= i {
         return true;
     }
-    let me = x.me;
-    if me.number() as usize != i + 1 {
-        return false;
-    }
-    client::ask(cfg, x) == 0
+    parties::questions::client(cfg, i, x) == 0
 }
 
 // The same of both parties of place i.
 fn place(cfg: Config, i: usize, x: Node, y: client::State) -> bool
-    requires { ⌜ (Valid cfg) × (i < 16) ⌝ }
+    requires { ⌜ Valid cfg ⌝ }
     ensures { λ r. ⌜ r ≡ (serverYes cfg i x && clientYes cfg i y) ⌝ }
 {
     if !server(cfg, i, x) {
@@ -77,15 +67,4 @@ pub(crate) fn all(cfg: Config, rig: Rig) -> bool
         i += 1;
     }
     true
-}
-
-// Whether what the parties of a part keep is.
-pub(crate) fn part(cfg: Config, part: Part) -> bool
-    requires { ⌜ (Valid cfg) × (part .server < cfg .n) × (part .client < cfg .c) ⌝ }
-    ensures { λ r. ⌜ r ≡ partWithin cfg part ⌝ }
-{
-    if !server(cfg, part.server, part.pair.node) {
-        return false;
-    }
-    client(cfg, part.client, part.pair.client)
 }

@@ -1,6 +1,6 @@
 -- What stands from one place to another: a step of a walk, its end, one more at the end, one changed. Assumes nothing.
 use mathlib.Core.Path.{_≡_, refl, sym, _∙_, ap, ap₂}
-use mathlib.Core.Bool.{Bool, true, false, cond, _||_, true≢false}
+use mathlib.Core.Bool.{Bool, true, false, cond, _||_}
 use mathlib.Core.List.{List, [], _∷_, _++_}
 use mathlib.Core.Logic.{_⊎_, inl, inr}
 use Prim.Native.Nat.{ℕ, zero, suc, _+_, _-_, _≤_, _<_}
@@ -11,6 +11,7 @@ use lib.ListN.{length}
 use Rattle.laws.proofs.Bools.{and-left, and-right}
 use Rattle.tag.specs.declared.Tag.{Tag}
 use Rattle.tag.specs.Tag.{above, same}
+use Rattle.protocol.proofs.Basics.{or-left, or-right}
 use Rattle.server.specs.declared.places.Least.{Least}
 use Rattle.server.specs.inner.Places.{leastFrom, placeIn}
 use Rattle.server.specs.Within.{among, every, once}
@@ -128,14 +129,6 @@ pub place-not-among : (t : Tag) (ts : List Tag) → length ts ≤ placeIn t ts �
 unfolding placeIn among
 place-not-among t [] h = refl
 place-not-among t (x ∷ xs) h = past-by (same x t) (placeIn t xs) (length xs) (among t xs) (place-not-among t xs) h
-
-pub or-left : (a b : Bool) → (a || b) ≡ false → a ≡ false
-or-left true b h = h
-or-left false b h = refl
-
-pub or-right : (a b : Bool) → (a || b) ≡ false → b ≡ false
-or-right true b h = absurd (true≢false h)
-or-right false b h = h
 
 -- a test of all, at one place; a tag that is not there, at one place
 module _ (f : ℕ → Tag) where

@@ -20,9 +20,9 @@ use Rattle.record.specs.Message.{Message}
 use Rattle.record.specs.Record.{all}
 use Rattle.protocol.specs.Server.{Server, Stored, addLast, atOrBelowFloor, dropSmallest, finalised, freshServer, inPlaceOf, isStored, others, preWrite, query, readFinalise, serverStep, serverStepOf, smallest, store, storeElement, writeFinalise}
 use Rattle.protocol.specs.Tags.{higher, lower}
+use Rattle.protocol.proofs.Basics.{or-left, or-right}
 use Rattle.server.specs.Within.{among, every, floorWithin, tagsWithin, once, serverWithin, tagsOf}
 use Rattle.server.proofs.Limits.{within-allowed, within-count, within-floor, within-highest, within-once}
-use Rattle.server.proofs.Each.{or-left, or-right}
 use Rattle.server.proofs.Keys.{same-eqb, small}
 use Rattle.server.proofs.Tags.{every-in, every-last, in-every, lowest-all, lowest-first, lowest-in, lowestOf, once-last, once-replaced, replaced, replaced-gone, replaced-in, replaced-long}
 

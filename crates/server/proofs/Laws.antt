@@ -1,8 +1,7 @@
 -- A server's theorems, of its calls. A fresh server passes question 6 and every step keeps that; a step on a message of the
--- configuration is the protocol's; H never falls; what a pre-write sends is stored; no answer depends on the store's order or on
--- places that are not in use.
+-- configuration is the protocol's; H never falls; what a pre-write sends is stored.
 -- Assumes nothing.
-use mathlib.Core.Path.{_≡_, refl, sym, _∙_, ap, ap₂, subst, subst₂}
+use mathlib.Core.Path.{_≡_, refl, sym, _∙_, ap, ap₂, subst}
 use mathlib.Core.Bool.{Bool, true, false, cond, _&&_}
 use mathlib.Core.List.{List, [], _∷_, _++_}
 use mathlib.Core.Logic.{_⊎_, ⊎-elim}
@@ -40,12 +39,10 @@ use Rattle.server.specs.declared.Stepped.{Stepped}
 use Rattle.server.specs.Calls.{FreshPost, StepPost, Steps, answerBytes, answers, forServer, freshQuestions, freshState, outcome, raised, stepQuestions}
 use Rattle.server.specs.Within.{ValidState}
 use Rattle.server.specs.Within.{tagsWithin, serverWithin, stateWithin, tagsOf}
-use Rattle.server.specs.Order.{SameButOrder}
 use Rattle.server.specs.View.{each, elementAt, floorOf, placeAt, tagAt, tagsUsed, view}
 use Rattle.server.proofs.Asked.{step-answer, step-handed, step-later}
 use Rattle.server.proofs.Limits.{state-within, state-me}
 use Rattle.server.proofs.Invariant.{finalised-within, fresh-within, highest-rises, rises-by, step-within}
-use Rattle.server.proofs.Order.{answer-same, server-same}
 use Rattle.server.proofs.Sent.{sent-stored}
 use Rattle.server.proofs.Stepping.{steps-same}
 
@@ -56,12 +53,17 @@ tags-used cfg tags store i zero = refl
 tags-used cfg tags store i (suc n) = ap {B = List Tag} (λ ts. tagAt tags i ∷ ts) (tags-used cfg tags store (suc i) n)
 
 module _ (cfg : Config) (s : State) (store : List ℕ) where
-  view-within : serverWithin cfg (view cfg s store) ≡ tagsWithin cfg (s .highest) (floorOf (s .floor)) (tagsUsed s)
+  pub view-within : serverWithin cfg (view cfg s store) ≡ tagsWithin cfg (s .highest) (floorOf (s .floor)) (tagsUsed s)
   unfolding serverWithin view
   view-within = ap (tagsWithin cfg (s .highest) (floorOf (s .floor))) (tags-used cfg (s .tags) store 0 (s .count))
 
   pub server-within : stateWithin cfg s ≡ true → serverWithin cfg (view cfg s store) ≡ true
   server-within h = view-within ∙ state-within cfg s h
+
+  -- H is raised
+  pub raised-view : (t : Tag) → view cfg (raised s t) store ≡ finalised key (view cfg s store) t
+  unfolding view raised finalised
+  raised-view t = refl
 
   pub within-state : within 1 (cfg .n) (serverNumber (s .me)) ≡ true → serverWithin cfg (view cfg s store) ≡ true → stateWithin cfg s ≡ true
   unfolding stateWithin
@@ -162,10 +164,6 @@ module _ (cfg : Config) (s : State) (handed store answer storeAfter answerAfter 
   v-within : serverWithin cfg v ≡ true
   v-within = server-within cfg s store (held .within)
 
-  raised-view : (t : Tag) → view cfg (raised s t) store ≡ finalised key v t
-  unfolding view raised finalised
-  raised-view t = refl
-
   after-within : serverWithin cfg (view cfg (r .state) storeAfter) ≡ true
   after-within = elim (ℕ-discrete first 0) as (λ _. serverWithin cfg (view cfg (r .state) storeAfter) ≡ true) [
     | yes z ↦
@@ -174,7 +172,7 @@ module _ (cfg : Config) (s : State) (handed store answer storeAfter answerAfter 
     | no nz ↦ elim (ℕ-discrete first 15) as (λ _. serverWithin cfg (view cfg (r .state) storeAfter) ≡ true) [
       | yes f ↦
           let e : r .state ≡ raised s (m .tag) = post .state nz ∙ ap (λ (b : Bool). cond b (raised s (m .tag)) s) (eq-eqb first 15 f) in
-          ap₂ {A = State} (λ (x : State) (l : List ℕ). serverWithin cfg (view cfg x l)) e (post .store nz) ∙ ap (serverWithin cfg) (raised-view (m .tag))
+          ap₂ {A = State} (λ (x : State) (l : List ℕ). serverWithin cfg (view cfg x l)) e (post .store nz) ∙ ap (serverWithin cfg) (raised-view cfg s store (m .tag))
           ∙ finalised-within cfg (held .valid .c-high) (serverNumber (s .me)) v v-within m (tag-ok (λ x. omega arith) (λ x. omega arith))
       | no nf ↦
           let e : r .state ≡ s = post .state nz ∙ ap (λ (b : Bool). cond b (raised s (m .tag)) s) (ne-eqb first 15 nf) in
@@ -292,7 +290,7 @@ module _ (cfg : Config) (s : State) (m : Message (List ℕ)) (store answer store
       subst (λ (x : Option (Message (List ℕ))). Steps cfg s (cond (answers x) 0 15) m store answer storeAfter answerAfter r) e steps in
       let some-number : _≡_ {A = ℕ} 15 0 → ⊥ = λ z. omega arith in (
         ap₂ {A = State} (λ (x : State) (l : List ℕ). view cfg x l) (p .state some-number) (p .store some-number)
-            ∙ raised-view cfg s (recordOf cfg m) store answer storeAfter answerAfter r held post (m .tag)
+            ∙ raised-view cfg s store (m .tag)
             ∙ sym (silent-server (cfg .d) (serverNumber (s .me)) (view cfg s store) m (and-right (eqb (m .server) (serverNumber (s .me))) (isForServer (m .kind)) mine) e),
         p .answer,
       )
@@ -310,79 +308,4 @@ module _ (cfg : Config) (s : State) (m : Message (List ℕ)) (store answer store
         seen = b .0;
         answer = b .1;
         held = step-valid cfg s (recordOf cfg m) store answer storeAfter answerAfter r held post;
-      }
-
--- No answer depends on the store's order, or on places that are not in use: two states of one server whose views differ in the order
--- alone get the same number and the same answer for the same record, and their views differ in the order alone afterwards.
-pub record Alike (cfg : Config) (a b : Stepped) (storeA storeB answerA answerB : List ℕ) : Type 0 where
-  pub number : verdictNumber (a .verdict) ≡ verdictNumber (b .verdict)
-  pub answer : answerA ≡ answerB
-  pub seen : verdictNumber (a .verdict) ≡ 0 → SameButOrder (view cfg (a .state) storeA) (view cfg (b .state) storeB)
-
-module _ (cfg : Config) (s z : State) (handed answer storeS storeZ storeA storeB answerA answerB : List ℕ) (a b : Stepped) (heldS : ValidState cfg s storeS)
-    (heldZ : ValidState cfg z storeZ) (one : serverNumber (s .me) ≡ serverNumber (z .me)) (alike : SameButOrder (view cfg s storeS) (view cfg z storeZ))
-    (postA : StepPost cfg s handed storeS answer storeA answerA a) (postB : StepPost cfg z handed storeZ answer storeB answerB b) where
-  abbrev got : Message (List ℕ)
-  got = messageOf cfg handed
-
-  abbrev firstS : ℕ
-  firstS = firstNo (stepQuestions cfg s handed storeS answer)
-
-  abbrev firstZ : ℕ
-  firstZ = firstNo (stepQuestions cfg z handed storeZ answer)
-
-  -- once the tag is within its limit, the protocol's answers are one
-  module _ (ok : allowed (cfg .c) (got .tag) ≡ true) where
-    answers-one : outcome cfg s storeS got .answer ≡ outcome cfg z storeZ got .answer
-    answers-one =
-        answer-same cfg (heldS .valid .c-high) (view cfg s storeS) (view cfg z storeZ) (server-within cfg s storeS (heldS .within)) alike (serverNumber (s .me)) got ok
-        ∙ ap (λ (n : ℕ). serverStep key (cfg .d) n (view cfg z storeZ) got .answer) one
-
-    servers-one : SameButOrder (outcome cfg s storeS got .server) (outcome cfg z storeZ got .server)
-    servers-one =
-        subst (λ (n : ℕ). SameButOrder (outcome cfg s storeS got .server) (serverStep key (cfg .d) n (view cfg z storeZ) got .server)) one
-        (server-same cfg (heldS .valid .c-high) (view cfg s storeS) (view cfg z storeZ) (server-within cfg s storeS (heldS .within)) alike (serverNumber (s .me)) got ok)
-
-  -- the first question that is answered no is one
-  later-one : (w : Bool) → wellFormed cfg handed ≡ w
-      → cond {A = ℕ} w (cond (forServer (serverNumber (s .me)) got) (cond (answers (outcome cfg s storeS got .answer)) 0 15) 16) 12
-      ≡ cond w (cond (forServer (serverNumber (z .me)) got) (cond (answers (outcome cfg z storeZ got .answer)) 0 15) 16) 12
-  unfolding messageOf
-  later-one true w =
-      ap₂ {A = ℕ} (λ (n : ℕ) (x : Option (Message (List ℕ))). cond (forServer n got) (cond (answers x) 0 15) 16) one (answers-one (its-tag cfg handed w))
-  later-one false w = refl
-
-  first-one : firstS ≡ firstZ
-  first-one = elim (ℕ-discrete (length handed) 80) as (λ _. firstS ≡ firstZ) [
-    | yes e ↦ elim (ℕ-discrete (length answer) 80) as (λ _. firstS ≡ firstZ) [
-      | yes f ↦
-          step-later cfg s handed storeS answer heldS e f ∙ later-one (wellFormed cfg handed) refl ∙ sym (step-later cfg z handed storeZ answer heldZ e f)
-      | no nf ↦ step-answer cfg s handed storeS answer heldS e nf ∙ sym (step-answer cfg z handed storeZ answer heldZ e nf)
-    ]
-    | no ne ↦ step-handed cfg s handed storeS answer heldS ne ∙ sym (step-handed cfg z handed storeZ answer heldZ ne)
-  ]
-
-  tag-of : firstS ≡ 0 → allowed (cfg .c) (got .tag) ≡ true
-  tag-of e = tag-ok cfg s handed storeS answer storeA answerA a heldS postA (λ x. omega arith) (λ x. omega arith)
-
-  answer-one : answerA ≡ answerB
-  answer-one = elim (ℕ-discrete firstS 0) as (λ _. answerA ≡ answerB) [
-    | yes e ↦
-        postA .answer ∙ ap (λ (x : Bool). cond x (answerBytes cfg (outcome cfg s storeS got .answer) answer) answer) (eq-eqb firstS 0 e)
-        ∙ ap (λ (x : Option (Message (List ℕ))). answerBytes cfg x answer) (answers-one (tag-of e))
-        ∙ sym (postB .answer ∙ ap (λ (x : Bool). cond x (answerBytes cfg (outcome cfg z storeZ got .answer) answer) answer) (eq-eqb firstZ 0 (sym first-one ∙ e)))
-    | no ne ↦
-        postA .answer ∙ ap (λ (x : Bool). cond x (answerBytes cfg (outcome cfg s storeS got .answer) answer) answer) (ne-eqb firstS 0 ne)
-        ∙ sym (postB .answer ∙ ap (λ (x : Bool). cond x (answerBytes cfg (outcome cfg z storeZ got .answer) answer) answer) (ne-eqb firstZ 0 (λ x. ne (first-one ∙ x))))
-  ]
-
-  pub step-alike : Alike cfg a b storeA storeB answerA answerB
-  step-alike =
-      record {
-        number = postA .number ∙ first-one ∙ sym (postB .number);
-        answer = answer-one;
-        seen =
-            λ n.
-            let e : firstS ≡ 0 = sym (postA .number) ∙ n in
-            subst₂ SameButOrder (sym (postA .seen e)) (sym (postB .seen (sym first-one ∙ e))) (servers-one (tag-of e));
       }

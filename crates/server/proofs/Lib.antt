@@ -1,3 +1,4 @@
+pub mod Alike
 mod Answering
 pub mod Asked
 mod Begin
@@ -11,7 +12,6 @@ pub mod Laws
 mod Lending
 pub mod Limits
 mod Lists
-mod Order
 mod Put
 mod Received
 mod Sent

@@ -12,7 +12,7 @@ use Rattle.tag.specs.declared.Tag.{Tag}
 use Rattle.tag.specs.Tag.{key}
 use Rattle.protocol.specs.Server.{Server, Stored, addLast, atOrBelowFloor, dropSmallest, elementOf, inPlaceOf, isStored, others, smallest, store}
 use Rattle.protocol.specs.Tags.{lower}
-use Rattle.server.proofs.Each.{or-left, or-right}
+use Rattle.protocol.proofs.Basics.{or-left, or-right}
 
 module _ {Element : Type 0} where
   -- tags of one key are stored or not together

@@ -13,8 +13,8 @@ use Rattle.tag.specs.declared.Tag.{Tag}
 use Rattle.tag.specs.Tag.{allowed, key, same}
 use Rattle.tag.proofs.Order.{Small, key-one, same-one, same-self}
 use Rattle.protocol.specs.Tags.{lower}
+use Rattle.protocol.proofs.Basics.{or-left, or-right}
 use Rattle.server.specs.Within.{among, every, once}
-use Rattle.server.proofs.Each.{or-left, or-right}
 use Rattle.server.proofs.Keys.{small}
 
 -- tests that are joined

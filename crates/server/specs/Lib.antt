@@ -1,5 +1,5 @@
+pub mod Alike
 pub mod Calls
-pub mod Order
 pub mod Received
 pub mod View
 pub mod Within

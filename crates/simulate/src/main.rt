@@ -6,7 +6,7 @@ use config::Config;
 fn main() {
     let mut header = [0u8; 7];
     if io::read_full(0, &mut header) < 7 {
-        lines::short();
+        stream::short();
         return;
     }
     let cfg = configured(header[0], header[1], header[2], header[3], header[4]);
@@ -28,7 +28,7 @@ fn configured(n: u8, k: u8, d: u8, e: u8, c: u8) -> Config {
 fn begin(cfg: Config, m: usize) {
     let no = cfg.ask_rig(m);
     if no != 0 {
-        lines::refused(no);
+        stream::refused(no);
         return;
     }
     let mut start = io::buffer();
@@ -39,8 +39,8 @@ fn begin(cfg: Config, m: usize) {
 // Reads the starting board into a buffer of its length, and runs the events.
 fn play(cfg: Config, m: usize, start: &mut [u8]) {
     if io::read_full(0, start) < start.len() {
-        lines::short();
+        stream::short();
         return;
     }
-    lines::run(cfg, m, start);
+    stream::run(cfg, m, start);
 }

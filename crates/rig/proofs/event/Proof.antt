@@ -2,9 +2,10 @@ use mathlib.Core.Path.{sym, _∙_}
 use native.Mathlib.Omega.{arith}
 use denote.Ref.{now}
 use borrow.Author.Needs.{needs}
-use Rattle.rig.specs.View.{lent}
-use Rattle.rig.proofs.Entry.{passed-valid, rig-refused, rig-turned}
-use Rattle.rig.proofs.Inside.{named-inside}
+use Rattle.events.specs.View.{lent}
+use Rattle.events.proofs.Entry.{passed-valid, rig-refused}
+use Rattle.rig.proofs.Entry.{rig-turned}
+use Rattle.events.proofs.Inside.{named-inside}
 use Rattle.rig.proofs.event.Statement.{statement}
 use Rattle.rig.proofs.event.Tie as tie
 

@@ -1,13 +1,13 @@
 use denote.Ref.{now}
-use Rattle.rig.specs.View.{lent}
-use Rattle.rig.specs.Questions.{makeQuestions}
+use Rattle.events.specs.View.{lent}
+use Rattle.rig.specs.Calls.{makeQuestions}
 use Rattle.rig.proofs.Making.{make-done, make-refused, making}
 use borrow.Author.Needs.{needs}
 use Rattle.rig.proofs.make.Statement.{statement}
 use Rattle.rig.proofs.make.Tie as tie
 
-make-requires : tie.Need-make-requires
-make-requires c κs = search needs
+ask-requires : tie.Need-ask-requires
+ask-requires c κs = search needs
 
 of-requires : tie.Need-of-requires
 of-requires c κs = search needs
@@ -19,14 +19,14 @@ returns : tie.Need-returns
 unfolding makeQuestions
 returns c =
     let a = c .before .before .before .before .before .before .before .before .before .args in
-    make-refused (a .cfg) (a .m) (now (a .start)) (lent (now (a .messages)) (now (a .stores)) (now (a .boards)) (now (a .elements))) (c .before .before .before .make .result) (c .before .before .before .make .ensures)
+    make-refused (a .cfg) (a .m) (now (a .start)) (lent (now (a .messages)) (now (a .stores)) (now (a .boards)) (now (a .elements))) (c .before .before .before .ask .result) (c .before .before .before .ask .ensures)
     (c .before .before .if1 .taken) _ _ (c .before .of .ensures) (c .least .ensures)
 
 rig-requires : tie.Need-rig-requires
 unfolding makeQuestions
 rig-requires c κs =
     let a = c .before .before .before .before .before .before .before .before .args in
-    making (a .cfg) (a .m) (now (a .start)) (lent (now (a .messages)) (now (a .stores)) (now (a .boards)) (now (a .elements))) (c .before .before .make .result) (c .before .before .make .ensures) (c .before .if1 .left)
+    making (a .cfg) (a .m) (now (a .start)) (lent (now (a .messages)) (now (a .stores)) (now (a .boards)) (now (a .elements))) (c .before .before .ask .result) (c .before .before .ask .ensures) (c .before .if1 .left)
 
 same-length : tie.Need-same-length
 same-length c = search needs
@@ -35,9 +35,9 @@ returns-2 : tie.Need-returns-2
 unfolding makeQuestions
 returns-2 c =
     let a = c .before .before .before .before .before .before .before .before .before .before .before .args in
-    make-done (a .cfg) (a .m) (now (a .start)) (lent (now (a .messages)) (now (a .stores)) (now (a .boards)) (now (a .elements))) (c .before .before .before .before .before .make .result) (c .before .before .before .before .before .make .ensures) (c .before .before .before .before .if1 .left) _ _ (c .before .before .rig .ensures)
+    make-done (a .cfg) (a .m) (now (a .start)) (lent (now (a .messages)) (now (a .stores)) (now (a .boards)) (now (a .elements))) (c .before .before .before .before .before .ask .result) (c .before .before .before .before .before .ask .ensures) (c .before .before .before .before .if1 .left) _ _ (c .before .before .rig .ensures)
 
 pub make-spec : {M : Type 1} → statement M
 make-spec =
     tie.close
-    (tie.spec make-requires of-requires least-requires returns rig-requires same-length returns-2)
+    (tie.spec ask-requires of-requires least-requires returns rig-requires same-length returns-2)

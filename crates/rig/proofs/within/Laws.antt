@@ -1,58 +1,22 @@
 -- Question 6 of a rig, place by place: of both parties of each place, up to the greater of N and C. Assumes nothing.
-use Prim.Native.Nat.{ℕ, _+_, _≤_, _<_}
-use mathlib.Core.Path.{_≡_, refl, sym, ap, ap₂, _∙_}
+use Prim.Native.Nat.{ℕ, _≤_, _<_}
+use mathlib.Core.Path.{_≡_, refl, sym, ap₂, _∙_}
 use mathlib.Core.Bool.{Bool, true, false, _&&_, true≢false}
-use mathlib.Core.Option.{Option, some}
-use mathlib.Core.List.{[], _∷_, _++_}
+use mathlib.Core.Option.{Option}
 use native.Mathlib.Omega.{arith}
 use native.Mathlib.Decide.{decLt}
-use borrow.Author.Tests.{eq-eqb, ne-eqb, le-leb, lt-leb}
-use lib.Dec.{eqb}
+use borrow.Author.Tests.{le-leb, lt-leb}
 use lib.ListN.{length, getD, getElem?}
 use Rattle.laws.proofs.Bools.{and-left, and-right}
 use Rattle.laws.proofs.Lists.{at-getD}
 use Rattle.config.specs.declared.Config.{Config}
-use Rattle.config.specs.Config.{Valid, questions}
-use Rattle.config.specs.Number.{clientNumber, serverNumber}
-use Rattle.config.specs.Questions.{ask, firstNo}
-use Rattle.config.proofs.Questions.{firstNo-pass, questions-numbered}
-use Rattle.config.proofs.Valid.{valid-asked}
-use Rattle.server.specs.Within.{stateWithin as serverStateWithin}
 use Rattle.client.specs.declared.State as client
-use Rattle.client.specs.State.{stateWithin}
 use Rattle.parties.specs.declared.Node.{Node}
-use Rattle.rig.specs.declared.Rig.{Rig}
-use Rattle.rig.specs.Questions.{allBelow, clientWithin, partiesWithin, serverWithin}
+use Rattle.events.specs.declared.Rig.{Rig}
+use Rattle.parties.specs.Within.{clientInPlace, serverInPlace}
+use Rattle.events.specs.Questions.{allBelow, partiesWithin}
 use Rattle.rig.specs.inner.Within.{clientYes, serverYes, unless}
-use Rattle.rig.proofs.Below.{below-all, below-at}
-
--- 1 to 5 are answered yes: the number is 0 exactly if 6 is
-pub six-told : (cfg : Config) → Valid cfg → (holds : Bool) (got : ℕ) → got ≡ firstNo (questions cfg ++ ask 6 holds ∷ []) → eqb got 0 ≡ holds
-unfolding firstNo
-six-told cfg v holds got e =
-    ap (λ n. eqb n 0) (e ∙ firstNo-pass (questions cfg) (ask 6 holds ∷ []) (questions-numbered cfg) (valid-asked cfg v)) ∙ told holds
-  where
-    told : (b : Bool) → eqb (firstNo (ask 6 b ∷ [])) 0 ≡ b
-    told true = refl
-    told false = refl
-
--- a party has the number of its place or another
-module _ (cfg : Config) (i : ℕ) where
-  pub other-server : (x : Node) → (serverNumber (x .state .me) ≡ i + 1 → ⊥) → false ≡ serverWithin cfg i (some x)
-  unfolding serverWithin
-  other-server x n = rw (ne-eqb (serverNumber (x .state .me)) (i + 1) n)
-
-  pub own-server : (x : Node) → serverNumber (x .state .me) ≡ i + 1 → serverStateWithin cfg (x .state) ≡ serverWithin cfg i (some x)
-  unfolding serverWithin
-  own-server x e = rw (eq-eqb (serverNumber (x .state .me)) (i + 1) e)
-
-  pub other-client : (x : client.State) → (clientNumber (x .me) ≡ i + 1 → ⊥) → false ≡ clientWithin cfg i (some x)
-  unfolding clientWithin
-  other-client x n = rw (ne-eqb (clientNumber (x .me)) (i + 1) n)
-
-  pub own-client : (x : client.State) → clientNumber (x .me) ≡ i + 1 → stateWithin cfg x ≡ clientWithin cfg i (some x)
-  unfolding clientWithin
-  own-client x e = rw (eq-eqb (clientNumber (x .me)) (i + 1) e)
+use Rattle.events.proofs.Below.{below-all, below-at}
 
 -- a place past n is not asked of, one below n is
 pub not-asked : (n i : ℕ) (b : Bool) → n ≤ i → true ≡ unless n i b
@@ -69,10 +33,10 @@ asked-yes n i b h = elim (decLt i n) as (λ _. unless n i b ≡ true) [
 
 module _ (cfg : Config) (r : Rig) where
   abbrev serverAt : ℕ → Bool
-  serverAt i = serverWithin cfg i (getElem? (r .servers) i)
+  serverAt i = serverInPlace cfg i (getElem? (r .servers) i)
 
   abbrev clientAt : ℕ → Bool
-  clientAt i = clientWithin cfg i (getElem? (r .clients) i)
+  clientAt i = clientInPlace cfg i (getElem? (r .clients) i)
 
   -- question 6 of place i
   abbrev pub placeYes : ℕ → Bool
@@ -82,7 +46,7 @@ module _ (cfg : Config) (r : Rig) where
   pub place-read : (i : ℕ) (x : Node) (y : client.State) → i < length (r .servers) → i < length (r .clients)
       → (serverYes cfg i (getD (r .servers) i x) && clientYes cfg i (getD (r .clients) i y)) ≡ placeYes i
   place-read i x y h k =
-      ap₂ (λ (u : Option Node) (w : Option client.State). unless (cfg .n) i (serverWithin cfg i u) && unless (cfg .c) i (clientWithin cfg i w))
+      ap₂ (λ (u : Option Node) (w : Option client.State). unless (cfg .n) i (serverInPlace cfg i u) && unless (cfg .c) i (clientInPlace cfg i w))
       (sym (at-getD (r .servers) i x h)) (sym (at-getD (r .clients) i y k))
 
   -- all places are in order

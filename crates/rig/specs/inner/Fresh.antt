@@ -1,6 +1,5 @@
 -- What the inner functions of making take and give.
 use Prim.Native.Nat.{ℕ, _+_, _*_, _<_}
-use mathlib.Core.Bool.{true}
 use mathlib.Core.Path.{_≡_}
 use mathlib.Core.Option.{Option, some}
 use mathlib.Core.List.{List}
@@ -8,30 +7,17 @@ use lib.ListN.{length, getElem?}
 use Rattle.laws.specs.Parts.{part}
 use Rattle.config.specs.declared.Config.{Config}
 use Rattle.config.specs.Config.{Valid, boardLength, storeLength}
-use Rattle.config.specs.Questions.{within}
 use Rattle.code.specs.Element.{element}
 use Rattle.server.specs.View as serverView
 use Rattle.client.specs.declared.State as client
 use Rattle.protocol.specs.Server.{freshServer}
 use Rattle.parties.specs.declared.Node.{Node}
-use Rattle.rig.specs.declared.Rig.{Rig}
-use Rattle.rig.specs.Calls.{freshNode, freshState}
+use Rattle.events.specs.declared.Rig.{Rig}
+use Rattle.parties.specs.Fresh.{freshNode, freshState}
 
 -- server s, with its store, is the protocol's fresh server
 abbrev pub FreshStore : Config → ℕ → List ℕ → List ℕ → Type 0
 FreshStore cfg s start store = serverView.view cfg (freshNode s .state) store ≡ freshServer (element cfg start s)
-
--- making server s
-pub record NodePre (cfg : Config) (s : ℕ) (start store : List ℕ) : Type 0 where
-  pub valid : Valid cfg
-  pub inside : within 1 (cfg .n) s ≡ true
-  pub start-length : length start ≡ boardLength cfg
-  pub store-length : length store ≡ storeLength cfg
-
-pub record NodePost (cfg : Config) (s : ℕ) (start before after : List ℕ) (x : Node) : Type 0 where
-  pub is : x ≡ freshNode s
-  pub seen : FreshStore cfg s start after
-  pub long : length after ≡ length before
 
 -- making every party
 pub record RigPre (cfg : Config) (start stores : List ℕ) : Type 0 where

@@ -1,12 +1,12 @@
 -- Question 6 of what the parties of one place keep.
 use Prim.Native.Nat.{ℕ}
-use mathlib.Core.Bool.{Bool, true, cond, _&&_}
+use mathlib.Core.Bool.{Bool, true, cond}
 use mathlib.Core.Option.{some}
 use lib.Dec.{leb}
 use Rattle.config.specs.declared.Config.{Config}
 use Rattle.client.specs.declared.State as client
 use Rattle.parties.specs.declared.Node.{Node}
-use Rattle.rig.specs.Questions.{clientWithin, serverWithin}
+use Rattle.parties.specs.Within.{clientInPlace, serverInPlace}
 
 -- past n there is nothing to ask
 abbrev pub unless : ℕ → ℕ → Bool → Bool
@@ -14,8 +14,8 @@ unless n i b = cond (leb n i) true b
 
 -- the server of place i, if it is in use
 abbrev pub serverYes : Config → ℕ → Node → Bool
-serverYes cfg i x = unless (cfg .n) i (serverWithin cfg i (some x))
+serverYes cfg i x = unless (cfg .n) i (serverInPlace cfg i (some x))
 
 -- the client of place i
 abbrev pub clientYes : Config → ℕ → client.State → Bool
-clientYes cfg i x = unless (cfg .c) i (clientWithin cfg i (some x))
+clientYes cfg i x = unless (cfg .c) i (clientInPlace cfg i (some x))

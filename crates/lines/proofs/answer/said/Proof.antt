@@ -1,6 +1,7 @@
 -- `lines::answer::said` meets its contract, by cases on the answer. Assumes nothing.
 use mathlib.Core.Path.{refl, sym, ap, _∙_}
 use native.Mathlib.Omega.{arith}
+use Rattle.parties.specs.Acts.{answerOf}
 use Rattle.lines.specs.Line.{refusedOf, saidOf}
 use Rattle.lines.proofs.Texts.{recast}
 use borrow.Author.Needs.{needs}
@@ -52,7 +53,7 @@ same-length c = search needs
 returns : tie.Need-returns
 unfolding saidOf
 returns c = (
-  recast (sym (ap (λ x. saidOf x (c .before .before .before .before .before .before .before .before .before .args .read .now)) (c .before .before .before .before .before .enum-told .given .1))) refl (c .before .before .word .ensures),
+  recast (sym (ap (λ x. saidOf (answerOf x (c .before .before .before .before .before .before .before .before .before .args .read .now))) (c .before .before .before .before .before .enum-told .given .1))) refl (c .before .before .word .ensures),
   omega (arith, c .before .before .word .ensures .place),
 )
 
@@ -62,7 +63,7 @@ same-length-2 c = search needs
 returns-2 : tie.Need-returns-2
 unfolding saidOf
 returns-2 c = (
-  recast (sym (ap (λ x. saidOf x (c .before .before .before .before .before .before .before .before .before .args .read .now)) (c .before .before .before .before .before .answer .given .1))) refl (c .before .before .written .ensures .0),
+  recast (sym (ap (λ x. saidOf (answerOf x (c .before .before .before .before .before .before .before .before .before .args .read .now))) (c .before .before .before .before .before .answer .given .1))) refl (c .before .before .written .ensures .0),
   omega (arith, c .before .before .written .ensures .1),
 )
 
@@ -72,7 +73,7 @@ same-length-3 c = search needs
 returns-3 : tie.Need-returns-3
 unfolding saidOf
 returns-3 c = (
-  recast (sym (ap (λ x. saidOf x (c .before .before .before .before .before .before .before .before .before .args .read .now)) (c .before .before .before .before .before .enum-told2 .given .1))) refl (c .before .before .word2 .ensures),
+  recast (sym (ap (λ x. saidOf (answerOf x (c .before .before .before .before .before .before .before .before .before .args .read .now))) (c .before .before .before .before .before .enum-told2 .given .1))) refl (c .before .before .word2 .ensures),
   omega (arith, c .before .before .word2 .ensures .place),
 )
 
@@ -82,7 +83,7 @@ same-length-4 c = search needs
 returns-4 : tie.Need-returns-4
 unfolding saidOf
 returns-4 c = (
-  recast (sym (ap (λ x. saidOf x (c .before .before .before .before .before .before .before .before .before .args .read .now)) (c .before .before .before .before .before .answer2 .given .1))) refl (c .before .before .shown .ensures .0),
+  recast (sym (ap (λ x. saidOf (answerOf x (c .before .before .before .before .before .before .before .before .before .args .read .now))) (c .before .before .before .before .before .answer2 .given .1))) refl (c .before .before .shown .ensures .0),
   omega (arith, c .before .before .shown .ensures .1),
 )
 
@@ -92,7 +93,7 @@ same-length-5 c = search needs
 returns-5 : tie.Need-returns-5
 unfolding saidOf
 returns-5 c = (
-  recast (ap refusedOf (c .before .before .before .before .number .ensures) ∙ sym (ap (λ x. saidOf x (c .before .before .before .before .before .before .before .before .before .before .args .read .now)) (c .before .before .before .before .before .before .answer3 .given .1))) refl (c .before .before .refused .ensures .0),
+  recast (ap refusedOf (c .before .before .before .before .number .ensures) ∙ sym (ap (λ x. saidOf (answerOf x (c .before .before .before .before .before .before .before .before .before .before .args .read .now))) (c .before .before .before .before .before .before .answer3 .given .1))) refl (c .before .before .refused .ensures .0),
   omega (arith, c .before .before .refused .ensures .1),
 )
 

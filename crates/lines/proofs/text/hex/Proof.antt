@@ -8,7 +8,8 @@ use mathlib.Core.Path.{_≡_}
 use lib.ListN.{length, take}
 use borrow.Author.Needs.{needs}
 use native.Mathlib.Omega.{arith}
-use Rattle.lines.specs.Line.{Appended, hexOf}
+use Rattle.lines.specs.Line.{hexOf}
+use Rattle.lines.specs.inner.Text.{Appended}
 use Rattle.lines.proofs.text.hex.Statement.{statement}
 use Rattle.lines.proofs.text.hex.Tie as tie
 
@@ -21,7 +22,7 @@ abbrev μ-loop : tie.MeasureT-loop
 
 loop-holds : tie.Need-loop-holds Inv-loop μ-loop
 unfolding hexOf
-loop-holds c = let s = c .before .before .args in (search needs, search needs, search needs, search needs, nothing (s .out .now) (s .at))
+loop-holds c = let s = c .before .before .args in (search needs, search needs, search needs, search needs, nothing (s .out .now) (s .at) (search needs))
 
 shared-slice-read-b : tie.Need-shared-slice-read-b Inv-loop μ-loop
 shared-slice-read-b c = search needs

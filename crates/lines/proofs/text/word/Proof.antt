@@ -25,7 +25,7 @@ same-length c = search needs
 returns : tie.Need-returns
 returns c =
     let s = c .before .before .before .before .before .before .args in
-    copied (s .out .now) (s .at) (s .w .now) _ _ _ _ (search needs) (c .before .before .copy .ensures .0) (c .before .before .copy .ensures .1)
+    copied (s .out .now) (s .at) (s .w .now) _ _ (search needs) (c .before .before .copy .ensures .0) (c .before .before .copy .ensures .1)
 
 pub word-spec : {M : Type 1} → statement M
 word-spec =

@@ -1,7 +1,7 @@
 use Prim.Native.Nat.{ℕ}
 use mathlib.Core.Path.{_≡_}
 use native.Mathlib.Omega.{arith}
-use Rattle.rig.proofs.Making.{client-is}
+use Rattle.parties.proofs.Making.{client-is}
 use borrow.Author.Needs.{needs}
 use Rattle.rig.proofs.fresh.client.Statement.{statement}
 use Rattle.rig.proofs.fresh.client.Tie as tie
@@ -13,11 +13,8 @@ Inv-loop = ⊥
 abbrev μ-loop : tie.MeasureT-loop
 μ-loop = 0
 
-client-number-requires : tie.Need-client-number-requires Inv-loop μ-loop
-client-number-requires c κs = search needs
-
-fresh-requires : tie.Need-fresh-requires Inv-loop μ-loop
-fresh-requires c κs = search needs
+client-requires : tie.Need-client-requires Inv-loop μ-loop
+client-requires c κs = search needs
 
 enum-known-x : tie.Need-enum-known-x Inv-loop μ-loop
 enum-known-x c = search needs
@@ -27,8 +24,8 @@ enum-told c = search needs
 
 loop-holds : tie.Need-loop-holds Inv-loop μ-loop
 loop-holds c =
-    let s = c .before .before .before .before in
-    let is = client-is (s .args .cfg) (s .args .c) (s .pre .0) (s .pre .1) _ (c .before .before .before .client-number .ensures) _ (c .before .before .fresh .ensures) in
+    let s = c .before .before .before in
+    let is = client-is (s .args .cfg) (s .args .c) (s .pre .0) (s .pre .1) _ (c .before .before .client .ensures) in
     let z : _≡_ {A = ℕ} 0 1 = cc is in
     omega (arith, z)
 
@@ -40,8 +37,8 @@ loop-again c = c .loop .inv
 
 returns : tie.Need-returns Inv-loop μ-loop
 returns c =
-    let s = c .before .before .before .before .before in
-    let is = client-is (s .args .cfg) (s .args .c) (s .pre .0) (s .pre .1) _ (c .before .before .before .before .client-number .ensures) _ (c .before .before .before .fresh .ensures) in
+    let s = c .before .before .before .before in
+    let is = client-is (s .args .cfg) (s .args .c) (s .pre .0) (s .pre .1) _ (c .before .before .before .client .ensures) in
     cc (is, c .before .x .given .1)
 
 pub client-spec : {M : Type 1} → statement M
@@ -50,8 +47,7 @@ client-spec =
     (tie.spec
     Inv-loop
     μ-loop
-    client-number-requires
-    fresh-requires
+    client-requires
     enum-known-x
     enum-told
     loop-holds

@@ -5,7 +5,7 @@ use mathlib.Core.List.{List}
 use native.Mathlib.Omega.{arith}
 use borrow.Author.Needs.{needs}
 use borrow.Rule.Slice.PartMut.{same-len-mid}
-use lib.ListN.{length, length-set}
+use lib.ListN.{length, take, drop, length-set}
 use Rattle.laws.proofs.Parts.{lent-length, part-fits}
 use Rattle.config.specs.declared.Config.{Config}
 use Rattle.config.proofs.Questions.{within-true}
@@ -13,8 +13,9 @@ use Rattle.config.proofs.Sizes.{store-small}
 use Rattle.config.specs.Config.{storeLength}
 use Rattle.parties.specs.declared.Node.{Node}
 use Rattle.rig.specs.inner.Fresh.{FreshServers}
+use Rattle.parties.proofs.Making.{server-passes}
 use Rattle.rig.proofs.Making.{servers-more}
-use Rattle.rig.proofs.Sizes.{stores-small}
+use Rattle.events.proofs.Lengths.{stores-small}
 use Rattle.rig.proofs.fresh.servers.Statement.{statement}
 use Rattle.rig.proofs.fresh.servers.Tie as tie
 
@@ -52,64 +53,59 @@ add-end c =
     let l = c .before .before .loop in
     omega (arith, part-fits (l .i) (s .args .cfg .n) (storeLength (s .args .cfg)) (c .if1 .taken), stores-small (s .args .cfg) (s .pre .valid), s .pre .stores-length, l .inv .same)
 
-add-node : tie.Need-add-node Inv-loop μ-loop
-add-node c = omega (arith, c .if1 .taken, c .before .before .before .before .before .before .before .pre .valid .n-high)
+add-server : tie.Need-add-server Inv-loop μ-loop
+add-server c = omega (arith, c .if1 .taken, c .before .before .before .before .before .before .before .pre .valid .n-high)
 
-cast-node : tie.Need-cast-node Inv-loop μ-loop
-cast-node c = omega (arith, c .if1 .taken, c .before .before .before .before .before .before .before .pre .valid .n-high)
+cast-server : tie.Need-cast-server Inv-loop μ-loop
+cast-server c = omega (arith, c .if1 .taken, c .before .before .before .before .before .before .before .pre .valid .n-high)
 
-sub-node : tie.Need-sub-node Inv-loop μ-loop
-sub-node c = omega arith
+sub-server : tie.Need-sub-server Inv-loop μ-loop
+sub-server c = omega arith
 
-part-node-start : tie.Need-part-node-start Inv-loop μ-loop
-part-node-start c = omega arith
+part-server-start : tie.Need-part-server-start Inv-loop μ-loop
+part-server-start c = omega arith
 
-part-node-end : tie.Need-part-node-end Inv-loop μ-loop
-part-node-end c =
+part-server-end : tie.Need-part-server-end Inv-loop μ-loop
+part-server-end c =
     let s = c .before .before .before .before .before .before .before in
     let l = c .before .before .loop in
     omega (arith, part-fits (l .i) (s .args .cfg .n) (storeLength (s .args .cfg)) (c .if1 .taken), stores-small (s .args .cfg) (s .pre .valid), s .pre .stores-length, l .inv .same)
 
-node-requires : tie.Need-node-requires Inv-loop μ-loop
-node-requires c κs =
-    let s = c .before .before .before .before .before .before .before .before in
-    let l = c .before .before .before .loop in
-    let wide = storeLength (s .args .cfg) in
-    let below = c .before .if1 .taken in
-    record {
-      valid = s .pre .valid;
-      inside = within-true 1 (s .args .cfg .n) (l .i + 1) (omega arith) (omega (arith, below));
-      start-length = s .pre .start-length;
-      store-length = lent-length (l .stores) (l .i * wide) wide (omega (arith, part-fits (l .i) (s .args .cfg .n) wide below, s .pre .stores-length, l .inv .same));
-    }
+server-requires : tie.Need-server-requires Inv-loop μ-loop
+server-requires c κs = search needs
 
 mul-nodes : tie.Need-mul-nodes Inv-loop μ-loop
 mul-nodes c = search needs
 
 array-set-from-nodes : tie.Need-array-set-from-nodes Inv-loop μ-loop
-array-set-from-nodes c = omega (arith, c .before .before .before .before .if1 .taken, c .before .before .before .before .before .before .before .before .before .before .before .pre .valid .n-high)
+array-set-from-nodes c = omega (arith, c .before .before .before .before .before .if1 .taken, c .before .before .before .before .before .before .before .before .before .before .before .before .pre .valid .n-high)
 
 add-i : tie.Need-add-i Inv-loop μ-loop
-add-i c = omega (arith, c .before .before .before .before .if1 .taken, c .before .before .before .before .before .before .before .before .before .before .before .pre .valid .n-high)
+add-i c = omega (arith, c .before .before .before .before .before .if1 .taken, c .before .before .before .before .before .before .before .before .before .before .before .before .pre .valid .n-high)
 
 loop-less : tie.Need-loop-less Inv-loop μ-loop
-loop-less c = omega (arith, c .before .before .before .before .if1 .taken)
+loop-less c = omega (arith, c .before .before .before .before .before .if1 .taken)
 
 loop-again : tie.Need-loop-again Inv-loop μ-loop
 loop-again c =
-    let s = c .before .before .before .before .before .before .before .before .before .before .before in
-    let l = c .before .before .before .before .before .before .loop in
-    let o = c .before .before .node in
-    let below = c .before .before .before .before .if1 .taken in
+    let s = c .before .before .before .before .before .before .before .before .before .before .before .before in
+    let l = c .before .before .before .before .before .before .before .loop in
+    let o = c .before .before .before .server in
+    let below = c .before .before .before .before .before .if1 .taken in
     let wide = storeLength (s .args .cfg) in
     let at = l .i * wide in
+    let fits = part-fits (l .i) (s .args .cfg .n) wide below in
+    let none =
+    server-passes (s .args .cfg) (l .i + 1) (now (s .args .start)) (take (at + wide - at) (drop at (l .stores))) (s .pre .valid)
+    (within-true 1 (s .args .cfg .n) (l .i + 1) (omega arith) (omega (arith, below))) (s .pre .start-length)
+    (lent-length (l .stores) at wide (omega (arith, fits, s .pre .stores-length, l .inv .same))) in
     record {
       high = omega (arith, below);
       fresh =
-          servers-more (s .args .cfg) (now (s .args .start)) (l .i) (l .nodes) (o .result) (l .stores) (o .last .1 .1 .1 .0)
-          (omega (arith, part-fits (l .i) (s .args .cfg .n) wide below, s .pre .stores-length, l .inv .same)) (o .ensures)
+          servers-more (s .args .cfg) (now (s .args .start)) (l .i) (l .nodes) (o .result .node) (l .stores) (o .last .1 .1 .1 .0)
+          (omega (arith, fits, s .pre .stores-length, l .inv .same)) (o .ensures) none refl
           (omega (arith, below, s .pre .valid .n-high, l .inv .places)) (l .inv .fresh);
-      places = length-set (l .nodes) (l .i) (o .result) ∙ l .inv .places;
+      places = length-set (l .nodes) (l .i) (o .result .node) ∙ l .inv .places;
       same = same-len-mid at (at + wide - at) (l .stores) (o .last .1 .1 .1 .0) (o .kept .1 .1 .1 .0) ∙ l .inv .same;
     }
 
@@ -136,12 +132,12 @@ servers-spec =
     loop-holds
     mul-at
     add-end
-    add-node
-    cast-node
-    sub-node
-    part-node-start
-    part-node-end
-    node-requires
+    add-server
+    cast-server
+    sub-server
+    part-server-start
+    part-server-end
+    server-requires
     mul-nodes
     array-set-from-nodes
     add-i

@@ -2,8 +2,8 @@ use mathlib.Core.Path.{refl, sym, subst}
 use native.Mathlib.Omega.{arith}
 use borrow.Author.Needs.{needs}
 use Rattle.laws.proofs.Lists.{at-getD}
-use Rattle.rig.specs.declared.Part.{Part}
-use Rattle.rig.specs.inner.Part.{PartAtPost}
+use Rattle.events.specs.declared.Part.{Part}
+use Rattle.rig.specs.inner.Turn.{PartAtPost}
 use Rattle.rig.proofs.Owned.{client-places, server-places}
 use Rattle.rig.proofs.outcome.part_of.Statement.{statement}
 use Rattle.rig.proofs.outcome.part_of.Tie as tie

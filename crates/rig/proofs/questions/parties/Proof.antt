@@ -2,8 +2,8 @@ use mathlib.Core.Path.{sym, _∙_}
 use borrow.Author.Tests.{not-false, not-true}
 use Rattle.config.proofs.Questions.{rig-early}
 use Rattle.config.proofs.Valid.{rig-valid}
-use Rattle.rig.specs.Questions.{partiesWithin}
-use Rattle.rig.proofs.Asked.{six-no, six-yes}
+use Rattle.events.specs.Questions.{partiesWithin}
+use Rattle.events.proofs.Asked.{six-no, six-yes}
 use borrow.Author.Needs.{needs}
 use Rattle.rig.proofs.questions.parties.Statement.{statement}
 use Rattle.rig.proofs.questions.parties.Tie as tie

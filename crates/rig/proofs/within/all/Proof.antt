@@ -4,8 +4,8 @@ use mathlib.Core.Bool.{true}
 use native.Mathlib.Omega.{arith}
 use borrow.Author.Needs.{needs}
 use borrow.Author.Tests.{not-true, not-false}
-use Rattle.rig.specs.Questions.{allBelow}
-use Rattle.rig.proofs.Below.{below-next}
+use Rattle.events.specs.Questions.{allBelow}
+use Rattle.events.proofs.Below.{below-next}
 use Rattle.rig.proofs.Owned.{client-places, server-places}
 use Rattle.rig.proofs.within.Laws.{all-within, place-no, place-read, placeYes}
 use Rattle.rig.proofs.within.all.Statement.{statement}
@@ -37,7 +37,7 @@ element-copy-out-place-2 : tie.Need-element-copy-out-place-2 Inv-loop μ-loop
 element-copy-out-place-2 c = omega (arith, c .before .loop-test .taken, c .before .before .before .places .ensures)
 
 place-requires : tie.Need-place-requires Inv-loop μ-loop
-place-requires c κs = (c .before .before .before .before .before .pre, omega (arith, c .before .before .loop-test .taken, c .before .before .before .before .places .ensures))
+place-requires c κs = c .before .before .before .before .before .pre
 
 returns : tie.Need-returns Inv-loop μ-loop
 returns c =

@@ -2,7 +2,7 @@ use mathlib.Core.Bool.{_&&_}
 use mathlib.Core.Path.{sym, ap, _∙_}
 use borrow.Author.Needs.{needs}
 use borrow.Author.Tests.{not-true, not-false}
-use Rattle.rig.specs.inner.Within.{clientYes, serverYes}
+use Rattle.rig.specs.inner.Within.{clientYes}
 use Rattle.rig.proofs.within.place.Statement.{statement}
 use Rattle.rig.proofs.within.place.Tie as tie
 

@@ -1,0 +1,13 @@
+pub mod Asked
+pub mod Below
+mod Clients
+pub mod Entry
+pub mod Inside
+pub mod Lengths
+mod Numbers
+pub mod Pairs
+mod Ready
+pub mod RigWithin
+mod Seen
+mod Sends
+mod Six

@@ -1,0 +1,4 @@
+pub mod Calls
+pub mod Questions
+pub mod View
+pub mod inner

@@ -1,0 +1,7 @@
+pub mod Begin
+pub mod Crash
+pub mod Deliver
+pub mod Message
+pub mod Part
+pub mod Questions
+pub mod Turn

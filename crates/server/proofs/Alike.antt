@@ -1,0 +1,264 @@
+-- No answer depends on the store's order, or on places that are not in use: of two states that differ in these alone question 6 is answered
+-- alike, a step gives one number and one answer, and leaves two such states, and a call that lends gives one element. Assumes nothing.
+use mathlib.Core.Path.{_≡_, refl, sym, _∙_, ap, ap₂, subst, subst₂}
+use mathlib.Core.Bool.{Bool, true, false, cond, not, _&&_, _||_}
+use mathlib.Core.List.{List, [], _∷_, _++_}
+use mathlib.Core.Option.{Option, none, some}
+use Prim.Native.Nat.{ℕ, _+_, _≤_}
+use native.Mathlib.Decide.{ℕ-discrete}
+use native.Mathlib.Omega.{arith}
+use borrow.Author.Tests.{eqb-true, not-true}
+use lib.Dec.{eqb}
+use lib.ListN.{length}
+use Rattle.config.specs.declared.Config.{Config}
+use Rattle.config.specs.Config.{questions, recordLength, storeLength}
+use Rattle.config.specs.Number.{serverNumber}
+use Rattle.config.specs.Questions.{Question, ask, firstNo, within}
+use Rattle.config.proofs.Questions.{firstNo-behind, none-first, none-rest, questions-numbered, yes-next}
+use Rattle.config.proofs.Valid.{valid}
+use Rattle.laws.proofs.Bools.{and-left, and-right}
+use Rattle.tag.specs.declared.Tag.{Tag}
+use Rattle.tag.specs.Tag.{above, allowed, key, same}
+use Rattle.record.specs.Message.{Message}
+use Rattle.record.specs.Record.{messageOf, wellFormed}
+use Rattle.protocol.specs.Alike.{StoredOnce, Reordered, SameButOrder, next, swap, then}
+use Rattle.protocol.specs.Server.{Server, Stored, elementOf, serverStep}
+use Rattle.protocol.proofs.Reordered.{answer-same, element-reordered, finalised-same, or-swap, reordered-long, server-same}
+use Rattle.server.specs.declared.State.{State}
+use Rattle.server.specs.declared.Stepped.{Stepped}
+use Rattle.server.specs.Alike.{AlikeStates, AlikeSteps}
+use Rattle.server.specs.Calls.{LendPost, StepPost, answerBytes, answers, forServer, lentBytes, outcome, raised, stateQuestions, stepQuestions}
+use Rattle.server.specs.View.{view}
+use Rattle.server.specs.Within.{among, every, floorWithin, once, serverWithin, stateWithin, tagsOf, tagsWithin}
+use Rattle.server.proofs.Asked.{state-valid}
+use Rattle.server.proofs.Invariant.{tags-stored}
+use Rattle.server.proofs.Keys.{small}
+use Rattle.server.proofs.Laws.{raised-view, server-within, view-within}
+use Rattle.server.proofs.Limits.{within-allowed, within-once}
+use Rattle.server.proofs.Tags.{same-turned}
+
+-- ---- question 6 of tags in another order
+
+and-swap : (a b c : Bool) → a && (b && c) ≡ b && (a && c)
+and-swap true b c = refl
+and-swap false true c = refl
+and-swap false false c = refl
+
+once-swap : (a p q o : Bool) → not (a || p) && (not q && o) ≡ not (a || q) && (not p && o)
+once-swap true p q o = refl
+once-swap false true true o = refl
+once-swap false true false o = refl
+once-swap false false true o = refl
+once-swap false false false o = refl
+
+same-same : (x y : Tag) → same x y ≡ same y x
+same-same x y = go (same x y) (same y x) refl refl
+  where
+    go : (a b : Bool) → same x y ≡ a → same y x ≡ b → a ≡ b
+    go true true e f = refl
+    go true false e f = sym e ∙ same-turned y x f
+    go false true e f = sym (sym f ∙ same-turned x y e)
+    go false false e f = refl
+
+-- lists of tags
+pub tags-reordered : {Element : Type 0} {xs ys : List (Stored Element)} → Reordered xs ys → Reordered (tagsOf xs) (tagsOf ys)
+unfolding tagsOf
+tags-reordered Reordered.none = Reordered.none
+tags-reordered (next r) = next (tags-reordered r)
+tags-reordered swap = swap
+tags-reordered (then r q) = then (tags-reordered r) (tags-reordered q)
+
+pub among-reordered : (t : Tag) {ts us : List Tag} → Reordered ts us → among t ts ≡ among t us
+unfolding among
+among-reordered t Reordered.none = refl
+among-reordered t (next {x = x} r) = ap (λ (b : Bool). same x t || b) (among-reordered t r)
+among-reordered t (swap {x = x} {y = y} {xs = zs}) = or-swap (same x t) (same y t) (among t zs)
+among-reordered t (then r q) = among-reordered t r ∙ among-reordered t q
+
+pub every-reordered : (test : Tag → Bool) {ts us : List Tag} → Reordered ts us → every test ts ≡ every test us
+unfolding every
+every-reordered test Reordered.none = refl
+every-reordered test (next {x = x} r) = ap (λ (b : Bool). test x && b) (every-reordered test r)
+every-reordered test (swap {x = x} {y = y} {xs = zs}) = and-swap (test x) (test y) (every test zs)
+every-reordered test (then r q) = every-reordered test r ∙ every-reordered test q
+
+pub once-reordered : {ts us : List Tag} → Reordered ts us → once ts ≡ once us
+unfolding once among
+once-reordered Reordered.none = refl
+once-reordered (next {x = x} r) = ap₂ {A = Bool} (λ (a b : Bool). not a && b) (among-reordered x r) (once-reordered r)
+once-reordered (swap {x = x} {y = y} {xs = zs}) =
+    once-swap (same y x) (among x zs) (among y zs) (once zs) ∙ ap (λ (b : Bool). not (b || among y zs) && (not (among x zs) && once zs)) (same-same y x)
+once-reordered (then r q) = once-reordered r ∙ once-reordered q
+
+floor-reordered : (cfg : Config) (f : Option Tag) {ts us : List Tag} → Reordered ts us → floorWithin cfg f ts ≡ floorWithin cfg f us
+unfolding floorWithin
+floor-reordered cfg none r = refl
+floor-reordered cfg (some f) r =
+    ap₂ {A = ℕ} (λ (n : ℕ) (b : Bool). allowed (cfg .c) f && eqb n (cfg .d + 1) && b) (reordered-long r) (every-reordered (λ (x : Tag). above x f) r)
+
+pub within-reordered : (cfg : Config) (h : Tag) (f : Option Tag) {ts us : List Tag} → Reordered ts us → tagsWithin cfg h f ts ≡ tagsWithin cfg h f us
+unfolding tagsWithin
+within-reordered cfg h f r =
+    rw (reordered-long r, every-reordered (allowed (cfg .c)) r, once-reordered r, floor-reordered cfg f r)
+
+-- ---- question 6 of a server
+
+module _ {Element : Type 0} (cfg : Config) where
+  pub within-alike : {v w : Server Element} → SameButOrder v w → serverWithin cfg v ≡ serverWithin cfg w
+  unfolding serverWithin
+  within-alike {v} {w} alike =
+      within-reordered cfg (v .highest) (v .floor) (tags-reordered (alike .stored))
+      ∙ ap₂ (λ h f. tagsWithin cfg h f (tagsOf (w .stored))) (alike .highest) (alike .floor)
+
+  -- where its tags are allowed and there once, they are once by their keys
+  once-by-key : cfg .c ≤ 16 → (xs : List (Stored Element)) → every (allowed (cfg .c)) (tagsOf xs) ≡ true → once (tagsOf xs) ≡ true → StoredOnce key xs
+  unfolding every once tagsOf StoredOnce
+  once-by-key high [] a o = tt
+  once-by-key high (x ∷ xs) a o =
+      let ax = and-left (allowed (cfg .c) (x .tag)) (every (allowed (cfg .c)) (tagsOf xs)) a in
+      let axs = and-right (allowed (cfg .c) (x .tag)) (every (allowed (cfg .c)) (tagsOf xs)) a in
+      let gone = not-true (among (x .tag) (tagsOf xs)) (and-left (not (among (x .tag) (tagsOf xs))) (once (tagsOf xs)) o) in (
+        tags-stored (cfg .c) high (x .tag) (small (cfg .c) (x .tag) high ax) xs axs ∙ gone,
+        once-by-key high xs axs (and-right (not (among (x .tag) (tagsOf xs))) (once (tagsOf xs)) o),
+      )
+
+  -- a server that passes question 6 has each stored tag once
+  pub server-once : cfg .c ≤ 16 → (v : Server Element) → serverWithin cfg v ≡ true → StoredOnce key (v .stored)
+  unfolding serverWithin
+  server-once high v h =
+      let ts = tagsOf (v .stored) in
+      once-by-key high (v .stored) (within-allowed cfg (v .highest) (v .floor) ts h) (within-once cfg (v .highest) (v .floor) ts h)
+
+-- ---- the calls
+
+module _ (cfg : Config) (s z : State) (storeS storeZ : List ℕ) (alike : AlikeStates cfg s z storeS storeZ) where
+  abbrev v : Server (List ℕ)
+  v = view cfg s storeS
+
+  abbrev w : Server (List ℕ)
+  w = view cfg z storeZ
+
+  pub state-alike : stateWithin cfg s ≡ stateWithin cfg z
+  unfolding stateWithin
+  state-alike =
+      ap₂ (λ n b. within 1 (cfg .n) n && b) (alike .me)
+      (sym (view-within cfg s storeS) ∙ within-alike cfg (alike .seen) ∙ view-within cfg z storeZ)
+
+  -- questions 1 to 6 of a state have the same answers
+  pub ask-alike : stateQuestions cfg s (length storeS) ≡ stateQuestions cfg z (length storeZ)
+  unfolding stateQuestions
+  ask-alike = rw (alike .long, state-alike)
+
+  -- where they are answered yes, the protocol's server has each stored tag once
+  view-once : cfg .c ≤ 16 → stateWithin cfg s ≡ true → StoredOnce key (v .stored)
+  view-once high h = server-once cfg high v (server-within cfg s storeS h)
+
+  -- Lending: one number, and one part, the element or none.
+  module _ (t : Tag) (lentS lentZ : List ℕ) (toldS toldZ : ℕ) (postS : LendPost cfg s t storeS lentS toldS) (postZ : LendPost cfg z t storeZ lentZ toldZ) where
+    abbrev asked : ℕ
+    asked = firstNo (stateQuestions cfg s (length storeS))
+
+    part-by : (b : Bool) → eqb asked 0 ≡ b
+        → cond b (lentBytes (elementOf key t (v .stored))) [] ≡ cond b (lentBytes (elementOf key t (w .stored))) []
+    part-by true e =
+        let held = state-valid cfg s storeS (eqb-true asked 0 e) in
+        ap lentBytes (element-reordered key t (alike .seen .stored) (view-once (held .valid .c-high) (held .within)))
+    part-by false e = refl
+
+    pub lend-alike : (toldS ≡ toldZ) × (lentS ≡ lentZ)
+    lend-alike =
+        let e : asked ≡ firstNo (stateQuestions cfg z (length storeZ)) = ap firstNo ask-alike in (
+          postS .number ∙ e ∙ sym (postZ .number),
+          postS .part ∙ part-by (eqb asked 0) refl ∙ ap (λ n. cond (eqb n 0) (lentBytes (elementOf key t (w .stored))) []) e ∙ sym (postZ .part),
+        )
+
+  -- Step: one number, one answer, and two such states.
+  module _ (handed answer storeA storeB answerA answerB : List ℕ) (a b : Stepped) (postA : StepPost cfg s handed storeS answer storeA answerA a)
+      (postB : StepPost cfg z handed storeZ answer storeB answerB b)
+    where
+      abbrev got : Message (List ℕ)
+      got = messageOf cfg handed
+
+      abbrev firstS : ℕ
+      firstS = firstNo (stepQuestions cfg s handed storeS answer)
+
+      abbrev firstZ : ℕ
+      firstZ = firstNo (stepQuestions cfg z handed storeZ answer)
+
+      -- question 6
+      abbrev lengths : ℕ → Bool → Bool
+      lengths n holds = eqb (length handed) recordLength && eqb n (storeLength cfg) && eqb (length answer) recordLength && holds
+
+      -- 12, 16 and 15
+      abbrev later : ℕ → Option (Message (List ℕ)) → List Question
+      later n x = ask 12 (wellFormed cfg handed) ∷ ask 16 (forServer n got) ∷ ask 15 (answers x) ∷ []
+
+      -- once questions 1 to 6 are answered yes, the protocol's answers are one
+      module _ (five : firstNo (questions cfg) ≡ 0) (six : lengths (length storeS) (stateWithin cfg s) ≡ true) where
+        its-once : StoredOnce key (v .stored)
+        its-once =
+            view-once (valid cfg five .c-high)
+            (and-right (eqb (length handed) recordLength && eqb (length storeS) (storeLength cfg) && eqb (length answer) recordLength) (stateWithin cfg s) six)
+
+        answers-one : outcome cfg s storeS got .answer ≡ outcome cfg z storeZ got .answer
+        answers-one =
+            answer-same key (cfg .d) v w (alike .seen) its-once (serverNumber (s .me)) got ∙ ap (λ n. serverStep key (cfg .d) n w got .answer) (alike .me)
+
+        servers-one : SameButOrder (outcome cfg s storeS got .server) (outcome cfg z storeZ got .server)
+        servers-one =
+            subst (λ n. SameButOrder (outcome cfg s storeS got .server) (serverStep key (cfg .d) n w got .server)) (alike .me)
+            (server-same key (cfg .d) v w (alike .seen) its-once (serverNumber (s .me)) got)
+
+      first-one : firstS ≡ firstZ
+      unfolding stepQuestions
+      first-one =
+          firstNo-behind (questions cfg) 6 (lengths (length storeS) (stateWithin cfg s)) (later (serverNumber (s .me)) (outcome cfg s storeS got .answer))
+          (later (serverNumber (z .me)) (outcome cfg z storeZ got .answer)) (λ five six. ap₂ (λ n x. firstNo (later n x)) (alike .me) (answers-one five six))
+          ∙ ap₂ (λ n holds. firstNo (questions cfg ++ ask 6 (lengths n holds) ∷ later (serverNumber (z .me)) (outcome cfg z storeZ got .answer))) (alike .long) state-alike
+
+      -- an accepted step
+      module _ (e : firstS ≡ 0) where
+        five : firstNo (questions cfg) ≡ 0
+        unfolding stepQuestions
+        five = none-first (questions cfg) _ e
+
+        six : lengths (length storeS) (stateWithin cfg s) ≡ true
+        unfolding stepQuestions
+        six = yes-next 6 (lengths (length storeS) (stateWithin cfg s)) _ (omega arith) (none-rest (questions cfg) _ (questions-numbered cfg) e) .0
+
+      answer-by : (b : Bool) → eqb firstS 0 ≡ b
+          → cond b (answerBytes cfg (outcome cfg s storeS got .answer) answer) answer ≡ cond b (answerBytes cfg (outcome cfg z storeZ got .answer) answer) answer
+      answer-by true e =
+          let n = eqb-true firstS 0 e in
+          ap (λ x. answerBytes cfg x answer) (answers-one (five n) (six n))
+      answer-by false e = refl
+
+      -- what is left, on a refusal too
+      seen-by : (d : Bool) → eqb firstS 15 ≡ d → SameButOrder (view cfg (cond d (raised s (got .tag)) s) storeS) (view cfg (cond d (raised z (got .tag)) z) storeZ)
+      seen-by true e =
+          subst₂ SameButOrder (sym (raised-view cfg s storeS (got .tag))) (sym (raised-view cfg z storeZ (got .tag))) (finalised-same key (got .tag) (alike .seen))
+      seen-by false e = alike .seen
+
+      seen-one : SameButOrder (view cfg (a .state) storeA) (view cfg (b .state) storeB)
+      seen-one = elim (ℕ-discrete firstS 0) as (λ _. SameButOrder (view cfg (a .state) storeA) (view cfg (b .state) storeB)) [
+        | yes e ↦ subst₂ SameButOrder (sym (postA .seen e)) (sym (postB .seen (sym first-one ∙ e))) (servers-one (five e) (six e))
+        | no ne ↦
+            let nz : firstZ ≡ 0 → ⊥ = λ x. ne (first-one ∙ x) in
+            let left = ap₂ (λ x l. view cfg x l) (postA .state ne) (postA .store ne) in
+            let right = ap₂ (λ x l. view cfg x l) (postB .state nz ∙ ap (λ n. cond (eqb n 15) (raised z (got .tag)) z) (sym first-one)) (postB .store nz) in
+            subst₂ SameButOrder (sym left) (sym right) (seen-by (eqb firstS 15) refl)
+      ]
+
+      pub step-alike : AlikeSteps cfg a b storeA storeB answerA answerB
+      step-alike =
+          record {
+            number = postA .number ∙ first-one ∙ sym (postB .number);
+            answer =
+                postA .answer ∙ answer-by (eqb firstS 0) refl
+                ∙ ap (λ n. cond (eqb n 0) (answerBytes cfg (outcome cfg z storeZ got .answer) answer) answer) first-one ∙ sym (postB .answer);
+            states = record {
+              me = ap serverNumber (postA .me) ∙ alike .me ∙ sym (ap serverNumber (postB .me));
+              long = postA .long ∙ alike .long ∙ sym (postB .long);
+              seen = seen-one;
+            };
+          }

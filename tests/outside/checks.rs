@@ -1,7 +1,7 @@
 //! Checks of the model and of the search themselves.
 
-use crate::history::{History, Operation, fits, history, search};
-use crate::maker::List;
+use crate::history::{self, History, Operation, fits, history, search};
+use crate::maker::{List, header};
 use crate::model::*;
 use crate::programs;
 use crate::random::Random;
@@ -15,9 +15,15 @@ pub fn all() -> usize {
         client(),
         rig(),
         lines(),
+        cut_boards(),
+        asked_lengths(),
+        lowest_length(),
+        lines_of_lengths(),
         spent(),
         histories(),
+        histories_of_lengths(),
         orders(),
+        orders_of_lengths(),
         small_histories(),
     ];
     let checks: Vec<_> = sections.concat();
@@ -102,11 +108,12 @@ fn code() -> Checks {
 fn server() -> Checks {
     let config = config(3, 1, 0, 1, 9, 1);
     let record =
-        |kind, tag: Tag, element| Record { kind, client: tag.client, server: 1, operation: 1, tag, element };
-    let mut server = Server::fresh([0; 64]);
+        |kind, tag: Tag, piece| Record { kind, client: tag.client, server: 1, operation: 1, tag, piece };
+    let of = |byte| Piece { length: 1, element: [byte; 64] };
+    let mut server = Server::fresh(of(0));
     let mut pre_write = |t: Tag| {
-        let answer = server.step(&config, &record(3, t, Some([7; 64]))).unwrap();
-        assert_eq!((answer.kind, answer.tag, answer.element), (4, t, None));
+        let answer = server.step(&config, &record(3, t, Some(of(7)))).unwrap();
+        assert_eq!((answer.kind, answer.tag, answer.piece), (4, t, None));
         (server.clone(), server.floor, server.stored[0].0)
     };
     let (_, first, _) = pre_write(tag(1, 1));
@@ -120,15 +127,25 @@ fn server() -> Checks {
         ("floors", [first, second, third] == [Some(START), Some(tag(1, 1)), Some(tag(1, 2))]),
         ("(1, 2) isn't stored", kept == tag(2, 1)),
         ("15, and H has moved", silent && moved),
-        ("answered without an element", without.kind == 8 && without.element.is_none()),
+        ("answered without an element", without.kind == 8 && without.piece.is_none()),
         ("a query is answered with H", query.kind == 2 && query.tag == tag(3, 1)),
     ]
+}
+
+/// An event other than a begin of a write.
+fn event(rig: &mut Rig, code: u8, party: u8, position: usize) -> Result<Answer, u8> {
+    rig.event(code, party, position, &[], 0)
+}
+
+/// A begin of a write of all V bytes.
+fn begin_write(rig: &mut Rig, party: u8, bytes: &[u8]) -> Result<Answer, u8> {
+    rig.event(1, party, 0, bytes, bytes.len())
 }
 
 /// Hands over until an answer ends something.
 fn until_ended(rig: &mut Rig) -> Answer {
     loop {
-        match rig.event(3, 0, 0, &[]).expect("in flight") {
+        match event(rig, 3, 0, 0).expect("in flight") {
             Answer::Nothing => {}
             ended => return ended,
         }
@@ -139,23 +156,26 @@ fn client() -> Checks {
     let fresh = || Rig::make(programs::PROGRAM, &[0]).unwrap();
     let mut spent = fresh();
     spent.servers.iter_mut().for_each(|s| s.highest = tag(u32::MAX, 2));
-    spent.event(1, 1, 0, &[5]).unwrap();
+    begin_write(&mut spent, 1, &[5]).unwrap();
     let was_spent = until_ended(&mut spent) == Answer::Spent(1) && spent.clients[0].phase == Phase::Idle;
     let mut last = fresh();
     last.servers.iter_mut().for_each(|s| s.highest = tag(u32::MAX - 1, 2));
-    last.event(1, 1, 0, &[5]).unwrap();
+    begin_write(&mut last, 1, &[5]).unwrap();
     let mut out_of_numbers = fresh();
     out_of_numbers.clients[0].operation = u32::MAX;
     let mut written = fresh();
-    written.event(1, 2, 0, &[9]).unwrap();
+    begin_write(&mut written, 2, &[9]).unwrap();
     let answer = until_ended(&mut written);
-    written.event(2, 1, 0, &[]).unwrap();
+    event(&mut written, 2, 1, 0).unwrap();
     vec![
         ("spent at number 4,294,967,295", was_spent),
         ("the number before is the last", until_ended(&mut last) == Answer::Written(1, tag(u32::MAX, 1))),
-        ("11", out_of_numbers.event(2, 1, 0, &[]) == Err(11)),
+        ("11", event(&mut out_of_numbers, 2, 1, 0) == Err(11)),
         ("written", answer == Answer::Written(2, tag(1, 2))),
-        ("and read", until_ended(&mut written) == Answer::Read(1, tag(1, 2), vec![9])),
+        (
+            "and read",
+            until_ended(&mut written) == Answer::Read(1, tag(1, 2), Board { length: 1, bytes: vec![9] }),
+        ),
     ]
 }
 
@@ -164,28 +184,29 @@ fn rig() -> Checks {
     let make = |m| Rig::make(config(3, 1, 0, 1, 2, m), &[0]).unwrap();
     let mut none = make(2);
     let mut full = make(4);
-    let begun = [full.event(2, 1, 0, &[]), full.event(2, 1, 0, &[]), full.event(2, 2, 0, &[])];
-    let doubled = [full.event(5, 0, 0, &[]), full.event(5, 0, 3, &[]), full.event(5, 0, 4, &[])];
+    let begun = [event(&mut full, 2, 1, 0), event(&mut full, 2, 1, 0), event(&mut full, 2, 2, 0)];
+    let doubled = [event(&mut full, 5, 0, 0), event(&mut full, 5, 0, 3), event(&mut full, 5, 0, 4)];
     let order: Vec<_> = full.flight.iter().map(|r| (r.kind, r.server)).collect();
-    let to_servers = [full.event(3, 0, 0, &[]), full.event(3, 0, 0, &[])];
+    let to_servers = [event(&mut full, 3, 0, 0), event(&mut full, 3, 0, 0)];
     // In flight: query 3, the copy of query 1, the answers of 1 and 2. The second one makes a quorum.
-    let counted = full.event(3, 0, 2, &[]);
+    let counted = event(&mut full, 3, 0, 2);
     let before = format!("{:?} {:?}", full.flight, full.clients);
-    let refused = full.event(3, 0, 2, &[]);
+    let refused = event(&mut full, 3, 0, 2);
     let after = format!("{:?} {:?}", full.flight, full.clients);
-    let lost = full.event(4, 0, 0, &[]);
-    let accepted = full.event(3, 0, 1, &[]);
+    let lost = event(&mut full, 4, 0, 0);
+    let accepted = event(&mut full, 3, 0, 1);
     let kinds: Vec<_> = full.flight.iter().map(|r| (r.kind, r.server)).collect();
     let mut crashed = make(64);
-    crashed.event(2, 1, 0, &[]).unwrap();
-    let servers = [crashed.event(6, 3, 0, &[]), crashed.event(6, 3, 0, &[]), crashed.event(6, 4, 0, &[])];
-    let gone = crashed.event(3, 0, 2, &[]);
+    event(&mut crashed, 2, 1, 0).unwrap();
+    let servers = [event(&mut crashed, 6, 3, 0), event(&mut crashed, 6, 3, 0), event(&mut crashed, 6, 4, 0)];
+    let gone = event(&mut crashed, 3, 0, 2);
     let left = crashed.flight.len();
-    let answered = crashed.event(3, 0, 0, &[]);
-    let clients = [crashed.event(7, 1, 0, &[]), crashed.event(7, 1, 0, &[]), crashed.event(1, 1, 0, &[1])];
-    let gone_too = crashed.event(3, 0, 1, &[]);
+    let answered = event(&mut crashed, 3, 0, 0);
+    let clients =
+        [event(&mut crashed, 7, 1, 0), event(&mut crashed, 7, 1, 0), begin_write(&mut crashed, 1, &[1])];
+    let gone_too = event(&mut crashed, 3, 0, 1);
     vec![
-        ("13 at a begin", none.event(1, 1, 0, &[1]) == Err(13)),
+        ("13 at a begin", begin_write(&mut none, 1, &[1]) == Err(13)),
         ("10, then 13", begun == [OK, Err(10), Err(13)]),
         ("8 before 13 at doubling", doubled == [OK, Err(13), Err(8)]),
         ("a copy goes to the end", order == [(1, 1), (1, 2), (1, 3), (1, 1)]),
@@ -197,21 +218,25 @@ fn rig() -> Checks {
         ("handed to a crashed server", gone == OK && left == 2),
         ("crashed clients", answered == OK && clients == [OK, Err(9), Err(9)]),
         ("handed to a crashed client", gone_too == OK && crashed.flight.len() == 1),
-        ("7", [0, 8, 255].iter().all(|code| crashed.event(*code, 0, 0, &[]) == Err(7))),
+        ("7", [0, 8, 255].iter().all(|code| event(&mut crashed, *code, 0, 0) == Err(7))),
     ]
 }
 
+/// What the model prints as `board`.
+fn board(input: &[u8]) -> String {
+    let mut out = vec![];
+    programs::board(&mut &input[..], &mut out).unwrap();
+    String::from_utf8(out).unwrap()
+}
+
+/// What it prints as `simulate`.
+fn simulate(input: &[u8]) -> String {
+    let mut out = vec![];
+    programs::simulate(&mut &input[..], &mut out).unwrap();
+    String::from_utf8(out).unwrap()
+}
+
 fn lines() -> Checks {
-    let board = |input: &[u8]| {
-        let mut out = vec![];
-        programs::board(&mut &input[..], &mut out).unwrap();
-        String::from_utf8(out).unwrap()
-    };
-    let simulate = |input: &[u8]| {
-        let mut out = vec![];
-        programs::simulate(&mut &input[..], &mut out).unwrap();
-        String::from_utf8(out).unwrap()
-    };
     let events = [
         (2, 1, 0),
         (3, 0, 0),
@@ -224,14 +249,15 @@ fn lines() -> Checks {
         (3, 0, 2),
         (1, 3, 0),
     ];
-    let example: Vec<u8> = events.iter().flat_map(|(code, party, at)| [*code, *party, *at, 0, 0]).collect();
+    let example = events.map(|(code, party, at)| [code, party, at, 0, 0, 0, 0]).concat();
     let printed = "1 ok\n2 ok\n3 ok\n4 ok\n5 ok\n6 ok\n7 ok\n8 ok\n9 read 0 0 00\n10 no 8\n";
     let header = [3, 1, 0, 1, 2, 64, 0, 0];
     vec![
         ("the document's example", board(&example) == printed),
         ("the same by simulate", simulate(&[&header[..], &example].concat()) == printed),
         ("nothing in, nothing out", board(&[]).is_empty()),
-        ("short", board(&[9, 0, 0, 0, 0, 3, 0]) == "1 no 7\n2 short\n"),
+        ("short", board(&[9, 0, 0, 0, 0, 0, 0, 3, 0]) == "1 no 7\n2 short\n"),
+        ("short of its length", board(&[9, 0, 0, 0, 0, 0]) == "1 short\n"),
         ("header cut short", simulate(&header[..6]) == "0 short\n" && simulate(&[]) == "0 short\n"),
         ("starting board cut short", simulate(&header[..7]) == "0 short\n"),
         ("refused making", simulate(&[17, 1, 0, 1, 2, 64, 0]) == "0 no 1\n"),
@@ -242,31 +268,145 @@ fn lines() -> Checks {
     ]
 }
 
+/// A message record's 80 bytes.
+fn laid_out(r: &Record) -> Vec<u8> {
+    let piece = r.piece.unwrap_or(Piece { length: 0, element: [0; 64] });
+    let head = [r.kind, r.client, r.server, r.piece.is_some() as u8];
+    let (operation, number) = (r.operation.to_le_bytes(), r.tag.number.to_le_bytes());
+    let (client, length) = ([r.tag.client], piece.length.to_le_bytes());
+    [&head[..], &operation, &number, &client, &length, &[0], &piece.element].concat()
+}
+
+/// N 5, k 3, E 1: board 10 20 30 with length 2.
+fn cut_boards() -> Checks {
+    let config = config(5, 3, 1, 1, 2, 64);
+    let mut rig = Rig::make(config, &[1, 2, 3]).unwrap();
+    rig.event(1, 2, 0, &[10, 20, 30], 2).unwrap();
+    while rig.clients[1].phase == Phase::Asking {
+        event(&mut rig, 3, 0, 0).unwrap();
+    }
+    let sent: Vec<Record> = rig.flight.iter().filter(|r| r.kind == PRE_WRITE).copied().collect();
+    let elements: Vec<u8> = sent.iter().map(|r| r.piece.unwrap().element[0]).collect();
+    let with_length = |length| {
+        let piece = sent[3].piece.map(|piece| Piece { length, ..piece });
+        Record { piece, ..sent[3] }.well_formed(&config)
+    };
+    let written = until_ended(&mut rig);
+    rig.flight.clear();
+    event(&mut rig, 2, 1, 0).unwrap();
+    let shown = Board { length: 2, bytes: vec![10, 20, 0] };
+    vec![
+        ("elements of 10 20 30 with length 2", elements == [30, 34, 54, 90, 78]),
+        ("the pre-write to server 4", {
+            let begins = [3, 2, 4, 1, 1, 0, 0, 0, 1, 0, 0, 0, 2, 2, 0, 0, 0x5a];
+            let bytes = laid_out(&sent[3]);
+            bytes.len() == 80 && bytes[..17] == begins && bytes[17..].iter().all(|b| *b == 0)
+        }),
+        ("a record's length is at most V", with_length(3) && !with_length(4)),
+        ("a board cut is written", written == Answer::Written(2, tag(1, 2))),
+        ("and read, with zeros after", until_ended(&mut rig) == Answer::Read(1, tag(1, 2), shown)),
+    ]
+}
+
+/// 19 comes before 8, 9, 10 and 13, and is asked of event 1 only.
+fn asked_lengths() -> Checks {
+    let begin = |rig: &mut Rig, party, length| rig.event(1, party, 0, &[7; 3], length);
+    let mut rig = Rig::make(config(3, 3, 0, 1, 3, 8), &[0; 3]).unwrap();
+    let accepted = [begin(&mut rig, 1, 3), begin(&mut rig, 2, 0)];
+    let full = [begin(&mut rig, 3, 3), begin(&mut rig, 3, 4)];
+    let busy = [begin(&mut rig, 1, 3), begin(&mut rig, 1, 4)];
+    let crashed = rig.event(7, 1, 0, &[], 65535);
+    let down = [begin(&mut rig, 1, 3), begin(&mut rig, 1, 4)];
+    let unknown = [begin(&mut rig, 4, 3), begin(&mut rig, 4, 4), begin(&mut rig, 0, 65535)];
+    let other = [4, 5, 3, 4, 6].map(|code| rig.event(code, 1, 0, &[], 65535));
+    vec![
+        ("lengths 0 and V", accepted.iter().all(|answer| *answer == Ok(Answer::Nothing))),
+        ("19 before 13", full == [Err(13), Err(19)]),
+        ("19 before 10", busy == [Err(10), Err(19)]),
+        ("19 before 9", crashed.is_ok() && down == [Err(9), Err(19)]),
+        ("19 before 8", unknown == [Err(8), Err(19), Err(19)]),
+        ("a length that isn't a write's", other.iter().all(|answer| *answer == Ok(Answer::Nothing))),
+        (
+            "7, whatever the length",
+            [0, 8, 255].iter().all(|code| rig.event(*code, 1, 0, &[7; 3], 65535) == Err(7)),
+        ),
+    ]
+}
+
+/// Servers that hold other lengths, which no list brings about: answers of 4, 2, 5 and 3, in this order.
+fn lowest_length() -> Checks {
+    let mut rig = Rig::make(config(5, 3, 0, 1, 1, 64), &[10, 20, 30]).unwrap();
+    for (server, length) in rig.servers.iter_mut().zip([3, 1, 2, 3, 0]) {
+        server.stored[0].1.length = length;
+    }
+    event(&mut rig, 2, 1, 0).unwrap();
+    while rig.clients[0].phase == Phase::Asking {
+        event(&mut rig, 3, 0, 0).unwrap();
+    }
+    rig.flight.retain(|r| r.kind == READ_FINALISE);
+    [3, 1, 2, 1].iter().for_each(|position| _ = event(&mut rig, 3, 0, *position).unwrap());
+    rig.flight.remove(0);
+    let shown = Board { length: 1, bytes: vec![10, 0, 0] };
+    vec![("the length of the lowest server", until_ended(&mut rig) == Answer::Read(1, START, shown))]
+}
+
+/// A record of `board`.
+fn record(code: u8, party: u8, byte: u8, length: u16) -> Vec<u8> {
+    let [low, high] = length.to_le_bytes();
+    vec![code, party, 0, 0, byte, low, high]
+}
+
+fn lines_of_lengths() -> Checks {
+    let handed_over = |times| record(3, 0, 0, 0).repeat(times);
+    let four = [record(1, 1, 7, 2), record(1, 9, 7, 2), record(255, 1, 7, 2), record(2, 1, 7, 65535)];
+    let empty = [record(1, 1, 7, 0), handed_over(18), record(2, 2, 0, 0), handed_over(12)];
+    let of_empty = (1..=32).map(|count| match count {
+        18 => "18 written 1 1\n".to_string(),
+        31 => "31 read 1 1\n".to_string(),
+        _ => format!("{count} ok\n"),
+    });
+    let large = header(&config(16, 16, 0, 64, 1, 64));
+    vec![
+        ("four records", board(&four.concat()) == "1 no 19\n2 no 19\n3 no 7\n4 ok\n"),
+        ("a read of length 0 prints only its tag", board(&empty.concat()) == of_empty.collect::<String>()),
+        ("lengths are little-endian", {
+            let event =
+                |code, length: u16| [&[code, 1, 0, 0][..], &[0xab; 1024], &length.to_le_bytes()].concat();
+            let events =
+                [event(1, 1025), event(1, 1000), event(3, 0).repeat(96), event(2, 0), event(3, 0).repeat(64)];
+            let lines = simulate(&[large, vec![0; 1024], events.concat()].concat());
+            lines.starts_with("1 no 19\n2 ok\n")
+                && lines.contains(&format!(" read 1 1 {}\n", "ab".repeat(1000)))
+        }),
+    ]
+}
+
 /// A write that ends spent, by the model's own lines: the servers have finalised the last number.
 fn spent() -> Checks {
     let mut rig = Rig::make(programs::PROGRAM, &[0]).unwrap();
     rig.servers.iter_mut().for_each(|s| s.highest = tag(u32::MAX, 2));
-    let handed_over = [0, 0, 1, 1].map(|position| [3, 0, position, 0, 0]).concat();
-    let input = [vec![1, 1, 0, 0, 5], handed_over].concat();
+    let handed_over = [0, 0, 1, 1].map(|position| [3, 0, position, 0, 0, 0, 0]).concat();
+    let input = [vec![1, 1, 0, 0, 5, 1, 0], handed_over].concat();
     let mut out = vec![];
     programs::events(rig, &mut &input[..], &mut out).unwrap();
     vec![("a spent line", out == b"1 ok\n2 ok\n3 ok\n4 ok\n5 spent\n")]
 }
 
-/// Of the program's events (code, party, board byte), the client that each answer names, and the lines: how many
-/// operations the history has, and whether there is an order that fits. Nothing if it is no history.
-fn taken(events: &[(u8, u8, u8)], named: &[u8], lines: &str) -> Option<(usize, bool)> {
-    let input = events.iter().flat_map(|(code, party, byte)| [*code, *party, 0, 0, *byte]).collect();
-    let named = named.to_vec();
+/// Of the program's events (code, party, board byte, length), the client that each answer names, and the lines: how
+/// many operations the history has, and whether there is an order that fits. Nothing if it is no history.
+fn taken(events: &[(u8, u8, u8, u16)], named: &[u8], lines: &str) -> Option<(usize, bool)> {
+    let records = events.iter().flat_map(|(code, party, byte, length)| record(*code, *party, *byte, *length));
+    let (input, named) = (records.collect(), named.to_vec());
     let list = List { general: false, input, config: programs::PROGRAM, start: vec![0], named };
     let history = history(&list, lines).ok()?;
     Some((history.operations.len(), search(&history).is_some()))
 }
 
+const READ: (u8, u8, u8, u16) = (2, 2, 0, 0);
+const OTHER: (u8, u8, u8, u16) = (3, 0, 0, 0);
+
 fn histories() -> Checks {
-    const WRITE: (u8, u8, u8) = (1, 1, 5);
-    const READ: (u8, u8, u8) = (2, 2, 0);
-    const OTHER: (u8, u8, u8) = (3, 0, 0);
+    const WRITE: (u8, u8, u8, u16) = (1, 1, 5, 1);
     let write_then_read = |named: &[u8], lines| taken(&[WRITE, OTHER, READ, OTHER], named, lines);
     let spent_then_read = |lines| write_then_read(&[0, 1, 0, 2], lines);
     vec![
@@ -286,7 +426,7 @@ fn histories() -> Checks {
         (
             "the client writes again after spent",
             taken(
-                &[WRITE, OTHER, (1, 1, 6), OTHER, READ, OTHER],
+                &[WRITE, OTHER, (1, 1, 6, 1), OTHER, READ, OTHER],
                 &[0, 1, 0, 1, 0, 2],
                 "1 ok\n2 spent\n3 ok\n4 written 1 1\n5 ok\n6 read 1 1 06",
             ) == Some((2, true)),
@@ -297,16 +437,38 @@ fn histories() -> Checks {
     ]
 }
 
+/// A write of a byte and a length that ended, then a read with these digits.
+fn histories_of_lengths() -> Checks {
+    let order = |byte, length, read: &str| {
+        let lines = format!("1 ok\n2 written 1 1\n3 ok\n4 read 1 1{read}\n");
+        taken(&[(1, 1, byte, length), OTHER, READ, OTHER], &[0, 1, 0, 2], &lines)
+    };
+    let (fits, none) = (Some((2, true)), Some((2, false)));
+    vec![
+        ("length 0: nothing is shown", order(5, 0, "") == fits && order(0, 0, "") == fits),
+        ("length 0: the byte handed in is shown", order(5, 0, " 05") == none),
+        ("length 0: byte 0 is shown", order(5, 0, " 00") == none && order(0, 0, " 00") == none),
+        ("length 1: byte 0 is shown", order(0, 1, " 00") == fits && order(5, 1, " 00") == none),
+        ("length 1: nothing is shown", order(0, 1, "") == none && order(5, 1, "") == none),
+    ]
+}
+
+/// An operation on boards of one byte.
 fn write(byte: u8, begin: usize, end: usize) -> Operation {
-    Operation { write: true, bytes: vec![byte], begin, end: (end > 0).then_some(end) }
+    Operation { write: true, board: history::board(1, &[byte], 1), begin, end: (end > 0).then_some(end) }
 }
 
 fn read(byte: u8, begin: usize, end: usize) -> Operation {
     Operation { write: false, ..write(byte, begin, end) }
 }
 
+/// The same with length 0.
+fn empty(operation: Operation) -> Operation {
+    Operation { board: history::board(0, &[], 1), ..operation }
+}
+
 fn from_zero(operations: &[Operation]) -> History {
-    History { start: vec![0], operations: operations.to_vec() }
+    History { start: history::board(1, &[0], 1), operations: operations.to_vec() }
 }
 
 /// An order is found and is one by the document's words.
@@ -354,6 +516,23 @@ fn orders() -> Checks {
     ]
 }
 
+fn orders_of_lengths() -> Checks {
+    let (written, shown) = (empty(write(0, 0, 1)), empty(read(0, 2, 3)));
+    let unended = || empty(write(0, 0, 0));
+    vec![
+        ("length 0 written and shown", found(&[written.clone(), shown.clone()])),
+        ("length 0 written, byte 0 shown", !found(&[written, read(0, 2, 3)])),
+        ("byte 0 written, length 0 shown", !found(&[write(0, 0, 1), shown.clone()])),
+        ("the starting board has length V", !found(&[shown])),
+        ("length 0 by an unended write", found(&[unended(), read(0, 1, 2), empty(read(0, 3, 4))])),
+        ("and byte 0 again", !found(&[unended(), empty(read(0, 1, 2)), read(0, 3, 4)])),
+        ("a board is its length and its bytes up to it", {
+            let board = |length| history::board(length, &[1, 0, 9], 3);
+            board(1).1 == board(2).1 && board(1) != board(2) && board(2) == history::board(2, &[1, 0], 3)
+        }),
+    ]
+}
+
 /// On random histories of up to five operations the search agrees with trying every order.
 fn small_histories() -> Checks {
     let random = &mut Random::new(2, 2);
@@ -366,9 +545,10 @@ fn small_histories() -> Checks {
             let begin = times.remove(0);
             let end = times.remove(random.below(times.len().min(4)));
             let unended = random.chance(200);
-            let (byte, is_write) = (random.below(3) as u8, unended || random.chance(500));
-            let end = (!unended).then_some(end);
-            operations.push(Operation { write: is_write, bytes: vec![byte], begin, end });
+            let is_write = unended || random.chance(500);
+            let (length, byte) = random.pick(&[(1, 0), (1, 1), (0, 0)]);
+            let (board, end) = (history::board(length, &[byte], 1), (!unended).then_some(end));
+            operations.push(Operation { write: is_write, board, begin, end });
         }
         let history = from_zero(&operations);
         let some = any_order(&history, &mut vec![]);

@@ -1,6 +1,6 @@
 //! Compares the programs' lines with the model's, and searches the histories of those runs.
 
-use crate::history::{fits, history, search};
+use crate::history::{History, fits, history, search, told_by_length};
 use crate::lists;
 use crate::maker::{List, Seen, never};
 use crate::model::Config;
@@ -62,11 +62,11 @@ fn difference(expected: &str, printed: &str) -> Option<String> {
     unreachable!()
 }
 
-/// Whether the history of a run has an order that fits; its operations, or what is wrong.
-fn ordered(list: &List, lines: &str) -> Result<usize, String> {
+/// Whether the history of a run has an order that fits; the history, or what is wrong.
+fn ordered(list: &List, lines: &str) -> Result<History, String> {
     let history = history(list, lines)?;
     match search(&history) {
-        Some(order) if fits(&history, &order) => Ok(history.operations.len()),
+        Some(order) if fits(&history, &order) => Ok(history),
         Some(_) => Err("the search's order doesn't fit".to_string()),
         None => Err(format!("no order fits: {history:?}")),
     }
@@ -83,6 +83,8 @@ struct Printed {
     short_event_of_simulate: usize,
     /// Reads ended.
     large_reads: usize,
+    /// Reads that only their length tells from a board written or the starting one.
+    told_by_length: usize,
 }
 
 impl Printed {
@@ -115,6 +117,7 @@ impl Printed {
             ("short, an event of board", self.short_event_of_board),
             ("short, an event of simulate", self.short_event_of_simulate),
             ("reads with large N and k", self.large_reads),
+            ("reads told by their length alone", self.told_by_length),
         ])
     }
 }
@@ -154,7 +157,10 @@ impl Tally {
         if list.config.c <= SEARCHED && !list.named.is_empty() {
             self.histories += 1;
             match ordered(list, &printed) {
-                Ok(operations) => self.operations += operations,
+                Ok(history) => {
+                    self.operations += history.operations.len();
+                    self.printed.told_by_length += told_by_length(&history);
+                }
                 Err(what) => self.report(list, name, &what, directory),
             }
         }
@@ -185,7 +191,7 @@ pub fn compare([seed, count, most]: [u64; 3], directory: &str, board: &str, simu
         let long = lists::long(seed, programs::PROGRAM, false, 20_000, &mut seen);
         tally.one(&long, &format!("seed {seed} long list"), board, random, directory);
         let few = Config { n: 5, k: 2, d: 2, e: 2, c: 3, m: 512 };
-        let all = Config { n: 16, k: 16, d: 2, e: 4, c: 3, m: 512 };
+        let all = Config { n: 16, k: 16, d: 2, e: 64, c: 3, m: 512 };
         for (config, events) in [(few, 20_000), (all, 8_000)] {
             let long = lists::long(seed, config, true, events, &mut seen);
             tally.one(&long, &format!("seed {seed} long list by simulate"), simulate, random, directory);

@@ -1,14 +1,24 @@
 //! Histories, from events and printed answers only, and the search for an order that fits (Wing and
-//! Gong). The search knows operations, bytes and times; it knows no tags.
+//! Gong). The search knows operations, boards and times; it knows no tags.
 
 use crate::maker::List;
 use std::collections::{HashMap, HashSet};
 
+/// What the single board keeps and shows: a length and V bytes, zero past it.
+pub type Board = (usize, Vec<u8>);
+
+/// So many of the bytes, and zeros after, up to V.
+pub fn board(length: usize, bytes: &[u8], v: usize) -> Board {
+    let mut kept: Vec<u8> = bytes.iter().take(length).copied().collect();
+    kept.resize(v, 0);
+    (length, kept)
+}
+
 #[derive(Clone, Debug)]
 pub struct Operation {
     pub write: bool,
-    /// Those handed in at a write's begin, or those that a read shows.
-    pub bytes: Vec<u8>,
+    /// That handed in at a write's begin, or that a read shows.
+    pub board: Board,
     pub begin: usize,
     pub end: Option<usize>,
 }
@@ -16,12 +26,13 @@ pub struct Operation {
 /// Ended reads and writes and unended writes, by begin. Spent ones and unended reads are left out.
 #[derive(Clone, Debug)]
 pub struct History {
-    pub start: Vec<u8>,
+    pub start: Board,
     pub operations: Vec<Operation>,
 }
 
 /// The lines don't print the client whose operation ended, so `list` names it.
 pub fn history(list: &List, lines: &str) -> Result<History, String> {
+    let v = list.start.len();
     let mut operations: Vec<Operation> = vec![];
     let mut open: [Option<usize>; 17] = [None; 17];
     let mut left_out = vec![];
@@ -30,8 +41,8 @@ pub fn history(list: &List, lines: &str) -> Result<History, String> {
         let (code, client) = (event[0], list.named[time] as usize);
         if words[1] == "ok" && matches!(code, 1 | 2) {
             open[event[1] as usize] = Some(operations.len());
-            let bytes = if code == 1 { event[4..].to_vec() } else { vec![] };
-            operations.push(Operation { write: code == 1, bytes, begin: time, end: None });
+            let board = if code == 1 { written(event, v) } else { shown("", v) };
+            operations.push(Operation { write: code == 1, board, begin: time, end: None });
         } else if matches!(words[1], "written" | "spent" | "read") {
             let ended = open[client].take().ok_or(format!("nothing open for {client}: {line}"))?;
             let operation = &mut operations[ended];
@@ -40,7 +51,7 @@ pub fn history(list: &List, lines: &str) -> Result<History, String> {
             }
             operation.end = Some(time);
             match words[1] {
-                "read" => operation.bytes = bytes(words[4]),
+                "read" => operation.board = shown(words.get(4).unwrap_or(&""), v),
                 "written" if words[3] != client.to_string() => {
                     return Err(format!("not its own tag: {line}"));
                 }
@@ -51,12 +62,29 @@ pub fn history(list: &List, lines: &str) -> Result<History, String> {
     }
     let kept = operations.into_iter().enumerate();
     let kept = kept.filter(|(i, o)| !left_out.contains(i) && (o.write || o.end.is_some()));
-    Ok(History { start: list.start.clone(), operations: kept.map(|(_, o)| o).collect() })
+    Ok(History { start: board(v, &list.start, v), operations: kept.map(|(_, o)| o).collect() })
 }
 
-fn bytes(digits: &str) -> Vec<u8> {
+/// The board that an event 1 hands in; its length stands at the end.
+fn written(event: &[u8], v: usize) -> Board {
+    board(u16::from_le_bytes([event[4 + v], event[5 + v]]) as usize, &event[4..4 + v], v)
+}
+
+/// The board of a read's digits; there are none if its length is 0.
+fn shown(digits: &str, v: usize) -> Board {
     let pairs = digits.as_bytes().chunks(2);
-    pairs.map(|pair| u8::from_str_radix(std::str::from_utf8(pair).unwrap(), 16).unwrap()).collect()
+    let bytes = pairs.map(|pair| u8::from_str_radix(std::str::from_utf8(pair).unwrap(), 16).unwrap());
+    let bytes: Vec<u8> = bytes.collect();
+    board(bytes.len(), &bytes, v)
+}
+
+/// Reads that differ by their length alone from a board written, or from the starting board.
+pub fn told_by_length(history: &History) -> usize {
+    let (start, operations) = (&history.start, &history.operations);
+    let writes = operations.iter().filter(|o| o.write).map(|o| &o.board);
+    let kept: Vec<&Board> = writes.chain([start]).collect();
+    let alike = |a: &Board, b: &Board| a.1 == b.1 && a.0 != b.0;
+    operations.iter().filter(|o| !o.write && kept.iter().any(|kept| alike(kept, &o.board))).count()
 }
 
 /// Document 01's own words on an order that fits.
@@ -75,16 +103,16 @@ pub fn fits(history: &History, order: &[usize]) -> bool {
     let as_shown = order.iter().all(|i| {
         let o = &operations[*i];
         if o.write {
-            state = &o.bytes;
+            state = &o.board;
         }
-        o.write || *state == o.bytes
+        o.write || *state == o.board
     });
     each_once && in_time && as_shown
 }
 
 struct Search<'a> {
     operations: &'a [Operation],
-    /// Each operation's bytes as a number.
+    /// Each operation's board as a number.
     boards: Vec<usize>,
     /// Ended operations not yet done.
     left: usize,
@@ -100,7 +128,7 @@ pub fn search(history: &History) -> Option<Vec<usize>> {
     let mut numbers = HashMap::from([(&history.start, 0)]);
     let boards = operations.iter().map(|o| {
         let fresh = numbers.len();
-        *numbers.entry(&o.bytes).or_insert(fresh)
+        *numbers.entry(&o.board).or_insert(fresh)
     });
     let boards = boards.collect();
     let left = operations.iter().filter(|o| o.end.is_some()).count();

@@ -24,7 +24,7 @@ pub fn list(seed: u64, number: u64, seen: &mut Seen) -> List {
     let mood = if kind == ADVERSE { adverse(random, &config) } else { any_mood(random, &config) };
     let length = random.within(20, 40 + 80 * config.n).min(80_000 / config.v());
     let noise = kind != ADVERSE && random.chance(50);
-    let partial = if random.chance(250) { random.within(1, 3 + config.v()) } else { 0 };
+    let partial = if random.chance(250) { random.within(1, 5 + config.v()) } else { 0 };
     let partial = random.bytes(partial);
     let mut maker = Maker::new(random, seen, mood, config, kind != 0);
     if mood.fill && config.v() <= 64 {
@@ -53,7 +53,8 @@ fn any_mood(random: &mut Random, config: &Config) -> Mood {
         alone: random.chance(200),
         order: random.pick(&[Order::Any, Order::Any, Order::Any, Order::First, Order::Last]),
         adverse: random.chance(500),
-        boards: random.pick(&[0, 0, 0, 2, 3]),
+        boards: random.pick(&[0, 0, 0, 1, 2, 3]),
+        whole: random.pick(&[100, 300, 600]),
         fill: false,
         settle: true,
     };
@@ -94,6 +95,7 @@ fn adverse(random: &mut Random, config: &Config) -> Mood {
         order: Order::Any,
         adverse: true,
         boards: 0,
+        whole: random.pick(&[200, 800]),
         fill: false,
         settle: true,
         ..any_mood(random, config)
@@ -163,6 +165,7 @@ fn busy(random: &mut Random, config: &Config) -> Mood {
         order: Order::Any,
         adverse: false,
         boards: 0,
+        whole: 300,
         ..any_mood(random, config)
     }
 }

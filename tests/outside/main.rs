@@ -1,4 +1,4 @@
-//! Tests from outside: the programs `board` and `simulate` against an independent model of document 01.
+//! Tests from outside: the programs `board` and `simulate` against an independent model of the documents.
 //! Called as `board` or `simulate` it is that program, run by the model.
 
 mod checks;

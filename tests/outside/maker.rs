@@ -1,6 +1,6 @@
 //! Makes a list of events. The model runs along, so that a draw can name what is in flight.
 
-use crate::model::{Answer, Client, Config, Phase, Record, Rig};
+use crate::model::{Answer, Board, Client, Config, Phase, Record, Rig};
 use crate::random::Random;
 
 /// What a program is handed, and what the model knows beyond the lines that it prints.
@@ -17,7 +17,7 @@ pub struct List {
 impl List {
     pub fn events(&self) -> impl Iterator<Item = &[u8]> {
         let head = if self.general { 7 + self.start.len() } else { 0 };
-        self.input[head..].chunks_exact(4 + self.start.len())
+        self.input[head..].chunks_exact(6 + self.start.len())
     }
 }
 
@@ -28,8 +28,18 @@ pub struct Seen {
     pub written: usize,
     pub read: usize,
     /// By number.
-    pub refused: [usize; 14],
+    pub refused: [usize; 20],
     pub refused_13_at_handing_over: usize,
+    pub refused_19_of_no_client: usize,
+    /// Accepted, with bytes past their length that aren't 0.
+    pub writes_with_more_bytes: usize,
+    /// Accepted, with a number above V where a write has its length.
+    pub begun_reads_with_a_length: usize,
+    pub reads_of_length_0: usize,
+    /// Neither 0 nor V.
+    pub reads_of_a_part: usize,
+    /// Of a part, longer than 255.
+    pub reads_of_a_long_part: usize,
     pub handed_to_crashed: usize,
     pub not_awaited: usize,
     pub may_not_answer: usize,
@@ -49,6 +59,13 @@ impl Seen {
             ("10", self.refused[10]),
             ("13", self.refused[13]),
             ("13 at handing over", self.refused_13_at_handing_over),
+            ("19", self.refused[19]),
+            ("19 of a client that isn't there", self.refused_19_of_no_client),
+            ("writes with bytes past their length", self.writes_with_more_bytes),
+            ("reads begun with a length above V", self.begun_reads_with_a_length),
+            ("reads of length 0", self.reads_of_length_0),
+            ("reads of a length between 0 and V", self.reads_of_a_part),
+            ("reads of a length between 255 and V", self.reads_of_a_long_part),
             ("handed to a crashed party", self.handed_to_crashed),
             ("not awaited (14)", self.not_awaited),
             ("may not answer (15)", self.may_not_answer),
@@ -89,8 +106,10 @@ pub struct Mood {
     pub order: Order,
     /// Each phase gets its messages through to a few servers drawn for it, before all others.
     pub adverse: bool,
-    /// A board's bytes are all one of so many; 0: any bytes.
+    /// A board's bytes are all one of so many, any past its length; 0: any bytes.
     pub boards: usize,
+    /// Chances of 1000 that a write has length V; else its length is drawn.
+    pub whole: usize,
     /// First the messages in flight are doubled up to about M.
     pub fill: bool,
     /// In the end everything is handed over and each client reads.
@@ -126,12 +145,19 @@ impl<'a> Maker<'a> {
     }
 
     /// Puts an event in the list and has the model run it.
-    fn put(&mut self, code: u8, party: u8, position: usize, board: &[u8]) {
+    fn put(&mut self, code: u8, party: u8, position: usize, bytes: &[u8], length: usize) {
         self.note(code, position);
         self.list.input.extend([code, party]);
         self.list.input.extend((position as u16).to_le_bytes());
-        self.list.input.extend(board);
-        let (met, named) = match self.rig.event(code, party, position, board) {
+        self.list.input.extend(bytes);
+        self.list.input.extend((length as u16).to_le_bytes());
+        let answer = self.rig.event(code, party, position, bytes, length);
+        match code {
+            1 => self.note_write(&answer, party, &bytes[length.min(bytes.len())..]),
+            2 => self.seen.begun_reads_with_a_length += (answer.is_ok() && length > bytes.len()) as usize,
+            _ => self.note_read(&answer),
+        }
+        let (met, named) = match answer {
             Ok(Answer::Nothing) => (&mut self.seen.ok, 0),
             Ok(Answer::Written(client, _)) => (&mut self.seen.written, client),
             Ok(Answer::Read(client, ..)) => (&mut self.seen.read, client),
@@ -158,6 +184,21 @@ impl<'a> Maker<'a> {
         self.seen.not_awaited += (up && !r.for_server() && !client.awaits(r)) as usize;
     }
 
+    /// Notes the bytes past a write's length, or that 19 comes before 8.
+    fn note_write(&mut self, answer: &Result<Answer, u8>, party: u8, past: &[u8]) {
+        let exists = (1..=self.rig.config.c).contains(&(party as usize));
+        self.seen.refused_19_of_no_client += (*answer == Err(19) && !exists) as usize;
+        self.seen.writes_with_more_bytes += (answer.is_ok() && past.iter().any(|b| *b != 0)) as usize;
+    }
+
+    /// Notes the length of a read that ends.
+    fn note_read(&mut self, answer: &Result<Answer, u8>) {
+        let Ok(Answer::Read(_, _, Board { length, bytes })) = answer else { return };
+        self.seen.reads_of_length_0 += (*length == 0) as usize;
+        self.seen.reads_of_a_part += (1..bytes.len()).contains(length) as usize;
+        self.seen.reads_of_a_long_part += (256..bytes.len()).contains(length) as usize;
+    }
+
     /// 0 or any number below `most`, for a field that isn't used.
     fn unused(&mut self, most: usize) -> usize {
         if self.littered { self.random.below(most) } else { 0 }
@@ -169,26 +210,57 @@ impl<'a> Maker<'a> {
 
     /// An event that names a party.
     pub fn party(&mut self, code: u8, party: u8) {
-        let (position, board) = (self.unused(65536), self.unused_board());
-        self.put(code, party, position, &board);
+        if code == 1 {
+            let length = self.length();
+            return self.write(party, length);
+        }
+        let (position, bytes, length) = (self.unused(65536), self.unused_board(), self.unused(65536));
+        self.put(code, party, position, &bytes, length);
     }
 
     /// An event that names a position.
     pub fn position(&mut self, code: u8, position: usize) {
-        let (party, board) = (self.unused(256) as u8, self.unused_board());
-        self.put(code, party, position, &board);
+        let (party, bytes, length) = (self.unused(256) as u8, self.unused_board(), self.unused(65536));
+        self.put(code, party, position, &bytes, length);
     }
 
     pub fn begin(&mut self, client: u8, write: bool) {
-        if !write {
-            return self.party(2, client);
-        }
+        self.party(if write { 1 } else { 2 }, client);
+    }
+
+    /// A write's length: V as often as the mood has it, else 0, any up to V, and now and then more.
+    fn length(&mut self) -> usize {
         let v = self.list.start.len();
-        let any = self.mood.boards == 0;
-        let board =
-            if any { self.random.bytes(v) } else { vec![self.random.below(self.mood.boards) as u8; v] };
-        let position = self.unused(65536);
-        self.put(1, client, position, &board);
+        if self.random.chance(self.mood.whole) {
+            return v;
+        }
+        match self.random.below(30) {
+            0 => self.length_above(),
+            1..=7 => 0,
+            _ => self.random.within(0, v),
+        }
+    }
+
+    fn length_above(&mut self) -> usize {
+        let v = self.list.start.len();
+        let any = self.random.within(v + 1, 65535);
+        self.random.pick(&[v + 1, v + 1, v + 256, 32768, 65535, any])
+    }
+
+    fn write(&mut self, party: u8, length: usize) {
+        let (position, bytes) = (self.unused(65536), self.bytes(length));
+        self.put(1, party, position, &bytes, length);
+    }
+
+    /// The bytes of a write. Many are 0, so that some boards differ by their length alone.
+    fn bytes(&mut self, length: usize) -> Vec<u8> {
+        let v = self.list.start.len();
+        let any = (0..v).map(|_| if self.random.chance(250) { 0 } else { self.random.byte() });
+        let mut bytes: Vec<u8> = any.collect();
+        if self.mood.boards > 0 {
+            bytes[..length.min(v)].fill(self.random.below(self.mood.boards) as u8);
+        }
+        bytes
     }
 
     fn clients(&self, fit: impl Fn(&Client) -> bool) -> Vec<u8> {
@@ -266,12 +338,21 @@ impl<'a> Maker<'a> {
         self.position(code, position);
     }
 
-    /// Codes, parties and positions that no sensible host names.
+    /// A write of more than V bytes, by a client in any phase or by none.
+    fn too_long(&mut self) {
+        let (party, length) = (self.random.below(self.rig.config.c + 2) as u8, self.length_above());
+        self.write(party, length);
+    }
+
+    /// Codes, parties, positions and lengths that no sensible host names.
     fn junk(&mut self) {
         let Config { n, c, .. } = self.rig.config;
         let flight = self.rig.flight.len();
         let outside = |most: usize| [0, most as u8 + 1, most as u8 + 16, 255];
         let begin_or_crash = self.random.pick(&[1, 2, 7]);
+        if self.random.chance(100) {
+            return self.too_long();
+        }
         let made = match self.random.below(6) {
             0 => self.one_of(begin_or_crash, &outside(c)),
             1 => self.one_of(6, &outside(n)),
@@ -362,8 +443,10 @@ impl<'a> Maker<'a> {
             || if self.random.chance(950) { self.random.below(9) as u8 } else { self.random.byte() };
         let (code, party, low) = (byte(), byte(), byte());
         let high = if self.random.chance(950) { 0 } else { self.random.byte() };
-        let board = self.random.bytes(self.list.start.len());
-        self.put(code, party, u16::from_le_bytes([low, high]) as usize, &board);
+        let position = u16::from_le_bytes([low, high]) as usize;
+        let bytes = self.random.bytes(self.list.start.len());
+        let length = if self.random.chance(800) { self.length() } else { self.random.below(65536) };
+        self.put(code, party, position, &bytes, length);
     }
 }
 

@@ -1,4 +1,5 @@
-//! An independent model of document 01, from its text alone: field, code, server, client, rig.
+//! An independent model of document 01 and of request L1 of document 02, from their text alone: field, code, server,
+//! client, rig.
 //! A refusal is `Err` with the number of the first question answered no.
 
 use std::sync::LazyLock;
@@ -40,6 +41,24 @@ impl Config {
     }
 }
 
+// Boards
+
+/// A length, 0 to V, and V bytes, zero past it.
+#[derive(Clone, Debug, PartialEq)]
+pub struct Board {
+    pub length: usize,
+    pub bytes: Vec<u8>,
+}
+
+impl Board {
+    /// Zeros after so many of V bytes.
+    pub fn cut(bytes: &[u8], length: usize) -> Board {
+        let mut bytes = bytes.to_vec();
+        bytes[length..].fill(0);
+        Board { length, bytes }
+    }
+}
+
 // Field and code
 
 /// Polynomials modulo hexadecimal 11D, by shift and add.
@@ -62,6 +81,20 @@ static PRODUCTS: LazyLock<Vec<[u8; 256]>> =
 
 /// Zero past E.
 pub type Element = [u8; 64];
+
+/// An element, and beside it the length of its board.
+#[derive(Clone, Copy, Debug, PartialEq)]
+pub struct Piece {
+    pub length: u16,
+    pub element: Element,
+}
+
+impl Piece {
+    /// That of server s.
+    pub fn of(config: &Config, board: &Board, s: u8) -> Piece {
+        Piece { length: board.length as u16, element: encode(config, &board.bytes, s) }
+    }
+}
 
 /// Adds `factor` times each byte of `from` to `to`.
 fn add_times(to: &mut [u8], factor: u8, from: &[u8]) {
@@ -128,7 +161,8 @@ pub struct Record {
     pub server: u8,
     pub operation: u32,
     pub tag: Tag,
-    pub element: Option<Element>,
+    /// The element, if present, and the length at offsets 13 and 14, which are zero without one.
+    pub piece: Option<Piece>,
 }
 
 impl Record {
@@ -141,8 +175,9 @@ impl Record {
             && (self.tag.number == 0) == (self.tag.client == 0)
             && (self.kind != QUERY || self.tag == START)
             && (!(3..=6).contains(&self.kind) || self.tag.client == self.client)
-            && (self.kind == 8 || self.element.is_some() == (self.kind == PRE_WRITE))
-            && self.element.is_none_or(|e| e[config.e..].iter().all(|b| *b == 0))
+            && (self.kind == 8 || self.piece.is_some() == (self.kind == PRE_WRITE))
+            && self.piece.is_none_or(|piece| piece.length as usize <= config.v())
+            && self.piece.is_none_or(|piece| piece.element[config.e..].iter().all(|b| *b == 0))
     }
 
     pub fn for_server(&self) -> bool {
@@ -157,16 +192,16 @@ pub struct Server {
     pub up: bool,
     pub highest: Tag,
     pub floor: Option<Tag>,
-    pub stored: Vec<(Tag, Element)>,
+    pub stored: Vec<(Tag, Piece)>,
 }
 
 impl Server {
-    pub fn fresh(element: Element) -> Server {
-        Server { up: true, highest: START, floor: None, stored: vec![(START, element)] }
+    pub fn fresh(piece: Piece) -> Server {
+        Server { up: true, highest: START, floor: None, stored: vec![(START, piece)] }
     }
 
-    fn stored(&self, t: Tag) -> Option<Element> {
-        self.stored.iter().find(|(tag, _)| *tag == t).map(|(_, element)| *element)
+    fn stored(&self, t: Tag) -> Option<Piece> {
+        self.stored.iter().find(|(tag, _)| *tag == t).map(|(_, piece)| *piece)
     }
 
     fn at_or_below_floor(&self, t: Tag) -> bool {
@@ -175,16 +210,16 @@ impl Server {
 
     /// The answer, or nothing (15).
     pub fn step(&mut self, config: &Config, r: &Record) -> Option<Record> {
-        let mut answer = Record { kind: r.kind + 1, element: None, ..*r };
+        let mut answer = Record { kind: r.kind + 1, piece: None, ..*r };
         if matches!(r.kind, WRITE_FINALISE | READ_FINALISE) {
             self.highest = self.highest.max(r.tag);
         }
         match r.kind {
             QUERY => answer.tag = self.highest,
-            PRE_WRITE => self.pre_write(config, r.tag, r.element.unwrap()),
+            PRE_WRITE => self.pre_write(config, r.tag, r.piece.unwrap()),
             READ_FINALISE => {
-                answer.element = self.stored(r.tag);
-                if answer.element.is_none() && self.at_or_below_floor(r.tag) {
+                answer.piece = self.stored(r.tag);
+                if answer.piece.is_none() && self.at_or_below_floor(r.tag) {
                     return None;
                 }
             }
@@ -193,11 +228,11 @@ impl Server {
         Some(answer)
     }
 
-    fn pre_write(&mut self, config: &Config, t: Tag, element: Element) {
+    fn pre_write(&mut self, config: &Config, t: Tag, piece: Piece) {
         if self.stored(t).is_some() || self.at_or_below_floor(t) {
             return;
         }
-        self.stored.push((t, element));
+        self.stored.push((t, piece));
         if self.stored.len() > config.d + 1 {
             let smallest = self.stored.iter().map(|(tag, _)| *tag).min().unwrap();
             self.stored.retain(|(tag, _)| *tag != smallest);
@@ -231,20 +266,20 @@ pub struct Client {
     pub number: u8,
     pub phase: Phase,
     pub operation: u32,
-    /// The bytes to write; none in a read.
-    pub board: Option<Vec<u8>>,
+    /// What to write; none in a read.
+    pub board: Option<Board>,
     /// Asking: the highest tag answered so far. Afterwards the operation's tag.
     pub tag: Tag,
     /// Servers counted in this phase.
     pub counted: Vec<u8>,
-    /// Elements received, with their servers.
-    pub elements: Vec<(u8, Element)>,
+    /// What was received with an element, and from which server.
+    pub pieces: Vec<(u8, Piece)>,
 }
 
 impl Client {
     pub fn fresh(number: u8) -> Client {
         let (phase, operation) = (Phase::Idle, 0);
-        Client { number, phase, operation, board: None, tag: START, counted: vec![], elements: vec![] }
+        Client { number, phase, operation, board: None, tag: START, counted: vec![], pieces: vec![] }
     }
 
     /// Question 14.
@@ -283,21 +318,26 @@ impl Client {
             }
             Phase::PreWriting => Next::Send(Phase::FinalisingWrite, self.tag),
             Phase::FinalisingWrite => Next::End(Answer::Written(self.number, self.tag)),
-            _ => {
-                let mut elements = self.elements.clone();
-                elements.extend(r.element.map(|element| (r.server, element)));
-                if elements.len() < config.k {
-                    return Next::Count;
-                }
-                elements.sort_by_key(|(server, _)| *server);
-                Next::End(Answer::Read(self.number, self.tag, decode(config, &elements)))
-            }
+            _ => self.next_of_read(config, r),
         }
+    }
+
+    /// The length is that sent with the lowest server's element.
+    fn next_of_read(&self, config: &Config, r: &Record) -> Next {
+        let mut pieces = self.pieces.clone();
+        pieces.extend(r.piece.map(|piece| (r.server, piece)));
+        if pieces.len() < config.k {
+            return Next::Count;
+        }
+        pieces.sort_by_key(|(server, _)| *server);
+        let parts: Vec<_> = pieces.iter().map(|(server, piece)| (*server, piece.element)).collect();
+        let length = pieces[0].1.length as usize;
+        Next::End(Answer::Read(self.number, self.tag, Board::cut(&decode(config, &parts), length)))
     }
 
     fn count(&mut self, r: &Record) {
         self.counted.push(r.server);
-        self.elements.extend(r.element.map(|element| (r.server, element)));
+        self.pieces.extend(r.piece.map(|piece| (r.server, piece)));
         if self.phase == Phase::Asking {
             self.tag = self.tag.max(r.tag);
         }
@@ -307,7 +347,7 @@ impl Client {
     fn enter(&mut self, config: &Config, phase: Phase, tag: Tag, flight: &mut Vec<Record>) {
         (self.phase, self.tag) = (phase, tag);
         self.counted.clear();
-        self.elements.clear();
+        self.pieces.clear();
         let kind = match phase {
             Phase::Asking => QUERY,
             Phase::PreWriting => PRE_WRITE,
@@ -317,8 +357,8 @@ impl Client {
         let (client, operation) = (self.number, self.operation);
         for server in 1..=config.n as u8 {
             let board = self.board.as_ref().filter(|_| kind == PRE_WRITE);
-            let element = board.map(|board| encode(config, board, server));
-            flight.push(Record { kind, client, server, operation, tag, element });
+            let piece = board.map(|board| Piece::of(config, board, server));
+            flight.push(Record { kind, client, server, operation, tag, piece });
         }
     }
 }
@@ -331,7 +371,7 @@ pub enum Answer {
     Nothing,
     Written(u8, Tag),
     Spent(u8),
-    Read(u8, Tag, Vec<u8>),
+    Read(u8, Tag, Board),
 }
 
 pub struct Rig {
@@ -342,17 +382,27 @@ pub struct Rig {
 }
 
 impl Rig {
-    pub fn make(config: Config, board: &[u8]) -> Result<Rig, u8> {
+    /// The starting board has length V.
+    pub fn make(config: Config, bytes: &[u8]) -> Result<Rig, u8> {
         config.ask()?;
-        ask(board.len() == config.v(), 6)?;
-        let servers = (1..=config.n as u8).map(|s| Server::fresh(encode(&config, board, s)));
+        ask(bytes.len() == config.v(), 6)?;
+        let board = Board { length: config.v(), bytes: bytes.to_vec() };
+        let servers = (1..=config.n as u8).map(|s| Server::fresh(Piece::of(&config, &board, s)));
         let clients = (1..=config.c as u8).map(Client::fresh);
         Ok(Rig { config, servers: servers.collect(), clients: clients.collect(), flight: vec![] })
     }
 
-    pub fn event(&mut self, code: u8, party: u8, position: usize, board: &[u8]) -> Result<Answer, u8> {
+    /// Only a begin of a write looks at the bytes and at the length.
+    pub fn event(
+        &mut self,
+        code: u8,
+        party: u8,
+        position: usize,
+        bytes: &[u8],
+        length: usize,
+    ) -> Result<Answer, u8> {
         match code {
-            1 => self.begin(party, Some(board)),
+            1 => self.begin_write(party, bytes, length),
             2 => self.begin(party, None),
             3 => self.hand_over(position),
             4 => self.lose(position),
@@ -363,7 +413,13 @@ impl Rig {
         }
     }
 
-    fn begin(&mut self, party: u8, board: Option<&[u8]>) -> Result<Answer, u8> {
+    /// 19 comes before 8.
+    fn begin_write(&mut self, party: u8, bytes: &[u8], length: usize) -> Result<Answer, u8> {
+        ask(length <= self.config.v(), 19)?;
+        self.begin(party, Some((bytes, length)))
+    }
+
+    fn begin(&mut self, party: u8, write: Option<(&[u8], usize)>) -> Result<Answer, u8> {
         ask((1..=self.config.c).contains(&(party as usize)), 8)?;
         let client = &mut self.clients[party as usize - 1];
         let up = client.phase != Phase::Down;
@@ -372,7 +428,7 @@ impl Rig {
         ask(client.operation < u32::MAX, 11)?;
         ask(self.flight.len() + self.config.n <= self.config.m, 13)?;
         client.operation += 1;
-        client.board = board.map(<[u8]>::to_vec);
+        client.board = write.map(|(bytes, length)| Board::cut(bytes, length));
         client.enter(&self.config, Phase::Asking, START, &mut self.flight);
         Ok(Answer::Nothing)
     }

@@ -1,6 +1,6 @@
 //! The programs `board` and `simulate` over the model: bytes in, lines out.
 
-use crate::model::{Answer, Config, Rig};
+use crate::model::{Answer, Config, Rig, Tag};
 use std::io::{self, Read, Write};
 
 /// Fills the buffer as far as the input goes; the count of bytes read.
@@ -41,25 +41,32 @@ pub fn simulate(input: &mut impl Read, out: &mut impl Write) -> io::Result<()> {
     events(Rig::make(config, &board).expect("asked above"), input, out)
 }
 
+/// Records of 6 + V bytes: code, party, position, board, length.
 pub fn events(mut rig: Rig, input: &mut impl Read, out: &mut impl Write) -> io::Result<()> {
-    let mut record = vec![0; 4 + rig.config.v()];
+    let v = rig.config.v();
+    let mut record = vec![0; 6 + v];
     for count in 1u64.. {
         let got = take(input, &mut record)?;
         if got < record.len() {
             return if got == 0 { Ok(()) } else { writeln!(out, "{count} short") };
         }
         let position = u16::from_le_bytes([record[2], record[3]]) as usize;
-        match rig.event(record[0], record[1], position, &record[4..]) {
+        let length = u16::from_le_bytes([record[4 + v], record[5 + v]]) as usize;
+        match rig.event(record[0], record[1], position, &record[4..4 + v], length) {
             Ok(Answer::Nothing) => writeln!(out, "{count} ok")?,
             Ok(Answer::Written(_, t)) => writeln!(out, "{count} written {} {}", t.number, t.client)?,
             Ok(Answer::Spent(_)) => writeln!(out, "{count} spent")?,
-            Ok(Answer::Read(_, t, board)) => {
-                writeln!(out, "{count} read {} {} {}", t.number, t.client, digits(&board))?
-            }
+            Ok(Answer::Read(_, t, board)) => read(out, count, t, &board.bytes[..board.length])?,
             Err(number) => writeln!(out, "{count} no {number}")?,
         }
     }
     Ok(())
+}
+
+/// A read of length 0 prints only its tag, with no blank after it.
+fn read(out: &mut impl Write, count: u64, t: Tag, shown: &[u8]) -> io::Result<()> {
+    let blank = if shown.is_empty() { "" } else { " " };
+    writeln!(out, "{count} read {} {}{blank}{}", t.number, t.client, digits(shown))
 }
 
 /// Two lower-case hexadecimal digits a byte.

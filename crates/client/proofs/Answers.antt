@@ -6,11 +6,11 @@ use mathlib.Core.List.{List, [], _++_, append-nil}
 use Prim.Native.Nat.{ℕ, _+_, _*_, _<_}
 use native.Mathlib.Omega.{arith}
 use borrow.Author.Tests.{eq-eqb, ne-eqb, ltb-true}
-use lib.Dec.{eqb}
+use lib.Dec.{eqb, leb}
 use lib.ListN.{length, take, drop, drop-of-length-le}
 use lib.Seq.{take-length}
 use Rattle.config.specs.declared.Config.{Config}
-use Rattle.config.specs.Config.{Valid}
+use Rattle.config.specs.Config.{Valid, boardLength}
 use Rattle.config.specs.Number.{clientNumber}
 use Rattle.config.specs.Questions.{Question, firstNo, numbered}
 use Rattle.config.specs.Refusal.{verdictNumber}
@@ -18,19 +18,19 @@ use Rattle.config.proofs.Questions.{yes-next}
 use Rattle.config.proofs.Refusals.{verdict-is}
 use Rattle.tag.specs.Tag.{start}
 use Rattle.protocol.specs.Boards as boards
-use Rattle.protocol.specs.Boards.{BoardClient, BoardMoved}
+use Rattle.protocol.specs.Boards.{Board, BoardClient, BoardMoved, boardOf}
 use Rattle.protocol.specs.Client as protocol
 use Rattle.client.specs.declared.Moved.{Moved}
 use Rattle.client.specs.declared.State.{State}
-use Rattle.client.specs.Calls.{Answered, BeginPost, keeping}
+use Rattle.client.specs.Calls.{Answered, BeginPost, keeping, keepingLength}
 use Rattle.client.specs.Questions.{callQuestions}
 use Rattle.client.specs.Send.{recordsOf}
-use Rattle.client.specs.State.{bare, phaseOf, phaseWithin, stateWithin, view}
+use Rattle.client.specs.State.{bare, lengthsWithin, phaseOf, phaseWithin, stateWithin, view}
 use Rattle.client.specs.inner.Outcome.{RefusedPost, begunOf}
 use Rattle.client.specs.inner.Send.{AnnouncePost, AnnouncePre, openingOf}
 use Rattle.client.specs.inner.Settle.{Moves}
 use Rattle.client.proofs.Asked.{call-numbered, call-passed}
-use Rattle.client.proofs.Phases.{self-in, tag-within}
+use Rattle.client.proofs.Phases.{all-in, self-in, tag-within}
 use Rattle.client.proofs.Sets.{member-zero}
 use Rattle.client.proofs.Settling.{announced, nobody-within, opens}
 
@@ -52,14 +52,14 @@ module _ (cfg : Config) (x : State) (before after : BoardClient) (move : BoardMo
         within = λ ok. rw (h .state) ok;
       }
 
-  pub moved : firstNo qs ≡ 0 → (kept es : List ℕ) {sends′ board board′ : List ℕ} {r : Moved} → Moves cfg (x .me) move kept es sends sends′ board board′ r
+  pub moved : firstNo qs ≡ 0 → (kept es : List ℕ) {y : State} {sends′ board board′ : List ℕ} {r : Moved} → y .me ≡ x .me → Moves cfg y move kept es sends sends′ board board′ r
       → view cfg (r .state) kept es ≡ after → Answered cfg (firstNo qs) x before after move sends sends′ r
-  moved pass kept es s same =
+  moved pass kept es mine s same =
       let is : eqb (firstNo qs) 0 ≡ true = eq-eqb (firstNo qs) 0 pass in
       record {
         number = ap verdictNumber (s .verdict) ∙ sym pass;
         held = λ stop. absurd (stop pass);
-        self = s .self;
+        self = s .self ∙ mine;
         client = sym same ∙ s .client ∙ rw is;
         count = s .count ∙ rw is;
         out = s .out ∙ rw is;
@@ -68,40 +68,40 @@ module _ (cfg : Config) (x : State) (before after : BoardClient) (move : BoardMo
 
 -- ---- begin
 
-module _ (cfg : Config) (sized : Bool) (x : State) where
+-- the questions of a beginning: those of a call, and others, 9 to 11 among them
+module _ (cfg : Config) (sized : Bool) (x : State) (others : List Question) where
   abbrev pub beginning : List Question
-  beginning = callQuestions cfg sized x (protocol.beginQuestions (bare cfg x))
+  beginning = callQuestions cfg sized x others
 
-  module _ (pass : firstNo (callQuestions cfg sized x (protocol.beginQuestions (bare cfg x))) ≡ 0) where
-    passes : Valid cfg × (sized ≡ true) × (stateWithin cfg x ≡ true) × (firstNo (protocol.beginQuestions (bare cfg x)) ≡ 0)
-    passes = call-passed cfg x sized (protocol.beginQuestions (bare cfg x)) pass
+  module _ (pass : firstNo (callQuestions cfg sized x others) ≡ 0) where
+    passes : Valid cfg × (sized ≡ true) × (stateWithin cfg x ≡ true) × (firstNo others ≡ 0)
+    passes = call-passed cfg x sized others pass
 
     pub is-sized : sized ≡ true
     is-sized = passes .1
 
-    pub operation-below : x .operation < protocol.highestNumber
-    unfolding protocol.beginQuestions view
-    operation-below =
-        ltb-true (x .operation) protocol.highestNumber
-        (yes-next 11 _ [] (omega arith) (yes-next 10 _ _ (omega arith) (yes-next 9 _ _ (omega arith) (passes .3) .1) .1) .0)
+    pub others-pass : firstNo others ≡ 0
+    others-pass = passes .3
 
-    begun-within : (writes : Bool) → stateWithin cfg (begunOf x writes) ≡ true
-    unfolding stateWithin phaseWithin
-    begun-within writes = rw (self-in cfg x (passes .2)) (tag-within cfg start 0 refl (nobody-within (cfg .n)))
+    begun-within : (writes : Bool) (n : ℕ) → cond writes (leb n (boardLength cfg)) true ≡ true → stateWithin cfg (begunOf x writes n) ≡ true
+    unfolding phaseWithin lengthsWithin
+    begun-within writes n fits =
+        all-in cfg (begunOf x writes n) (self-in cfg x (passes .2)) (tag-within cfg start 0 refl (nobody-within (cfg .n))) fits
 
-    pub announces : (writes : Bool) (board sends : List ℕ) → length sends ≡ 80 * cfg .n → AnnouncePre cfg (begunOf x writes) board sends
-    announces writes board sends room =
-        record { valid = passes .0; within = begun-within writes; operation = omega arith; own = tt; opens = tt; room = room }
+    pub announces : (writes : Bool) (n : ℕ) → cond writes (leb n (boardLength cfg)) true ≡ true → (board sends : List ℕ) → length sends ≡ 80 * cfg .n
+        → AnnouncePre cfg (begunOf x writes n) board sends
+    announces writes n fits board sends room =
+        record { valid = passes .0; within = begun-within writes n fits; operation = omega arith; own = tt; opens = tt; room = room }
 
     -- the queries are sent, and the board to write, where there is one, is kept
-    pub begun : (writes : Bool) (board : Option (List ℕ)) (kept kept′ any es sends : List ℕ) {sends′ : List ℕ} {r : Moved} → cond writes (some kept′) none ≡ board
-        → kept′ ≡ keeping board kept → AnnouncePost cfg (begunOf x writes) any sends sends′ r
-        → BeginPost cfg (firstNo (callQuestions cfg sized x (protocol.beginQuestions (bare cfg x)))) x board kept kept′ es sends sends′ r
+    pub begun : (writes : Bool) (n : ℕ) → cond writes (leb n (boardLength cfg)) true ≡ true → (board : Option Board) (kept kept′ any es sends : List ℕ)
+        {sends′ : List ℕ} {r : Moved} → cond writes (some (boardOf n kept′)) none ≡ board → kept′ ≡ keeping board kept → n ≡ keepingLength board (x .length)
+        → AnnouncePost cfg (begunOf x writes n) any sends sends′ r → BeginPost cfg (firstNo (callQuestions cfg sized x others)) x board kept kept′ es sends sends′ r
     unfolding protocol.beginClient protocol.sendEach openingOf view phaseOf
-    begun writes board kept kept′ any es sends is same post =
+    begun writes n fits board kept kept′ any es sends is same long post =
         let before = view cfg x kept es in
-        let begins : boards.beginClient cfg (clientNumber (x .me)) before board ≡ opens cfg (begunOf x writes) kept′ es =
-        ap₂ (λ (b : Option (List ℕ)) (f : ℕ → Bool). record {
+        let begins : boards.beginClient cfg (clientNumber (x .me)) before board ≡ opens cfg (begunOf x writes n) kept′ es =
+        ap₂ (λ (b : Option Board) (f : ℕ → Bool). record {
           client = record { operation = x .operation + 1; phase = protocol.asking b start f };
           sends = boards.beginClient cfg (clientNumber (x .me)) before board .sends;
           ended = protocol.nothing;
@@ -109,24 +109,38 @@ module _ (cfg : Config) (sized : Bool) (x : State) where
         record {
           answered =
               rw begins
-              (moved cfg x before _ (opens cfg (begunOf x writes) kept′ es) sends beginning pass kept′ es
-              (announced cfg (begunOf x writes) kept′ es sends [] (begun-within writes) (record { move = post .move; out = post .out })) refl);
+              (moved cfg x before _ (opens cfg (begunOf x writes n) kept′ es) sends beginning pass kept′ es refl
+              (announced cfg (begunOf x writes n) kept′ es sends [] (begun-within writes n fits) (record { move = post .move; out = post .out })) refl);
           nothing = ap (λ (m : Moved). m .ended) (post .move);
           keeps = same ∙ rw (eq-eqb (firstNo beginning) 0 pass);
+          length = ap (λ (m : Moved). m .state .length) (post .move) ∙ long ∙ rw (eq-eqb (firstNo beginning) 0 pass);
+          lengths = ap (λ (m : Moved). m .state .lengths) (post .move);
         }
 
-  pub begin-refused : (board : Option (List ℕ)) (kept es sends : List ℕ) {n : ℕ} {r : Moved}
-      → n ≡ firstNo (callQuestions cfg sized x (protocol.beginQuestions (bare cfg x))) → (n ≡ 0 → ⊥) → RefusedPost x n r
-      → BeginPost cfg (firstNo (callQuestions cfg sized x (protocol.beginQuestions (bare cfg x)))) x board kept kept es sends sends r
-  unfolding numbered protocol.beginQuestions
-  begin-refused board kept es sends e stop h =
+  pub begin-refused : numbered others ≡ true → (board : Option Board) (kept es sends : List ℕ) {n : ℕ} {r : Moved}
+      → n ≡ firstNo (callQuestions cfg sized x others) → (n ≡ 0 → ⊥) → RefusedPost x n r
+      → BeginPost cfg (firstNo (callQuestions cfg sized x others)) x board kept kept es sends sends r
+  begin-refused known board kept es sends e stop h =
       record {
         answered =
             refused cfg x (view cfg x kept es) _ (boards.beginClient cfg (clientNumber (x .me)) (view cfg x kept es) board) sends beginning
-            (call-numbered cfg x sized (protocol.beginQuestions (bare cfg x)) refl) e stop h (ap (λ (y : State). view cfg y kept es) (h .state));
+            (call-numbered cfg x sized others known) e stop h (ap (λ (y : State). view cfg y kept es) (h .state));
         nothing = h .ended;
         keeps = rw (ne-eqb (firstNo beginning) 0 (λ z. stop (e ∙ z)));
+        length = ap (λ (y : State). y .length) (h .state) ∙ rw (ne-eqb (firstNo beginning) 0 (λ z. stop (e ∙ z)));
+        lengths = ap (λ (y : State). y .lengths) (h .state);
       }
+
+-- 9 to 11 are answered yes: the operation number is below the last
+pub operation-below : (cfg : Config) (x : State) → firstNo (protocol.beginQuestions (bare cfg x)) ≡ 0 → x .operation < protocol.highestNumber
+unfolding protocol.beginQuestions view
+operation-below cfg x pass =
+    ltb-true (x .operation) protocol.highestNumber
+    (yes-next 11 _ [] (omega arith) (yes-next 10 _ _ (omega arith) (yes-next 9 _ _ (omega arith) pass .1) .1) .0)
+
+pub begin-numbered : (cfg : Config) (x : State) → numbered (protocol.beginQuestions (bare cfg x)) ≡ true
+unfolding numbered protocol.beginQuestions
+begin-numbered cfg x = refl
 
 -- the board kept
 pub copied : (board kept : List ℕ) → length board ≡ length kept → take (length board) board ++ drop (length board) kept ≡ board

@@ -6,12 +6,15 @@ mod Fronts
 mod Gathering
 pub mod Once
 mod Onward
-mod Phases
+pub mod Phases
 pub mod Quorum
 mod Receiving
+pub mod Seen
 mod Sending
 mod Sets
 mod Settling
+pub mod Shown
 mod Stepping
 mod Tags
 pub mod Theorems
+mod Owned

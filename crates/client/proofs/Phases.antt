@@ -1,6 +1,6 @@
 -- The numbers of a phase that are within their limits. Assumes nothing.
 use mathlib.Core.Path.{_≡_, sym, ap, _∙_}
-use mathlib.Core.Bool.{true}
+use mathlib.Core.Bool.{Bool, true, _&&_}
 use mathlib.Core.List.{[], _∷_}
 use Prim.Native.Nat.{ℕ}
 use denote.Enum.Declared.{tagOf}
@@ -15,7 +15,7 @@ use Rattle.client.specs.declared.Phase.{Phase}
 use Rattle.client.specs.declared.Phase.the-variants.{Idle, Asking, PreWriting, FinalisingWrite, FinalisingRead, Down}
 use Rattle.client.specs.declared.State.{State}
 use Rattle.client.specs.Servers.{withinServers}
-use Rattle.client.specs.State.{phaseWithin, stateWithin, tagWithin}
+use Rattle.client.specs.State.{lengthsWithin, phaseWithin, stateWithin, tagWithin}
 use Rattle.client.proofs.Phase as phase
 
 -- of a phase that a match left for last: idle or down
@@ -70,12 +70,30 @@ module _ (cfg : Config) where
   pub sets : {p q : Phase} → p ≡ q → phaseWithin cfg p ≡ true → SetsIn q
   sets {p} {q} e h = sets-in q (ap (phaseWithin cfg) (sym e) ∙ h)
 
-  -- the state's own number, and its phase
+  -- the state's own number, its phase and its lengths
   module _ (x : State) (h : stateWithin cfg x ≡ true) where
-    pub self-in : within 1 (cfg .c) (clientNumber (x .me)) ≡ true
+    abbrev self : Bool
+    self = within 1 (cfg .c) (clientNumber (x .me))
+
+    abbrev lengths : Bool
+    lengths = lengthsWithin cfg (x .phase) (x .length) (x .lengths)
+
+    both-in : (self && phaseWithin cfg (x .phase)) ≡ true
     unfolding stateWithin
-    self-in = and-left (within 1 (cfg .c) (clientNumber (x .me))) (phaseWithin cfg (x .phase)) h
+    both-in = and-left (self && phaseWithin cfg (x .phase)) lengths h
+
+    pub self-in : within 1 (cfg .c) (clientNumber (x .me)) ≡ true
+    self-in = and-left self (phaseWithin cfg (x .phase)) both-in
 
     pub phase-in : phaseWithin cfg (x .phase) ≡ true
+    phase-in = and-right self (phaseWithin cfg (x .phase)) both-in
+
+    pub lengths-in : lengthsWithin cfg (x .phase) (x .length) (x .lengths) ≡ true
     unfolding stateWithin
-    phase-in = and-right (within 1 (cfg .c) (clientNumber (x .me))) (phaseWithin cfg (x .phase)) h
+    lengths-in = and-right (self && phaseWithin cfg (x .phase)) lengths h
+
+  -- and all that is asked of a state
+  pub all-in : (x : State) → within 1 (cfg .c) (clientNumber (x .me)) ≡ true → phaseWithin cfg (x .phase) ≡ true
+      → lengthsWithin cfg (x .phase) (x .length) (x .lengths) ≡ true → stateWithin cfg x ≡ true
+  unfolding stateWithin
+  all-in x me phase lengths = rw (me, phase, lengths)

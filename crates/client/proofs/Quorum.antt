@@ -9,7 +9,7 @@ use Prim.Native.Nat.{ℕ, _≤_}
 use native.Mathlib.Omega.{arith}
 use borrow.Author.Tests.{le-leb, leb-true}
 use lib.Dec.{leb}
-use lib.ListN.{length}
+use lib.ListN.{length, take}
 use Rattle.laws.proofs.Bools.{and-left, and-right}
 use Rattle.config.specs.declared.Config.{Config}
 use Rattle.config.specs.Config.{quorumOf}
@@ -41,6 +41,7 @@ module _ {Value Element : Type 0} (key : Tag → ℕ) (encode : Value → ℕ �
   Fits p (read t v) =
       (cs : ℕ → Bool) × (es : ℕ → Option Element) × (p ≡ finalisingRead t cs es) × Enough cs
       × (cfg .k ≤ length (present (cfg .n) (upd es (m .server) (m .element))))
+      × (v ≡ decode (take (cfg .k) (present (cfg .n) (upd es (m .server) (m .element)))))
 
   many : (cs : ℕ → Bool) → enough cfg cs ≡ true → quorumOf cfg ≤ count cs (cfg .n)
   unfolding enough
@@ -61,6 +62,7 @@ module _ {Value Element : Type 0} (key : Tag → ℕ) (encode : Value → ℕ �
         refl,
         many (upd cs (m .server) true) (and-left (enough cfg (upd cs (m .server) true)) few h),
         leb-true (cfg .k) (length (present (cfg .n) (upd es (m .server) (m .element)))) (and-right (enough cfg (upd cs (m .server) true)) few h),
+        refl,
       )
   onward-fits o down h = tt
 

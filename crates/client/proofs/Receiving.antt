@@ -35,7 +35,7 @@ use Rattle.client.specs.declared.questions.Sizes.{Sizes}
 use Rattle.client.specs.Questions.{answerQuestions, callQuestions, isBoard, isElements, isFor, isSends}
 use Rattle.client.specs.Quorum.{OwnTag}
 use Rattle.client.specs.Servers.{member}
-use Rattle.client.specs.State.{phaseOf, phaseWithin, tagWithin, view}
+use Rattle.client.specs.State.{phaseOf, phaseWithin, slots, tagWithin, toWrite, view}
 use Rattle.client.specs.inner.Questions.{Received, sized}
 use Rattle.client.proofs.Asked.{call-passed, call-rest}
 use Rattle.client.proofs.Phases.{phase-in, tag-in}
@@ -101,7 +101,7 @@ module _ (cfg : Config) (x : State) (message : List ℕ) (l : Sizes) where
   module _ (k : Received cfg x message l) (kept es : List ℕ) (due : awaited cfg (view cfg x kept es) m ≡ true) where
     same-operation : m .operation ≡ x .operation
     unfolding protocol.awaited view
-    same-operation = eqb-true (m .operation) (x .operation) (and-left (eqb (m .operation) (x .operation)) (protocol.awaits key (phaseOf cfg (x .phase) kept es) m) due)
+    same-operation = eqb-true (m .operation) (x .operation) (and-left (eqb (m .operation) (x .operation)) (protocol.awaits key (phaseOf cfg (x .phase) (toWrite x kept) (slots x es)) m) due)
 
     pub operation-begun : 1 ≤ x .operation
     unfolding messageOf clauses
@@ -112,7 +112,7 @@ module _ (cfg : Config) (x : State) (message : List ℕ) (l : Sizes) where
     unfolding messageOf clauses
     carried kind in-range e =
         let is : kindAt message ≡ kind = sym (kind-number (kindAt message) (its-kind cfg message (k .well-formed))) ∙ e in
-        let own = clause cfg message 7 (k .well-formed) in
+        let own = clause cfg message 8 (k .well-formed) in
         eqb-true _ _ (rw (is, in-range) at own)
         ∙ eqb-true (m .client) (clientNumber (x .me)) (and-left (eqb (m .client) (clientNumber (x .me))) (isForClient (m .kind)) (k .for-me))
 
@@ -128,7 +128,7 @@ module _ (cfg : Config) (x : State) (message : List ℕ) (l : Sizes) where
         sym (ap (λ (u : Tag). u .client) one)
         ∙ carried kind in-range (eqb-true _ _ (and-left (eqb (kindNumber (m .kind)) kind) _ (and-left first (sameKey key (m .tag) t) h)))
 
-    own-in : (p : Phase) → phaseWithin cfg p ≡ true → protocol.awaits key (phaseOf cfg p kept es) m ≡ true → OwnTag (x .me) p
+    own-in : (p : Phase) → phaseWithin cfg p ≡ true → protocol.awaits key (phaseOf cfg p (toWrite x kept) (slots x es)) m ≡ true → OwnTag (x .me) p
     unfolding phaseOf phaseWithin protocol.awaits
     own-in Idle w h = tt
     own-in (Asking writes best counted) w h = tt
@@ -141,4 +141,4 @@ module _ (cfg : Config) (x : State) (message : List ℕ) (l : Sizes) where
     unfolding protocol.awaited view
     write-own =
         own-in (x .phase) (phase-in cfg x (k .within))
-        (and-right (eqb (m .operation) (x .operation)) (protocol.awaits key (phaseOf cfg (x .phase) kept es) m) due)
+        (and-right (eqb (m .operation) (x .operation)) (protocol.awaits key (phaseOf cfg (x .phase) (toWrite x kept) (slots x es)) m) due)

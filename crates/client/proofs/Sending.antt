@@ -1,5 +1,5 @@
 -- A message to each server: its record, the records one after the other, and the message that a phase begins with. Assumes nothing.
-use mathlib.Core.Path.{_≡_, refl, sym, ap, ap₂, _∙_}
+use mathlib.Core.Path.{_≡_, refl, sym, ap, ap₂, _∙_, fun-ext}
 use mathlib.Core.Bool.{Bool, true, false, cond, true≢false}
 use mathlib.Core.List.{List, [], _∷_, _++_, append-nil, append-assoc}
 use Prim.Native.Nat.{ℕ, suc, _+_, _-_, _*_, _≤_}
@@ -25,10 +25,10 @@ use Rattle.code.proofs.Encodable.{accepted as encode-accepted}
 use Rattle.record.specs.declared.Header.{Header}
 use Rattle.record.specs.declared.Kind.{Kind}
 use Rattle.record.specs.declared.Kind.the-variants.{PreWrite, Query, ReadFinalise, WriteFinalise}
-use Rattle.record.specs.Calls.{WritePost, isSound, limits, withElement}
-use Rattle.record.specs.Record.{all, elementIn, highestNumber, kindNumber, ofConfig, ownTag, presence, queryTag, recordOf}
+use Rattle.record.specs.Calls.{WritePost, isHeader, isSound, limits, withElement}
+use Rattle.record.specs.Record.{all, elementIn, highestNumber, kindNumber, lengthFits, ownTag, presence, queryTag, recordOf}
 use Rattle.record.proofs.Callers.{was-written}
-use Rattle.record.proofs.Written.{header-message}
+use Rattle.record.proofs.Written.{is-header, of-config}
 use Rattle.protocol.specs.Boards.{BoardMessage}
 use Rattle.protocol.specs.Number.{toEach}
 use Rattle.client.specs.declared.Phase.{Phase}
@@ -39,7 +39,7 @@ use Rattle.client.specs.Quorum.{OwnTag}
 use Rattle.client.specs.Send.{recordsOf}
 use Rattle.client.specs.Servers.{withinServers}
 use Rattle.client.specs.State.{phaseWithin, tagWithin}
-use Rattle.client.specs.inner.Send.{AnnouncePre, FillPost, Opens, Sendable, ToEachPre, ToOnePre, addressed, broadcastOf, openingOf}
+use Rattle.client.specs.inner.Send.{AnnouncePre, FillPost, Opens, Sendable, ToEachPre, ToOnePre, addressed, broadcast, broadcastOf, openingOf}
 use Rattle.client.proofs.Fronts.{over-front}
 use Rattle.client.proofs.Phases.{phase-in, self-in, tag-in}
 
@@ -48,24 +48,33 @@ use Rattle.client.proofs.Phases.{phase-in, self-in, tag-in}
 -- the header of a message to a server
 abbrev pub headerTo : Broadcast → Server → Header
 headerTo b server =
-    record { kind = b .kind; client = b .me; server = server; operation = b .operation; tag = b .tag; present = b .element }
+    record {
+      kind = b .kind;
+      client = b .me;
+      server = server;
+      operation = b .operation;
+      tag = b .tag;
+      present = b .element;
+      length = b .length;
+    }
 
 module _ (cfg : Config) (b : Broadcast) (ok : Sendable cfg b) (server : Server) (is : within 1 (cfg .n) (serverNumber server) ≡ true) (buffer : List ℕ)
     (long : length buffer ≡ 80) (o : b .operation ≤ highestNumber) (n : b .tag .number ≤ highestNumber) where
   in-limits : limits cfg (headerTo b server) ≡ true
   in-limits = rw (ok .me, is, ok .tag)
 
-  goes : ofConfig cfg (withElement cfg (headerTo b server) buffer) ≡ true
+  is-sound : isSound (headerTo b server) ≡ true
   unfolding isSound all
-  goes =
-      header-message cfg (headerTo b server) buffer long (ok .valid .e-high) in-limits o n
-      ∙ rw (le-leb 1 (b .operation) (ok .operation), ok .query, ok .own, ok .present)
+  is-sound = rw (le-leb 1 (b .operation) (ok .operation), ok .query, ok .own, ok .present)
+
+  goes : isHeader cfg (headerTo b server) buffer ≡ true
+  goes = is-header cfg (headerTo b server) buffer long (ok .valid .e-high) o n in-limits is-sound (ok .fits)
 
   -- what writing it leaves
   pub written : (after : List ℕ) (r : Verdict) → WritePost cfg (headerTo b server) buffer after r
       → after ≡ recordOf cfg (addressed cfg b (serverNumber server) buffer)
   unfolding withElement
-  written after r post = was-written cfg (headerTo b server) buffer (ok .valid) long goes after r post .1
+  written after r post = was-written cfg (headerTo b server) buffer (ok .valid) long (of-config cfg (headerTo b server) buffer goes) (ok .fits) after r post .1
 
 -- ---- the element in its record
 
@@ -119,10 +128,21 @@ module _ (cfg : Config) (f : ℕ → BoardMessage) (i : ℕ) (sends₀ sends par
 
 -- ---- the message of a phase
 
+-- one with an element has the length of the board kept
+pub its-length : (x : State) (p : Phase) → openingOf x p .element ≡ true → openingOf x p .length ≡ x .length
+unfolding openingOf
+its-length x Idle e = absurd (true≢false (sym e))
+its-length x (Asking writes best counted) e = absurd (true≢false (sym e))
+its-length x (PreWriting tag counted) e = refl
+its-length x (FinalisingWrite tag counted) e = absurd (true≢false (sym e))
+its-length x (FinalisingRead tag counted sent) e = absurd (true≢false (sym e))
+its-length x Down e = absurd (true≢false (sym e))
+
 module _ (cfg : Config) (x : State) (board sends : List ℕ) (ok : AnnouncePre cfg x board sends) where
-  message : (kind : Kind) (t : Tag) (e : Bool) → allowed (cfg .c) t ≡ true → queryTag (kindNumber kind) t ≡ true
-      → ownTag (kindNumber kind) (clientNumber (x .me)) t ≡ true → presence (kindNumber kind) e ≡ true → Sendable cfg (broadcastOf x kind t e)
-  message kind t e tag query own present =
+  message : (kind : Kind) (t : Tag) (e : Bool) (n : ℕ) → allowed (cfg .c) t ≡ true → queryTag (kindNumber kind) t ≡ true
+      → ownTag (kindNumber kind) (clientNumber (x .me)) t ≡ true → presence (kindNumber kind) e ≡ true → lengthFits cfg e n ≡ true
+      → Sendable cfg (broadcastOf x kind t e n)
+  message kind t e n tag query own present fits =
       record {
         valid = ok .valid;
         me = self-in cfg x (ok .within);
@@ -131,32 +151,42 @@ module _ (cfg : Config) (x : State) (board sends : List ℕ) (ok : AnnouncePre c
         query = query;
         own = own;
         present = present;
+        fits = fits;
       }
 
-  goes-out : (p : Phase) → phaseWithin cfg p ≡ true → OwnTag (x .me) p → Opens cfg p board → Sendable cfg (openingOf x p)
+  goes-out : (p : Phase) → phaseWithin cfg p ≡ true → OwnTag (x .me) p → Opens cfg p (x .length) board → Sendable cfg (openingOf x p)
   unfolding phaseWithin openingOf
-  goes-out Idle w own opens = message Query start false refl refl refl refl
-  goes-out (Asking writes best counted) w own opens = message Query start false refl refl refl refl
-  goes-out (PreWriting tag counted) w own opens = message PreWrite tag true (tag-in cfg tag counted w) refl (eq-eqb (tag .client) (clientNumber (x .me)) own) refl
+  goes-out Idle w own opens = message Query start false 0 refl refl refl refl refl
+  goes-out (Asking writes best counted) w own opens = message Query start false 0 refl refl refl refl refl
+  goes-out (PreWriting tag counted) w own opens = message PreWrite tag true (x .length) (tag-in cfg tag counted w) refl (eq-eqb (tag .client) (clientNumber (x .me)) own) refl
+      (le-leb (x .length) (boardLength cfg) (opens .1))
   goes-out (FinalisingWrite tag counted) w own opens =
-      message WriteFinalise tag false (tag-in cfg tag counted w) refl (eq-eqb (tag .client) (clientNumber (x .me)) own) refl
+      message WriteFinalise tag false 0 (tag-in cfg tag counted w) refl (eq-eqb (tag .client) (clientNumber (x .me)) own) refl refl
   goes-out (FinalisingRead tag counted sent) w own opens =
-      message ReadFinalise tag false (tag-in cfg tag counted (and-left (tagWithin cfg tag counted) (withinServers (cfg .n) sent) w)) refl refl refl
-  goes-out Down w own opens = message Query start false refl refl refl refl
+      message ReadFinalise tag false 0 (tag-in cfg tag counted (and-left (tagWithin cfg tag counted) (withinServers (cfg .n) sent) w)) refl refl refl refl
+  goes-out Down w own opens = message Query start false 0 refl refl refl refl refl
 
-  needs-board : (p : Phase) → Opens cfg p board → openingOf x p .element ≡ true → length board ≡ boardLength cfg
+  needs-board : (p : Phase) → Opens cfg p (x .length) board → openingOf x p .element ≡ true → length board ≡ boardLength cfg
   unfolding openingOf
   needs-board Idle opens e = absurd (true≢false (sym e))
   needs-board (Asking writes best counted) opens e = absurd (true≢false (sym e))
-  needs-board (PreWriting tag counted) opens e = opens
+  needs-board (PreWriting tag counted) opens e = opens .0
   needs-board (FinalisingWrite tag counted) opens e = absurd (true≢false (sym e))
   needs-board (FinalisingRead tag counted sent) opens e = absurd (true≢false (sym e))
   needs-board Down opens e = absurd (true≢false (sym e))
 
-  pub sends-each : ToEachPre cfg (openingOf x (x .phase)) board sends
-  sends-each =
+  -- with the board, or with any other of its length
+  pub sends-each : (other : List ℕ) → (openingOf x (x .phase) .element ≡ true → length other ≡ length board) → ToEachPre cfg (openingOf x (x .phase)) other sends
+  sends-each other same =
       record {
         goes = goes-out (x .phase) (phase-in cfg x (ok .within)) (ok .own) (ok .opens);
-        board-length = needs-board (x .phase) (ok .opens);
+        board-length = λ e. same e ∙ needs-board (x .phase) (ok .opens) e;
         room = ok .room;
       }
+
+  pub whole : openingOf x (x .phase) .element ≡ true → length board ≡ boardLength cfg
+  whole = needs-board (x .phase) (ok .opens)
+
+  -- without an element the board is not looked at
+  pub unlooked : (b : Broadcast) (other : List ℕ) → b .element ≡ false → broadcast cfg b board ≡ broadcast cfg b other
+  unlooked b other e = ap (toEach (cfg .n)) (fun-ext (λ s. rw e))

@@ -48,6 +48,30 @@ pub member-zero : member 0 ≡ nobody
 unfolding member
 member-zero = fun-ext (λ s. ap (λ (n : ℕ). eqb (n % 2) 1) (zero-div (2 ^ s)))
 
+-- a set is known by its members
+empty-one : (y : ℕ) → ((s : ℕ) → member y s ≡ false) → y ≡ 0
+empty-one =
+    bin-ind (λ (y : ℕ). ((s : ℕ) → member y s ≡ false) → y ≡ 0) (λ _. refl)
+    (λ y half h. let none : y / 2 ≡ 0 = half (λ s. sym (up y s) ∙ h (suc s)) in omega (arith, low-out y (h 0)))
+
+low-one : (x y : ℕ) → member x 0 ≡ member y 0 → x % 2 ≡ y % 2
+low-one x y h = go (member y 0) refl
+  where
+    go : (b : Bool) → member y 0 ≡ b → x % 2 ≡ y % 2
+    go true e = low-in x (h ∙ e) ∙ sym (low-in y e)
+    go false e = low-out x (h ∙ e) ∙ sym (low-out y e)
+
+members-one : (x y : ℕ) → ((s : ℕ) → member x s ≡ member y s) → x ≡ y
+members-one =
+    bin-ind (λ (x : ℕ). (y : ℕ) → ((s : ℕ) → member x s ≡ member y s) → x ≡ y)
+    (λ y h. sym (empty-one y (λ s. sym (h s) ∙ ap (λ (f : ℕ → Bool). f s) member-zero)))
+    (λ x half y h.
+    let halves : x / 2 ≡ y / 2 = half (y / 2) (λ s. sym (up x s) ∙ h (suc s) ∙ up y s) in
+    omega (arith, low-one x y (h 0)))
+
+pub member-one : (x y : ℕ) → member x ≡ member y → x ≡ y
+member-one x y e = members-one x y (λ s. ap (λ (f : ℕ → Bool). f s) e)
+
 -- a set with server s is at least 2 ^ s
 pub member-le : (s x : ℕ) → member x s ≡ true → 2 ^ s ≤ x
 member-le zero x h = omega (arith, low-in x h)

@@ -1,21 +1,24 @@
 -- A step: refused, not awaited, or the protocol's. Assumes nothing.
-use mathlib.Core.Path.{_≡_, refl, sym, ap, _∙_, subst}
-use mathlib.Core.Bool.{Bool, true, false, cond, _&&_}
+use mathlib.Core.Path.{_≡_, refl, sym, ap, ap₂, _∙_, subst}
+use mathlib.Core.Bool.{Bool, true, false, cond, _&&_, true≢false}
+use mathlib.Core.Option.{none, some, Option·some-injective}
 use mathlib.Core.List.{List}
-use Prim.Native.Nat.{ℕ, _<_}
+use Prim.Native.Nat.{ℕ, _≤_, _<_}
 use native.Mathlib.Omega.{arith}
 use borrow.Author.Tests.{eq-eqb, ne-eqb}
-use lib.Dec.{eqb}
+use lib.Dec.{eqb, leb}
 use lib.ListN.{length}
 use Rattle.config.specs.declared.Config.{Config}
+use Rattle.config.specs.Config.{boardLength}
 use Rattle.config.specs.Number.{clientNumber, serverNumber}
 use Rattle.config.specs.Questions.{firstNo, numbered, within}
-use Rattle.config.proofs.Questions.{within-high}
+use Rattle.config.proofs.Questions.{within-high, within-low}
 use Rattle.tag.specs.Tag.{allowed}
 use Rattle.record.specs.declared.Header.{Header}
 use Rattle.record.specs.Calls.{withElement}
-use Rattle.record.specs.Record.{messageOf}
-use Rattle.record.proofs.Clauses.{its-server, its-tag}
+use Rattle.record.specs.Element.{Element, elementWith}
+use Rattle.record.specs.Record.{elementIn, lengthAt, lengthFits, messageOf, presentAt}
+use Rattle.record.proofs.Clauses.{its-fit, its-server, its-tag}
 use Rattle.protocol.specs.Boards as boards
 use Rattle.protocol.specs.Boards.{BoardMessage, BoardPhase}
 use Rattle.protocol.specs.Client as protocol
@@ -26,19 +29,19 @@ use Rattle.client.specs.declared.Phase.{Phase}
 use Rattle.client.specs.declared.Phase.the-variants.{Idle, Asking, PreWriting, FinalisingWrite, FinalisingRead, Down}
 use Rattle.client.specs.declared.State.{State}
 use Rattle.client.specs.declared.questions.Sizes.{Sizes}
-use Rattle.client.specs.Calls.{StepPost, clientStep, endedOf, inPhase}
+use Rattle.client.specs.Calls.{StepPost, clientStep, endedOf}
 use Rattle.client.specs.Questions.{answerQuestions, stepQuestions}
 use Rattle.client.specs.Quorum.{OwnTag}
-use Rattle.client.specs.State.{Lent, lent, phaseOf, phaseWithin, placed, seen, stateWithin, view}
+use Rattle.client.specs.State.{Lent, Slots, lengthPlaced, lengthsWithin, lent, phaseOf, phaseWithin, placed, seen, slots, slotsOf, toWrite, view}
 use Rattle.client.specs.inner.Count.{awaitsOf, countOf, countingOf}
-use Rattle.client.specs.inner.Outcome.{RefusedPost}
+use Rattle.client.specs.inner.Outcome.{RefusedPost, countedOf}
 use Rattle.client.specs.inner.Place.{TakePre}
 use Rattle.client.specs.inner.Questions.{Received}
 use Rattle.client.specs.inner.Settle.{Moves, SettlePost, SettlePre, settleOf}
 use Rattle.client.proofs.Answers.{moved, refused}
 use Rattle.client.proofs.Asked.{call-numbered}
-use Rattle.client.proofs.Counting.{awaits-is, counting-is, counting-within}
-use Rattle.client.proofs.Phases.{phase-in, self-in}
+use Rattle.client.proofs.Counting.{awaits-is, counting-is, counting-lengths, counting-within, lengths-are}
+use Rattle.client.proofs.Phases.{all-in, lengths-in, phase-in, self-in}
 use Rattle.client.proofs.Receiving.{lengths, message-length, operation-begun, received-number, write-own}
 
 -- the lengths of the buffers lent
@@ -61,6 +64,8 @@ step-refused cfg x message l {n} {r} e stop h =
       lent = rw out;
       kept = refl;
       elements = rw out;
+      length = ap (λ (y : State). y .length) (h .state);
+      lengths = ap (λ (y : State). y .lengths) (h .state) ∙ rw out;
     }
 
 -- ---- an answer for this client
@@ -73,6 +78,12 @@ counted-as false p q e = let z : _≡_ {A = ℕ} 0 1 = cc in absurd (omega arith
 other-as : (b : Bool) (p : Phase) → cond b (Awaited.Counted p) Awaited.Other ≡ Awaited.Other → b ≡ false
 other-as true p e = let z : _≡_ {A = ℕ} 0 1 = cc in absurd (omega arith)
 other-as false p e = refl
+
+-- an element that is there, as two say it, is one
+one-element : (a b : Bool) (u w : Element) → a ≡ true → cond a (some u) none ≡ cond b (some w) none → (b ≡ true) × (u ≡ w)
+one-element true true u w h e = (refl, Option·some-injective u w e)
+one-element true false u w h e = let z : _≡_ {A = ℕ} 0 1 = cc in absurd (omega arith)
+one-element false b u w h e = absurd (true≢false (sym h))
 
 -- counting keeps the tag
 own-counted : (cfg : Config) (x : State) (h : Header) (p : Phase) → OwnTag (x .me) p → OwnTag (x .me) (countingOf p h)
@@ -100,6 +111,21 @@ module _ (cfg : Config) (x : State) (message : List ℕ) (l : Lent) (k : Receive
   unfolding withElement messageOf
   tag-ok = ap (λ (w : BoardMessage). allowed (cfg .c) (w .tag)) says ∙ its-tag cfg message (k .well-formed)
 
+  -- an element's length is at most V
+  length-ok : h .present ≡ true → leb (h .length) (boardLength cfg) ≡ true
+  unfolding withElement messageOf
+  length-ok there =
+      let same = one-element (h .present) (presentAt message) (elementWith (h .length) (elementIn cfg message)) (elementWith (lengthAt message) (elementIn cfg message)) there
+      (ap (λ (w : BoardMessage). w .element) says) in
+      ap (λ (e : Element). leb (e .length) (boardLength cfg)) (same .1)
+      ∙ subst (λ (b : Bool). lengthFits cfg b (lengthAt message) ≡ true) (same .0) (its-fit cfg message (k .well-formed))
+
+  pub server-places : (1 ≤ serverNumber (h .server)) × (serverNumber (h .server) ≤ 16)
+  server-places = (
+    within-low 1 (cfg .n) (serverNumber (h .server)) server-in,
+    omega (arith, within-high 1 (cfg .n) (serverNumber (h .server)) server-in, k .valid .n-high),
+  )
+
   pub server-small : serverNumber (h .server) < 32
   server-small = omega (arith, within-high 1 (cfg .n) (serverNumber (h .server)) server-in, k .valid .n-high)
 
@@ -108,7 +134,7 @@ module _ (cfg : Config) (x : State) (message : List ℕ) (l : Lent) (k : Receive
   unfolding protocol.awaited view withElement
   awaited-is =
       ap (boards.awaited cfg (seen cfg x l)) (sym says)
-      ∙ ap (λ (b : Bool). eqb (h .operation) (x .operation) && b) (awaits-is cfg (k .valid) h server-in tag-ok (x .phase) (phase-in cfg x (k .within)) (l .kept) (l .elements) message)
+      ∙ ap (λ (b : Bool). eqb (h .operation) (x .operation) && b) (awaits-is cfg (k .valid) h server-in tag-ok (x .phase) (phase-in cfg x (k .within)) (toWrite x (l .kept)) (slots x (l .elements)) message)
 
   number : firstNo (stepQuestions cfg x message l) ≡ cond awaited 0 14
   number = received-number cfg x message (sizesOf l) k awaited
@@ -130,9 +156,9 @@ module _ (cfg : Config) (x : State) (message : List ℕ) (l : Lent) (k : Receive
   -- ---- it is counted
 
   module _ {a : Awaited} (e : a ≡ countOf x h) {p : Phase} (c : a ≡ Awaited.Counted p) (es′ : List ℕ) (taken : es′ ≡ placed cfg (withElement cfg h message) (l .elements))
-      (same : length es′ ≡ length (l .elements)) where
+      (same : length es′ ≡ length (l .elements)) (sixteen : length (x .lengths) ≡ 16) where
     abbrev later : State
-    later = inPhase x p
+    later = countedOf x p h
 
     abbrev l₁ : Lent
     l₁ = lent (l .kept) es′ (l .sends) (l .board)
@@ -144,14 +170,17 @@ module _ (cfg : Config) (x : State) (message : List ℕ) (l : Lent) (k : Receive
     due = awaited-is ∙ got .0
 
     pub settles : SettlePre cfg later l₁
-    unfolding stateWithin
+    unfolding countedOf
     settles =
         let long = lengths cfg x message (sizesOf l) (k .lengths) in
         record {
           valid = k .valid;
           within =
-              rw (self-in cfg x (k .within))
-              (subst (λ (q : Phase). phaseWithin cfg q ≡ true) (got .1) (counting-within cfg (k .valid) h server-in tag-ok (x .phase) (phase-in cfg x (k .within))));
+              all-in cfg later (self-in cfg x (k .within))
+              (subst (λ (q : Phase). phaseWithin cfg q ≡ true) (got .1) (counting-within cfg (k .valid) h server-in tag-ok (x .phase) (phase-in cfg x (k .within))))
+              (subst (λ (q : Phase). lengthsWithin cfg q (x .length) (later .lengths) ≡ true) (got .1)
+              (counting-lengths cfg (k .valid) h server-in tag-ok (x .phase) (x .length) (x .lengths) (omega (arith, sixteen, k .valid .n-high)) length-ok
+              (phase-in cfg x (k .within)) (lengths-in cfg x (k .within))));
           operation = operation-begun cfg x message (sizesOf l) k (l .kept) (l .elements) due;
           own =
               subst (OwnTag (x .me)) (got .1)
@@ -164,25 +193,32 @@ module _ (cfg : Config) (x : State) (message : List ℕ) (l : Lent) (k : Receive
 
     -- the protocol's step is what the code goes on with
     step-is : clientStep cfg x message l ≡ settleOf cfg later l₁
-    unfolding protocol.clientStep protocol.counted view
+    unfolding protocol.clientStep protocol.counted view countedOf
     step-is =
         rw due
         (ap (λ (q : BoardPhase). protocol.settle (boards.encode cfg) (boards.decode cfg) cfg (clientNumber (x .me)) (record { operation = x .operation; phase = q }))
-        (ap (protocol.counting (boards.order cfg) (phaseOf cfg (x .phase) (l .kept) (l .elements))) (sym says)
-        ∙ counting-is cfg (k .valid) h server-in tag-ok (x .phase) (phase-in cfg x (k .within)) (l .kept) (l .elements) message (lengths cfg x message (sizesOf l) (k .lengths) .1)
+        (ap (protocol.counting (boards.order cfg) (phaseOf cfg (x .phase) (toWrite x (l .kept)) (slots x (l .elements)))) (sym says)
+        ∙ counting-is cfg (k .valid) h server-in tag-ok (x .phase) (phase-in cfg x (k .within)) (toWrite x (l .kept)) (slots x (l .elements)) message
+        (record { bytes = lengths cfg x message (sizesOf l) (k .lengths) .1; lengths = omega (arith, sixteen, k .valid .n-high) })
         (omega (arith, message-length cfg x message (sizesOf l) (k .lengths), k .valid .e-high))
-        ∙ rw (got .1, sym taken)))
+        ∙ ap₂ (λ (q : Phase) (es : Slots). phaseOf cfg q (toWrite x (l .kept)) es) (got .1)
+        (ap₂ slotsOf (sym (lengths-are cfg (k .valid) h server-in tag-ok message (x .lengths))) (sym taken))))
 
     pub stepped : {sends′ board′ : List ℕ} {r : Moved} → SettlePost cfg later l₁ sends′ board′ r
         → StepPost cfg x message l (lent (l .kept) es′ sends′ board′) r
+    unfolding countedOf
     stepped {sends′} {board′} {r} s =
-        let s′ : Moves cfg (x .me) (clientStep cfg x message l) (l .kept) es′ (l .sends) sends′ (l .board) board′ r = rw step-is s in
+        let s′ : Moves cfg later (clientStep cfg x message l) (l .kept) es′ (l .sends) sends′ (l .board) board′ r = rw step-is s in
         let none : firstNo (stepQuestions cfg x message l) ≡ 0 = number ∙ rw due in
         let is : eqb (firstNo (stepQuestions cfg x message l)) 0 ≡ true = eq-eqb (firstNo (stepQuestions cfg x message l)) 0 none in
         record {
-          answered = moved cfg x (seen cfg x l) _ (clientStep cfg x message l) (l .sends) (stepQuestions cfg x message l) none (l .kept) es′ s′ refl;
+          answered = moved cfg x (seen cfg x l) _ (clientStep cfg x message l) (l .sends) (stepQuestions cfg x message l) none (l .kept) es′ refl s′ refl;
           ended = s′ .ended ∙ rw is;
           lent = s′ .lent ∙ rw is;
           kept = refl;
           elements = taken ∙ rw (is, says);
+          length = s′ .same-length;
+          lengths =
+              s′ .same-lengths ∙ lengths-are cfg (k .valid) h server-in tag-ok message (x .lengths)
+              ∙ ap (λ (w : BoardMessage). lengthPlaced w (x .lengths)) says ∙ rw is;
         }

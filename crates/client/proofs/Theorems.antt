@@ -1,16 +1,17 @@
 -- What a client's calls show besides: a fresh client passes question 6, and every call keeps that; a record handed over again is not
 -- counted again; none is taken in an operation that was not begun; a client that has q answers asks no more; an operation ends only on
--- answers of at least q distinct servers in its last phase, and a read on k elements; no answer depends on bytes that are not in use.
+-- answers of at least q distinct servers in its last phase, and a read on k elements; no answer depends on lengths and bytes that are not
+-- in use, nor on what stands past the length in the board kept.
 -- Assumes nothing.
 use mathlib.Core.Path.{_≡_, refl, sym, ap, ap₂, _∙_, subst}
 use mathlib.Core.Bool.{Bool, true, false, cond, _&&_}
-use mathlib.Core.List.{List, [], _∷_}
+use mathlib.Core.List.{List, [], _∷_, _++_}
 use mathlib.Core.Option.{Option, none, some}
-use Prim.Native.Nat.{ℕ, _≤_}
+use Prim.Native.Nat.{ℕ, _+_, _-_, _*_, _≤_}
 use native.Mathlib.Omega.{arith}
 use borrow.Author.Tests.{eq-eqb}
 use lib.Dec.{eqb, ltb}
-use lib.ListN.{length}
+use lib.ListN.{length, take, drop, length-append, length-drop, length-take}
 use Rattle.config.specs.declared.Client.{Client}
 use Rattle.config.specs.declared.Config.{Config}
 use Rattle.config.specs.Config.{questions, quorumOf}
@@ -19,13 +20,15 @@ use Rattle.config.specs.Questions.{ask, firstNo, within}
 use Rattle.config.proofs.Questions.{last-all, questions-numbered}
 use Rattle.tag.specs.declared.Tag.{Tag}
 use Rattle.record.specs.Kinds.{isForClient}
-use Rattle.record.specs.Record.{elementIn, highestNumber, isPresent, messageOf, presentAt, serverAt, tagAt}
+use Rattle.record.specs.Record.{elementIn, highestNumber, lengthAt, messageOf, presentAt, serverAt, tagAt, wellFormed}
 use Rattle.protocol.specs.Boards as boards
-use Rattle.protocol.specs.Boards.{BoardClient, BoardEnded, BoardMessage, BoardMoved, BoardPhase, Element}
+use Rattle.record.specs.Element.{Element, elementWith}
+use Rattle.protocol.specs.Boards.{Board, BoardClient, BoardEnded, BoardMessage, BoardMoved, cut}
 use Rattle.protocol.specs.Client as protocol
 use Rattle.protocol.specs.Number.{count, present, upd}
 use Rattle.protocol.specs.Tags.{higher}
 use Rattle.protocol.proofs.Basics.{cond-elim}
+use Rattle.protocol.proofs.Cut.{length-cut}
 use Rattle.client.specs.declared.Ended.{Ended}
 use Rattle.client.specs.declared.Ended.the-variants.{Written, Spent, Read}
 use Rattle.client.specs.declared.Moved.{Moved}
@@ -33,24 +36,25 @@ use Rattle.client.specs.declared.Phase.{Phase}
 use Rattle.client.specs.declared.Phase.the-variants.{Idle, Asking, PreWriting, FinalisingWrite, FinalisingRead, Down}
 use Rattle.client.specs.declared.State.{State}
 use Rattle.client.specs.Calls.{BeginPost, CrashPost, StepPost, clientStep, endedOf, freshState, inPhase, shown, stepOf, unlessNo}
-use Rattle.client.specs.Questions.{answerQuestions, callQuestions, crashQuestions, stepQuestions, stepSized}
-use Rattle.client.specs.Quorum.{AlikeSteps, Elements, OwnTag, Quorum, phaseNumber}
+use Rattle.client.specs.Questions.{callQuestions, crashQuestions, stepQuestions, stepSized}
+use Rattle.client.specs.Quorum.{AlikeStates, AlikeSteps, Elements, OwnTag, Quorum, phaseNumber}
 use Rattle.client.specs.Send.{front, recordsOf}
 use Rattle.client.specs.Servers.{member}
-use Rattle.client.specs.State.{Lent, bare, phaseOf, phaseWithin, received, seen, stateWithin, view}
+use Rattle.client.specs.State.{Lent, Slots, bare, lengthsWithin, phaseOf, phaseWithin, placed, placedAt, received, seen, slotAt, slots, stateWithin, toWrite, view}
 use Rattle.client.specs.inner.Questions.{Received}
-use Rattle.client.proofs.Gathering.{present-count, received-present}
+use Rattle.client.proofs.Gathering.{has, present-count, sent-has}
 use Rattle.client.proofs.Once.{again}
 use Rattle.client.proofs.Phases.{self-in}
 use Rattle.client.proofs.Quorum.{Fits, step-fits, step-on}
 use Rattle.client.proofs.Receiving.{all-yes, operation-begun, received-number, write-own}
+use Rattle.client.proofs.Seen.{asks-is, reads-is, within-alike, writes-is, writes-one}
 use Rattle.client.proofs.Stepping.{sizesOf}
 
 -- ---- question 6
 
 -- a fresh client passes question 6, and is the protocol's
 pub fresh-within : (cfg : Config) (me : Client) → firstNo (clientQuestions cfg (clientNumber me)) ≡ 0 → stateWithin cfg (freshState me) ≡ true
-unfolding clientQuestions stateWithin phaseWithin
+unfolding clientQuestions stateWithin phaseWithin lengthsWithin
 fresh-within cfg me h =
     rw (last-all (questions cfg) 8 (within 1 (cfg .c) (clientNumber me)) (questions-numbered cfg) (omega arith) h .1)
 
@@ -59,7 +63,7 @@ unfolding view phaseOf protocol.freshClient
 fresh-view cfg me kept es = refl
 
 -- every call keeps that
-pub begin-keeps : {cfg : Config} {refusal : ℕ} {x : State} {board : Option (List ℕ)} {kept kept′ es sends sends′ : List ℕ} {r : Moved}
+pub begin-keeps : {cfg : Config} {refusal : ℕ} {x : State} {board : Option Board} {kept kept′ es sends sends′ : List ℕ} {r : Moved}
     → BeginPost cfg refusal x board kept kept′ es sends sends′ r → stateWithin cfg x ≡ true → stateWithin cfg (r .state) ≡ true
 begin-keeps post = post .answered .within
 
@@ -68,7 +72,7 @@ pub step-keeps : {cfg : Config} {x : State} {message : List ℕ} {l l′ : Lent}
 step-keeps post = post .answered .within
 
 pub crash-keeps : {cfg : Config} {x : State} {r : Moved} → CrashPost cfg x r → stateWithin cfg x ≡ true → stateWithin cfg (r .state) ≡ true
-unfolding stateWithin phaseWithin
+unfolding stateWithin phaseWithin lengthsWithin
 crash-keeps {cfg} {x} post w =
     subst (λ (y : State). stateWithin cfg y ≡ true) (sym (post .state))
     (cond-elim (λ (y : State). stateWithin cfg y ≡ true) (eqb (firstNo (crashQuestions cfg x)) 0) (inPhase x Down) x (λ e. rw (self-in cfg x w)) (λ e. w))
@@ -81,24 +85,24 @@ crash-view cfg x kept es = refl
 
 -- ---- questions 9, 10 and 11 ask nothing of a client's buffers
 
-bare-phase : (cfg : Config) (kept es : List ℕ) (p : Phase) → (protocol.isUp (phaseOf cfg p kept es) ≡ protocol.isUp (phaseOf cfg p [] []))
-    × (protocol.isIdle (phaseOf cfg p kept es) ≡ protocol.isIdle (phaseOf cfg p [] []))
+bare-phase : (cfg : Config) (a b : Board) (es fs : Slots) (p : Phase) → (protocol.isUp (phaseOf cfg p a es) ≡ protocol.isUp (phaseOf cfg p b fs))
+    × (protocol.isIdle (phaseOf cfg p a es) ≡ protocol.isIdle (phaseOf cfg p b fs))
 unfolding protocol.isUp protocol.isIdle phaseOf
-bare-phase cfg kept es Idle = (refl, refl)
-bare-phase cfg kept es (Asking writes best counted) = (refl, refl)
-bare-phase cfg kept es (PreWriting tag counted) = (refl, refl)
-bare-phase cfg kept es (FinalisingWrite tag counted) = (refl, refl)
-bare-phase cfg kept es (FinalisingRead tag counted sent) = (refl, refl)
-bare-phase cfg kept es Down = (refl, refl)
+bare-phase cfg a b es fs Idle = (refl, refl)
+bare-phase cfg a b es fs (Asking writes best counted) = (refl, refl)
+bare-phase cfg a b es fs (PreWriting tag counted) = (refl, refl)
+bare-phase cfg a b es fs (FinalisingWrite tag counted) = (refl, refl)
+bare-phase cfg a b es fs (FinalisingRead tag counted sent) = (refl, refl)
+bare-phase cfg a b es fs Down = (refl, refl)
 
 pub bare-up : (cfg : Config) (x : State) (kept es : List ℕ) → protocol.isUp (view cfg x kept es .phase) ≡ protocol.isUp (bare cfg x .phase)
 unfolding view
-bare-up cfg x kept es = bare-phase cfg kept es (x .phase) .0
+bare-up cfg x kept es = bare-phase cfg (toWrite x kept) (toWrite x []) (slots x es) (slots x []) (x .phase) .0
 
 pub bare-begin : (cfg : Config) (x : State) (kept es : List ℕ) → protocol.beginQuestions (view cfg x kept es) ≡ protocol.beginQuestions (bare cfg x)
 unfolding protocol.beginQuestions view
 bare-begin cfg x kept es =
-    let p = bare-phase cfg kept es (x .phase) in
+    let p = bare-phase cfg (toWrite x kept) (toWrite x []) (slots x es) (slots x []) (x .phase) in
     ap₂ (λ (a b : Bool). ask 9 a ∷ ask 10 b ∷ ask 11 (ltb (x .operation) protocol.highestNumber) ∷ []) (p .0) (p .1)
 
 -- ---- a record that was taken
@@ -150,61 +154,23 @@ module _ (cfg : Config) (x : State) (message : List ℕ) (l l′ : Lent) (r : Mo
       → phaseNumber (seen cfg (r .state) l′ .phase) ≡ 1 → ⊥
   unfolding view phaseOf messageOf
   goes-on writes best counted e q =
-      let b = cond writes (some (l .kept)) none in
+      let b = cond writes (some (toWrite x (l .kept))) none in
       let is : seen cfg x l ≡ record { operation = x .operation; phase = protocol.asking b best (member counted) } =
-      ap (λ (p : Phase). record { operation = x .operation; phase = phaseOf cfg p (l .kept) (l .elements) }) e in
+      ap (λ (p : Phase). record { operation = x .operation; phase = phaseOf cfg p (toWrite x (l .kept)) (slots x (l .elements)) }) e in
       subst (λ (y : BoardClient). phaseNumber (y .phase) ≡ 1 → ⊥) (sym (moved ∙ ap (λ (y : BoardClient). boards.clientStep cfg (clientNumber (x .me)) y m .client) is))
       (step-on (boards.order cfg) (boards.encode cfg) (boards.decode cfg) cfg (clientNumber (x .me)) m (x .operation) b best (member counted)
       (subst (λ (y : BoardClient). boards.awaited cfg y m ≡ true) is (asked .1)) q)
 
 -- ---- an operation's end
 
--- the phase of the code that the protocol sees
-module _ (cfg : Config) (kept es : List ℕ) where
-  -- no other phase is seen so
-  other : {p q : BoardPhase} → p ≡ q → (phaseNumber p ≡ phaseNumber q → ⊥) → ⊥
-  other e n = n (ap phaseNumber e)
-
-  writes-is : (p : Phase) (t : Tag) (cs : ℕ → Bool) → phaseOf cfg p kept es ≡ protocol.finalisingWrite t cs
-      → (counted : ℕ) × (p ≡ FinalisingWrite t counted) × (member counted ≡ cs)
-  unfolding phaseOf
-  writes-is Idle t cs e = absurd (other e (λ z. omega arith))
-  writes-is (Asking writes best counted) t cs e = absurd (other e (λ z. omega arith))
-  writes-is (PreWriting tag counted) t cs e = absurd (other e (λ z. omega arith))
-  writes-is (FinalisingWrite tag counted) t cs e = let same : tag ≡ t = cc in (counted, ap (λ (u : Tag). FinalisingWrite u counted) same, (cc))
-  writes-is (FinalisingRead tag counted sent) t cs e = absurd (other e (λ z. omega arith))
-  writes-is Down t cs e = absurd (other e (λ z. omega arith))
-
-  asks-is : (p : Phase) (v : List ℕ) (t : Tag) (cs : ℕ → Bool) → phaseOf cfg p kept es ≡ protocol.asking (some v) t cs
-      → (counted : ℕ) × (p ≡ Asking true t counted) × (member counted ≡ cs)
-  unfolding phaseOf
-  asks-is Idle v t cs e = absurd (other e (λ z. omega arith))
-  asks-is (Asking true best counted) v t cs e = let same : best ≡ t = cc in (counted, ap (λ (u : Tag). Asking true u counted) same, (cc))
-  asks-is (Asking false best counted) v t cs e = let z : _≡_ {A = ℕ} 0 1 = cc in absurd (omega arith)
-  asks-is (PreWriting tag counted) v t cs e = absurd (other e (λ z. omega arith))
-  asks-is (FinalisingWrite tag counted) v t cs e = absurd (other e (λ z. omega arith))
-  asks-is (FinalisingRead tag counted sent) v t cs e = absurd (other e (λ z. omega arith))
-  asks-is Down v t cs e = absurd (other e (λ z. omega arith))
-
-  reads-is : (p : Phase) (t : Tag) (cs : ℕ → Bool) (got : ℕ → Option Element) → phaseOf cfg p kept es ≡ protocol.finalisingRead t cs got
-      → (counted sent : ℕ) × (p ≡ FinalisingRead t counted sent) × (member counted ≡ cs) × (received cfg es sent ≡ got)
-  unfolding phaseOf
-  reads-is Idle t cs got e = absurd (other e (λ z. omega arith))
-  reads-is (Asking writes best counted) t cs got e = absurd (other e (λ z. omega arith))
-  reads-is (PreWriting tag counted) t cs got e = absurd (other e (λ z. omega arith))
-  reads-is (FinalisingWrite tag counted) t cs got e = absurd (other e (λ z. omega arith))
-  reads-is (FinalisingRead tag counted sent) t cs got e =
-      let same : tag ≡ t = cc in (counted, sent, ap (λ (u : Tag). FinalisingRead u counted sent) same, (cc), (cc))
-  reads-is Down t cs got e = absurd (other e (λ z. omega arith))
-
 module _ (cfg : Config) (x : State) (message : List ℕ) (l l′ : Lent) (r : Moved) (post : StepPost cfg x message l l′ r) where
   abbrev msg : BoardMessage
   msg = messageOf cfg message
 
   abbrev Ends : BoardEnded → Type 0
-  Ends = Fits (boards.order cfg) (boards.encode cfg) (boards.decode cfg) cfg (clientNumber (x .me)) msg (phaseOf cfg (x .phase) (l .kept) (l .elements))
+  Ends = Fits (boards.order cfg) (boards.encode cfg) (boards.decode cfg) cfg (clientNumber (x .me)) msg (phaseOf cfg (x .phase) (toWrite x (l .kept)) (slots x (l .elements)))
 
-  fits : (how : Ended) → r .ended ≡ how → Ends (endedOf how (l′ .board))
+  pub fits : (how : Ended) → r .ended ≡ how → Ends (endedOf how (l′ .board))
   unfolding protocol.stays view
   fits how e =
       subst Ends (sym (post .ended) ∙ ap (λ (h : Ended). endedOf h (l′ .board)) e)
@@ -215,27 +181,27 @@ module _ (cfg : Config) (x : State) (message : List ℕ) (l l′ : Lent) (r : Mo
   unfolding messageOf
   quorum-is counted cs e q = subst (λ (f : ℕ → Bool). quorumOf cfg ≤ count (upd f (serverAt message) true) (cfg .n)) (sym e) q
 
-  elements-are : (sent : ℕ) (got : ℕ → Option Element) → received cfg (l .elements) sent ≡ got
+  elements-are : (sent : ℕ) (got : ℕ → Option Element) → received cfg (slots x (l .elements)) sent ≡ got
       → cfg .k ≤ length (present (cfg .n) (upd got (msg .server) (msg .element))) → Elements cfg message sent
-  unfolding upd messageOf
+  unfolding upd messageOf received
   elements-are sent got i many = omega (arith, present-count (upd got (serverAt message) (msg .element)) (upd (member sent) (serverAt message) (presentAt message)) here (cfg .n))
     where
-      its : (b : Bool) → isPresent (cond b (some (elementIn cfg message)) none) ≡ b
+      its : (b : Bool) → has (cond b (some (elementWith (lengthAt message) (elementIn cfg message))) none) ≡ b
       its true = refl
       its false = refl
 
-      here : (t : ℕ) → isPresent (upd got (serverAt message) (msg .element) t) ≡ upd (member sent) (serverAt message) (presentAt message) t
+      here : (t : ℕ) → has (upd got (serverAt message) (msg .element) t) ≡ upd (member sent) (serverAt message) (presentAt message) t
       here t = go (eqb t (serverAt message))
         where
-          go : (b : Bool) → isPresent (cond b (msg .element) (got t)) ≡ cond b (presentAt message) (member sent t)
+          go : (b : Bool) → has (cond b (msg .element) (got t)) ≡ cond b (presentAt message) (member sent t)
           go true = its (presentAt message)
-          go false = rw (sym i) (received-present cfg (l .elements) sent t)
+          go false = rw (sym i) (sent-has (slotAt cfg (slots x (l .elements))) sent t)
 
   -- a write ends only so
   pub written-on-quorum : (t : Tag) → r .ended ≡ Written t → (counted : ℕ) × (x .phase ≡ FinalisingWrite t counted) × Quorum cfg message counted
   written-on-quorum t e =
       let w = fits (Written t) e in
-      let p = writes-is cfg (l .kept) (l .elements) (x .phase) t (w .0) (w .1) in
+      let p = writes-is cfg (toWrite x (l .kept)) (slots x (l .elements)) (x .phase) t (w .0) (w .1) in
       (p .0, p .1, quorum-is (p .0) (w .0) (p .2) (w .2))
 
   -- it ends spent only so while asking, with the highest tag's number the last
@@ -245,38 +211,103 @@ module _ (cfg : Config) (x : State) (message : List ℕ) (l l′ : Lent) (r : Mo
   unfolding messageOf
   spent-on-quorum e =
       let w = fits Spent e in
-      let p = asks-is cfg (l .kept) (l .elements) (x .phase) (w .0) (w .1) (w .2) (w .3) in
-      (w .1, p .0, p .1, quorum-is (p .0) (w .2) (p .2) (w .4), w .5)
+      let p = asks-is cfg (toWrite x (l .kept)) (slots x (l .elements)) (x .phase) (some (w .0)) (w .1) (w .2) (w .3) in
+      let writes : p .0 ≡ true = writes-one (toWrite x (l .kept)) (w .0) (p .0) true (p .4) in
+      (w .1, p .1, p .2 ∙ ap (λ (b : Bool). Asking b (w .1) (p .1)) writes, quorum-is (p .1) (w .2) (p .3) (w .4), w .5)
 
   -- and a read as a write, with at least k elements
-  pub read-on-quorum : (t : Tag) → r .ended ≡ Read t
+  pub read-on-quorum : (t : Tag) (n : ℕ) → r .ended ≡ Read t n
       → (counted sent : ℕ) × (x .phase ≡ FinalisingRead t counted sent) × Quorum cfg message counted × Elements cfg message sent
-  read-on-quorum t e =
-      let w = fits (Read t) e in
-      let p = reads-is cfg (l .kept) (l .elements) (x .phase) t (w .0) (w .1) (w .2) in
+  read-on-quorum t n e =
+      let w = fits (Read t n) e in
+      let p = reads-is cfg (toWrite x (l .kept)) (slots x (l .elements)) (x .phase) t (w .0) (w .1) (w .2) in
       (p .0, p .1, p .2, quorum-is (p .0) (w .0) (p .3) (w .3), elements-are (p .1) (w .1) (p .4) (w .4))
 
--- ---- bytes that are not in use
+-- ---- lengths and bytes that are not in use
 
--- "no answer's bytes depend on" places not in use: of one state, with boards kept and elements received that differ only there
-module _ (cfg : Config) (x : State) (message : List ℕ) (la la′ lb lb′ : Lent) (a b : Moved) (same : seen cfg x la ≡ seen cfg x lb)
-    (kept-long : length (la .kept) ≡ length (lb .kept)) (es-long : length (la .elements) ≡ length (lb .elements)) (sends-one : la .sends ≡ lb .sends)
-    (board-one : la .board ≡ lb .board) (post-a : StepPost cfg x message la la′ a) (post-b : StepPost cfg x message lb lb′ b) where
-  first-one : firstNo (stepQuestions cfg x message la) ≡ firstNo (stepQuestions cfg x message lb)
-  first-one = λ i. firstNo (callQuestions cfg (stepSized cfg (length message) (kept-long i) (es-long i) (length (sends-one i)) (length (board-one i))) x
-      (answerQuestions cfg x message (boards.awaited cfg (same i) (messageOf cfg message))))
+-- the bytes of an element are put into buffers of one length alike
+placed-long : (cfg : Config) (s : ℕ) (e : Option Element) (es fs : List ℕ) → length es ≡ length fs → length (placedAt cfg s e es) ≡ length (placedAt cfg s e fs)
+unfolding placedAt
+placed-long cfg s none es fs h = h
+placed-long cfg s (some e) es fs h =
+    let at = (s - 1) * cfg .e in
+    length-append (take at es) (e .bytes ++ drop (at + cfg .e) es)
+    ∙ omega (
+      arith,
+      h,
+      length-append (e .bytes) (drop (at + cfg .e) es),
+      length-append (e .bytes) (drop (at + cfg .e) fs),
+      length-take at es,
+      length-take at fs,
+      length-drop (at + cfg .e) es,
+      length-drop (at + cfg .e) fs,
+    )
+    ∙ sym (length-append (take at fs) (e .bytes ++ drop (at + cfg .e) fs))
 
-  move-one : stepOf cfg x message la ≡ stepOf cfg x message lb
-  move-one = λ i. unlessNo (first-one i) (same i) (boards.clientStep cfg (clientNumber (x .me)) (same i) (messageOf cfg message))
+-- "no answer's bytes depend on" what is not in use: of two states of one client that differ only there, with boards kept and elements
+-- received that differ only there
+module _ (cfg : Config) (x y : State) (message : List ℕ) (la la′ lb lb′ : Lent) (a b : Moved) (alike : AlikeStates cfg x y la lb) (sends-one : la .sends ≡ lb .sends)
+    (board-one : la .board ≡ lb .board) (post-a : StepPost cfg x message la la′ a) (post-b : StepPost cfg y message lb lb′ b) where
+  within-one : stateWithin cfg x ≡ stateWithin cfg y
+  within-one = within-alike cfg x y (la .kept) (lb .kept) (la .elements) (lb .elements) (alike .me) (alike .client)
+
+  first-one : firstNo (stepQuestions cfg x message la) ≡ firstNo (stepQuestions cfg y message lb)
+  unfolding callQuestions
+  first-one = λ i. firstNo (questions cfg ++ ask 6 (stepSized cfg (length message) (alike .kept-long i) (alike .elements-long i) (length (sends-one i)) (length (board-one i)) && within-one i)
+      ∷ ask 12 (wellFormed cfg message) ∷ ask 16 (eqb (messageOf cfg message .client) (clientNumber (alike .me i)) && isForClient (messageOf cfg message .kind))
+      ∷ ask 14 (boards.awaited cfg (alike .client i) (messageOf cfg message)) ∷ [])
+
+  move-one : stepOf cfg x message la ≡ stepOf cfg y message lb
+  move-one = λ i. unlessNo (first-one i) (alike .client i) (boards.clientStep cfg (clientNumber (alike .me i)) (alike .client i) (messageOf cfg message))
+
+  elements-one : length (la′ .elements) ≡ length (lb′ .elements)
+  elements-one =
+      let m = messageOf cfg message in
+      ap length (post-a .elements)
+      ∙ cond-elim (λ (l : List ℕ). length l ≡ length (lb′ .elements)) (eqb (firstNo (stepQuestions cfg x message la)) 0) (placed cfg m (la .elements)) (la .elements)
+      (λ e. placed-long cfg (m .server) (m .element) (la .elements) (lb .elements) (alike .elements-long)
+      ∙ sym (ap length (post-b .elements) ∙ rw (sym first-one, e)))
+      (λ e. alike .elements-long ∙ sym (ap length (post-b .elements) ∙ rw (sym first-one, e)))
 
   pub step-alike : AlikeSteps cfg a b la′ lb′
   step-alike =
       record {
         number = post-a .answered .number ∙ first-one ∙ sym (post-b .answered .number);
-        sent = post-a .answered .count ∙ ap (λ (y : BoardMoved). length (y .sends)) move-one ∙ sym (post-b .answered .count);
+        sent = post-a .answered .count ∙ ap (λ (z : BoardMoved). length (z .sends)) move-one ∙ sym (post-b .answered .count);
         out =
-            post-a .answered .out ∙ ap₂ (λ (y : BoardMoved) (s : List ℕ). front (recordsOf cfg (y .sends)) s) move-one sends-one ∙ sym (post-b .answered .out);
-        ended = post-a .ended ∙ ap (λ (y : BoardMoved). y .ended) move-one ∙ sym (post-b .ended);
-        lent = post-a .lent ∙ ap₂ (λ (y : BoardMoved) (l : List ℕ). shown (y .ended) l) move-one board-one ∙ sym (post-b .lent);
-        client = post-a .answered .client ∙ ap (λ (y : BoardMoved). y .client) move-one ∙ sym (post-b .answered .client);
+            post-a .answered .out ∙ ap₂ (λ (z : BoardMoved) (s : List ℕ). front (recordsOf cfg (z .sends)) s) move-one sends-one ∙ sym (post-b .answered .out);
+        ended = post-a .ended ∙ ap (λ (z : BoardMoved). z .ended) move-one ∙ sym (post-b .ended);
+        lent = post-a .lent ∙ ap₂ (λ (z : BoardMoved) (l : List ℕ). shown (z .ended) l) move-one board-one ∙ sym (post-b .lent);
+        states =
+            record {
+              me = post-a .answered .self ∙ alike .me ∙ sym (post-b .answered .self);
+              kept-long = ap length (post-a .kept) ∙ alike .kept-long ∙ sym (ap length (post-b .kept));
+              elements-long = elements-one;
+              client = post-a .answered .client ∙ ap (λ (z : BoardMoved). z .client) move-one ∙ sym (post-b .answered .client);
+            };
       }
+
+-- Pre-writes are of the board kept with zeros past its length, whatever bytes stand there: boards kept that agree when they are cut there
+-- are seen alike.
+pub cut-alike : (cfg : Config) (x : State) (la lb : Lent) → cut (x .length) (la .kept) ≡ cut (x .length) (lb .kept) → la .elements ≡ lb .elements
+    → AlikeStates cfg x x la lb
+unfolding view
+cut-alike cfg x la lb one es =
+    record {
+      me = refl;
+      kept-long = sym (length-cut (x .length) (la .kept)) ∙ ap length one ∙ length-cut (x .length) (lb .kept);
+      elements-long = ap length es;
+      client =
+          λ i.
+          record {
+            operation = x .operation;
+            phase = phaseOf cfg (x .phase) (record { length = x .length; bytes = one i }) (slots x (es i));
+          };
+    }
+
+-- a step with either sends the same, and leaves the same but for those bytes
+pub step-cut : (cfg : Config) (x : State) (message : List ℕ) (la la′ lb lb′ : Lent) (a b : Moved) → cut (x .length) (la .kept) ≡ cut (x .length) (lb .kept)
+    → la .elements ≡ lb .elements → la .sends ≡ lb .sends → la .board ≡ lb .board → StepPost cfg x message la la′ a → StepPost cfg x message lb lb′ b
+    → AlikeSteps cfg a b la′ lb′
+step-cut cfg x message la la′ lb lb′ a b one es sends board post-a post-b =
+    step-alike cfg x x message la la′ lb lb′ a b (cut-alike cfg x la lb one es) sends board post-a post-b

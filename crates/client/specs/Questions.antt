@@ -1,4 +1,4 @@
--- What a client's calls ask, in document 01's order.
+-- What a client's calls ask, in the documents' order.
 use Prim.Native.Nat.{ℕ}
 use mathlib.Core.Bool.{Bool, true, _&&_}
 use mathlib.Core.List.{List, [], _∷_, _++_}
@@ -10,7 +10,7 @@ use Rattle.config.specs.Questions.{Question, ask}
 use Rattle.config.specs.Number.{clientNumber}
 use Rattle.record.specs.Kinds.{isForClient}
 use Rattle.record.specs.Record.{messageOf, wellFormed}
-use Rattle.protocol.specs.Boards.{BoardMessage, awaited}
+use Rattle.protocol.specs.Boards.{BoardMessage, awaited, boardOf, fitsIn}
 use Rattle.protocol.specs.Client.{beginQuestions, isUp}
 use Rattle.client.specs.declared.State.{State}
 use Rattle.client.specs.State.{Lent, bare, seen, stateWithin}
@@ -41,9 +41,11 @@ askBeginQuestions cfg x = callQuestions cfg true x (beginQuestions (bare cfg x))
 abbrev pub writeSized : Config → ℕ → ℕ → ℕ → Bool
 writeSized cfg board kept sends = isBoard cfg board && (isBoard cfg kept && isSends cfg sends)
 
-abbrev pub beginWriteQuestions : Config → State → List ℕ → List ℕ → List ℕ → List Question
-beginWriteQuestions cfg x board kept sends =
-    callQuestions cfg (writeSized cfg (length board) (length kept) (length sends)) x (beginQuestions (bare cfg x))
+-- begin write: "19, is the write's length at most V, placed after 6"
+abbrev pub beginWriteQuestions : Config → State → ℕ → List ℕ → List ℕ → List ℕ → List Question
+beginWriteQuestions cfg x n board kept sends =
+    callQuestions cfg (writeSized cfg (length board) (length kept) (length sends)) x
+    (ask 19 (fitsIn cfg (boardOf n board)) ∷ beginQuestions (bare cfg x))
 
 -- begin read lends the sends alone
 abbrev pub beginReadQuestions : Config → State → List ℕ → List Question

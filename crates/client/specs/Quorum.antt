@@ -1,10 +1,11 @@
--- What the theorems on a client's operation speak of: the servers counted, quorums and elements, the tag of a write, and two steps that
--- answer alike.
+-- What the theorems on a client's operation speak of: the servers counted, quorums and elements, the tag of a write, and two states of
+-- which steps answer alike.
 use Prim.Native.Nat.{ℕ, _≤_}
 use mathlib.Core.Bool.{Bool, true, cond}
 use mathlib.Core.Path.{_≡_}
 use mathlib.Core.List.{List}
 use lib.Dec.{eqb}
+use lib.ListN.{length}
 use Rattle.config.specs.declared.Client.{Client}
 use Rattle.config.specs.declared.Config.{Config}
 use Rattle.config.specs.Config.{quorumOf}
@@ -16,6 +17,7 @@ use Rattle.protocol.specs.Number.{count, nobody, upd}
 use Rattle.client.specs.declared.Moved.{Moved}
 use Rattle.client.specs.declared.Phase.{Phase}
 use Rattle.client.specs.declared.Phase.the-variants.{Idle, Asking, PreWriting, FinalisingWrite, FinalisingRead, Down}
+use Rattle.client.specs.declared.State.{State}
 use Rattle.client.specs.Calls.{endedOf}
 use Rattle.client.specs.Servers.{member}
 use Rattle.client.specs.State.{Lent, seen}
@@ -60,11 +62,18 @@ OwnTag me (FinalisingWrite tag counted) = tag .client ≡ clientNumber me
 OwnTag me (FinalisingRead tag counted sent) = Unit {0}
 OwnTag me Down = Unit {0}
 
--- two steps that answer alike: the number, what is sent, how the operation ended with the lent board, and the client
+-- two states of one client, with buffers of one length, that are seen alike: they differ only in lengths and bytes that are not in use
+pub record AlikeStates (cfg : Config) (x y : State) (la lb : Lent) : Type 0 where
+  pub me : x .me ≡ y .me
+  pub kept-long : length (la .kept) ≡ length (lb .kept)
+  pub elements-long : length (la .elements) ≡ length (lb .elements)
+  pub client : seen cfg x la ≡ seen cfg y lb
+
+-- two steps that answer alike: the number, what is sent, how the operation ended with the lent board, and two such states
 pub record AlikeSteps (cfg : Config) (a b : Moved) (la lb : Lent) : Type 0 where
   pub number : verdictNumber (a .verdict) ≡ verdictNumber (b .verdict)
   pub sent : a .sent ≡ b .sent
   pub out : la .sends ≡ lb .sends
   pub ended : endedOf (a .ended) (la .board) ≡ endedOf (b .ended) (lb .board)
   pub lent : la .board ≡ lb .board
-  pub client : seen cfg (a .state) la ≡ seen cfg (b .state) lb
+  pub states : AlikeStates cfg (a .state) (b .state) la lb

@@ -3,11 +3,11 @@
 use config::Client;
 use config::Config;
 use config::NewClient;
-use config::Refusal;
 use config::Verdict;
 use count::Awaited;
 use outcome::accepted;
 use outcome::begun;
+use outcome::counted;
 use outcome::in_phase;
 use outcome::refused;
 use questions::Asked;
@@ -19,6 +19,7 @@ ghost use mathlib.Core.Option.{none, some};
 ghost use Prim.Native.Nat.{ℕ};
 ghost use Rattle.config.specs.Questions.{firstNo};
 ghost use Rattle.client.specs.Calls.{BeginPost, CrashPost, FreshPost, StepPost};
+ghost use Rattle.protocol.specs.Boards.{boardOf};
 ghost use Rattle.client.specs.State.{lent};
 ghost use Rattle.client.specs.Questions.{askBeginQuestions, beginReadQuestions, beginWriteQuestions, stateQuestions};
 
@@ -35,6 +36,7 @@ mod send;
 mod servers;
 mod settle;
 mod show;
+mod zeros;
 
 // Where a client stands in its operation. A set of servers is the bits of a number: bit s is server s.
 pub enum Phase {
@@ -62,19 +64,23 @@ pub enum Phase {
     Down,
 }
 
-// A client: its own number, its operation number and its phase.
+// A client: its own number, its operation number, its phase, the length of the board that it keeps to write, in use while it asks to write,
+// and the lengths sent with the elements that it has received, that of server s at s - 1, in use while it finalises a read, of the servers
+// that sent one.
 pub struct State {
     pub me: Client,
     pub operation: u32,
     pub phase: Phase,
+    pub length: u16,
+    pub lengths: [u16; 16],
 }
 
-// How an operation ends, if a call ends it. What a read shows is in the lent board.
+// How an operation ends, if a call ends it. What a read shows is in the lent board: so many bytes, zeros after.
 pub enum Ended {
     Nothing,
     Written(Tag),
     Spent,
-    Read(Tag),
+    Read { tag: Tag, length: u16 },
 }
 
 // What a call leaves: its verdict, the client, how many records stand at the front of the sends, and how the operation ended.
@@ -85,10 +91,10 @@ pub struct Moved {
     pub ended: Ended,
 }
 
-// A client, fresh, or why there is none.
-pub enum NewState {
-    Made(State),
-    No(Refusal),
+// A fresh client, and the verdict of its making. Where that is a refusal, the client is of no use.
+pub struct NewState {
+    pub verdict: Verdict,
+    pub state: State,
 }
 
 // Questions 1 to 5, and 6 of a state: the number of the first that is answered no, or 0.
@@ -120,35 +126,43 @@ pub fn ask_begin(cfg: Config, state: State) -> u8
 pub fn fresh(cfg: Config, me: Client) -> NewState
     ensures { λ r. ⌜ FreshPost cfg me r ⌝ }
 {
+    let state = State {
+        me,
+        operation: 0,
+        phase: Phase::Idle,
+        length: 0,
+        lengths: [0; 16],
+    };
     match Client::new(cfg, me.number()) {
-        NewClient::No(why) => NewState::No(why),
-        NewClient::Made(_me) => {
-            let state = State {
-                me,
-                operation: 0,
-                phase: Phase::Idle,
-            };
-            NewState::Made(state)
-        }
+        NewClient::No(why) => NewState {
+            verdict: Verdict::No(why),
+            state,
+        },
+        NewClient::Made(_me) => NewState {
+            verdict: Verdict::Accepted,
+            state,
+        },
     }
 }
 
-// Begins to write a board, which the client keeps: questions 1 to 6, 9, 10 and 11.
+// Begins to write a board of a length, which the client keeps with zeros past it: questions 1 to 6, 19, 9, 10 and 11.
 pub fn begin_write(
     cfg: Config,
     state: State,
+    length: u16,
     board: &[u8],
     kept: &mut [u8],
     sends: &mut [u8],
 ) -> Moved
-    ensures { λ r. ⌜ ((es : List ℕ) → BeginPost cfg (firstNo (beginWriteQuestions cfg state (now (board .entry)) (now (kept .entry)) (now (sends .entry)))) state (some (now (board .entry))) (now (kept .entry)) (now (kept .exit)) es (now (sends .entry)) (now (sends .exit)) r) ⌝ }
+    ensures { λ r. ⌜ ((es : List ℕ) → BeginPost cfg (firstNo (beginWriteQuestions cfg state length (now (board .entry)) (now (kept .entry)) (now (sends .entry)))) state (some (boardOf length (now (board .entry)))) (now (kept .entry)) (now (kept .exit)) es (now (sends .entry)) (now (sends .exit)) r) ⌝ }
 {
-    let no = questions::begin_write(cfg, state, board.len(), kept.len(), sends.len());
+    let no = questions::begin_write(cfg, state, length, board.len(), kept.len(), sends.len());
     if no != 0 {
         return refused(state, no);
     }
     bytes::copy(board, kept);
-    send::announce(cfg, begun(state, true), board, sends)
+    zeros::cut(length, kept);
+    send::announce(cfg, begun(state, true, length), kept, sends)
 }
 
 // Begins to read: questions 1 to 6, 9, 10 and 11.
@@ -160,7 +174,7 @@ pub fn begin_read(cfg: Config, state: State, sends: &mut [u8]) -> Moved
         return refused(state, no);
     }
     let nothing = [0u8; 1];
-    send::announce(cfg, begun(state, false), &nothing, sends)
+    send::announce(cfg, begun(state, false, state.length), &nothing, sends)
 }
 
 // The step on a record: questions 1 to 6, 12, 16 and 14. The answer is counted, and the client goes on if it has enough.
@@ -189,7 +203,7 @@ pub fn step(
                 return refused(state, 14);
             };
             place::take(cfg, h, message, elements);
-            settle::settle(cfg, in_phase(state, phase), kept, elements, sends, board)
+            settle::settle(cfg, counted(state, phase, h), kept, elements, sends, board)
         }
     }
 }

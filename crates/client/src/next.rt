@@ -19,8 +19,10 @@ pub(crate) enum Move {
     Waits,
     // It goes on to a phase, and sends its messages.
     Begins(Phase),
-    // Its operation ends; a read shows the board of the elements that servers sent.
-    Ends { how: Ended, sent: u32 },
+    // Its operation ends, and is no read.
+    Ends(Ended),
+    // Its read ends: it shows the board of the elements that these servers sent.
+    Shows { tag: Tag, sent: u32 },
 }
 
 // By the phase: without enough answers it waits.
@@ -84,18 +86,12 @@ fn after(me: Client, phase: Phase) -> Move
         Phase::PreWriting { tag, counted: _ } => {
             Move::Begins(Phase::FinalisingWrite { tag, counted: 0 })
         }
-        Phase::FinalisingWrite { tag, counted: _ } => Move::Ends {
-            how: Ended::Written(tag),
-            sent: 0,
-        },
+        Phase::FinalisingWrite { tag, counted: _ } => Move::Ends(Ended::Written(tag)),
         Phase::FinalisingRead {
             tag,
             counted: _,
             sent,
-        } => Move::Ends {
-            how: Ended::Read(tag),
-            sent,
-        },
+        } => Move::Shows { tag, sent },
         _ => Move::Waits,
     }
 }
@@ -119,8 +115,5 @@ fn asked(me: Client, writes: bool, best: Tag) -> Move
         };
         return Move::Begins(Phase::PreWriting { tag, counted: 0 });
     }
-    Move::Ends {
-        how: Ended::Spent,
-        sent: 0,
-    }
+    Move::Ends(Ended::Spent)
 }

@@ -10,15 +10,20 @@ use record::Header;
 use record::Reading;
 use tag::Tag;
 ghost use mathlib.Core.Path.{_≡_};
-ghost use mathlib.Core.Bool.{_&&_};
-ghost use lib.Dec.{eqb};
+ghost use Prim.Native.Nat.{_+_};
+ghost use mathlib.Core.Bool.{true, cond, _&&_};
+ghost use mathlib.Core.List.{_∷_};
+ghost use lib.Dec.{eqb, leb};
+ghost use lib.ListN.{getD};
+ghost use Rattle.laws.specs.Below.{allBelow};
 ghost use Rattle.config.specs.declared.Config.{Config};
-ghost use Rattle.config.specs.Config.{Valid};
+ghost use Rattle.config.specs.Config.{Valid, boardLength};
 ghost use Rattle.config.specs.Number.{clientNumber};
-ghost use Rattle.config.specs.Questions.{firstNo};
+ghost use Rattle.config.specs.Questions.{ask as question, firstNo};
 ghost use Rattle.record.specs.Kinds.{isForClient};
 ghost use Rattle.protocol.specs.Client.{beginQuestions};
-ghost use Rattle.client.specs.State.{bare, phaseWithin, stateWithin, tagWithin};
+ghost use Rattle.client.specs.Servers.{member};
+ghost use Rattle.client.specs.State.{bare, lengthsWithin, phaseWithin, stateWithin, tagWithin};
 ghost use Rattle.client.specs.Questions.{callQuestions, isSends, writeSized};
 ghost use Rattle.client.specs.inner.Questions.{ReceivePost, sized};
 
@@ -38,9 +43,16 @@ pub(crate) enum Asked {
     Answer(Header),
 }
 
-// Questions 1 to 6, 9, 10 and 11 of begin write: the number of the first that is answered no, or 0.
-pub(crate) fn begin_write(cfg: Config, x: State, board: usize, kept: usize, sends: usize) -> u8
-    ensures { λ r. ⌜ r ≡ firstNo (callQuestions cfg (writeSized cfg board kept sends) x (beginQuestions (bare cfg x))) ⌝ }
+// Questions 1 to 6, 19, 9, 10 and 11 of begin write: the number of the first that is answered no, or 0.
+pub(crate) fn begin_write(
+    cfg: Config,
+    x: State,
+    length: u16,
+    board: usize,
+    kept: usize,
+    sends: usize,
+) -> u8
+    ensures { λ r. ⌜ r ≡ firstNo (callQuestions cfg (writeSized cfg board kept sends) x (question 19 (leb length (boardLength cfg)) ∷ beginQuestions (bare cfg x))) ⌝ }
 {
     let no = ask(cfg, x);
     if no != 0 {
@@ -48,6 +60,9 @@ pub(crate) fn begin_write(cfg: Config, x: State, board: usize, kept: usize, send
     }
     if !write_sized(cfg, board, kept, sends) {
         return 6;
+    }
+    if board < length as usize {
+        return 19;
     }
     idle(x)
 }
@@ -143,7 +158,60 @@ pub(crate) fn within(cfg: Config, x: State) -> bool
         return false;
     }
     let phase = x.phase;
-    phase_within(cfg, phase)
+    if !phase_within(cfg, phase) {
+        return false;
+    }
+    lengths_within(cfg, x)
+}
+
+// Whether the lengths in use are at most V: that of a board to write, those of the elements received.
+fn lengths_within(cfg: Config, x: State) -> bool
+    requires { ⌜ Valid cfg ⌝ }
+    ensures { λ r. ⌜ r ≡ lengthsWithin cfg (x .phase) (x .length) (x .lengths) ⌝ }
+{
+    let phase = x.phase;
+    match phase {
+        Phase::Asking {
+            writes,
+            best: _,
+            counted: _,
+        } => length_within(cfg.k * cfg.e, writes, x.length),
+        Phase::FinalisingRead {
+            tag: _,
+            counted: _,
+            sent,
+        } => {
+            let lengths = x.lengths;
+            sent_within(cfg, sent, lengths)
+        }
+        _ => true,
+    }
+}
+
+// Whether a length, if it is in use, is at most v.
+fn length_within(v: usize, used: bool, length: u16) -> bool
+    ensures { λ r. ⌜ r ≡ cond used (leb length v) true ⌝ }
+{
+    if !used {
+        return true;
+    }
+    length as usize <= v
+}
+
+// Whether those of the servers that sent an element are at most V.
+fn sent_within(cfg: Config, sent: u32, lengths: [u16; 16]) -> bool
+    requires { ⌜ Valid cfg ⌝ }
+    ensures { λ r. ⌜ r ≡ allBelow (cfg .n) (λ i. cond (member sent (i + 1)) (leb (getD lengths i 0) (boardLength cfg)) true) ⌝ }
+{
+    let v = cfg.k * cfg.e;
+    let mut i = 0;
+    while i < cfg.n {
+        if !length_within(v, servers::has(sent, (i + 1) as u8), lengths[i]) {
+            return false;
+        }
+        i += 1;
+    }
+    true
 }
 
 fn phase_within(cfg: Config, phase: Phase) -> bool

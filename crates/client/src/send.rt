@@ -4,8 +4,11 @@ use super::Moved;
 use super::Phase;
 use super::State;
 use super::outcome::accepted;
+use super::zeros;
 use config::Client;
 use config::Config;
+use config::MOST_SERVERS;
+use config::MOST_WIDTH;
 use config::NewServer;
 use config::RECORD;
 use config::Server;
@@ -13,25 +16,35 @@ use record::Header;
 use record::Kind;
 use tag::Tag;
 ghost use mathlib.Core.Path.{_≡_};
+ghost use lib.ListN.{length};
 ghost use Rattle.record.specs.Record.{recordOf};
+ghost use Rattle.protocol.specs.Boards.{cut};
 ghost use Rattle.client.specs.Send.{recordsOf};
 ghost use Rattle.client.specs.inner.Send.{AddressPre, AnnouncePost, AnnouncePre, FillPost, ToEachPre, ToOnePre, addressed, broadcast, broadcastOf, messageTo, openingOf};
 
-// What goes to each server alike, and whether each gets its element of a board.
+// What goes to each server alike, whether each gets its element of a board, and that board's length.
 pub(crate) struct Broadcast {
     pub kind: Kind,
     pub me: Client,
     pub operation: u32,
     pub tag: Tag,
     pub element: bool,
+    pub length: u16,
 }
 
-// A phase begins: its messages go to the servers.
+// A phase begins: its messages go to the servers. Pre-writes are of the board with zeros past its length.
 pub(crate) fn announce(cfg: Config, x: State, board: &[u8], sends: &mut [u8]) -> Moved
     requires { ⌜ AnnouncePre cfg x (now board) (now sends) ⌝ }
     ensures { λ r. ⌜ AnnouncePost cfg x (now (board .entry)) (now (sends .entry)) (now (sends .exit)) r ⌝ }
 {
-    to_each(cfg, opening(x), board, sends);
+    let b = opening(x);
+    if !b.element {
+        to_each(cfg, b, board, sends);
+        return accepted(x, cfg.n, Ended::Nothing);
+    }
+    let mut whole = [0u8; MOST_SERVERS * MOST_WIDTH];
+    let v = board.len();
+    cut_to_each(cfg, b, board, &mut whole[..v], sends);
     accepted(x, cfg.n, Ended::Nothing)
 }
 
@@ -45,19 +58,25 @@ fn opening(x: State) -> Broadcast
     };
     let phase = x.phase;
     match phase {
-        Phase::PreWriting { tag, counted: _ } => message(x, Kind::PreWrite, tag, true),
-        Phase::FinalisingWrite { tag, counted: _ } => message(x, Kind::WriteFinalise, tag, false),
+        Phase::PreWriting { tag, counted: _ } => message(x, Kind::PreWrite, tag, true, x.length),
+        Phase::FinalisingWrite { tag, counted: _ } => message(
+            x,
+            Kind::WriteFinalise,
+            tag,
+            false,
+            0,
+        ),
         Phase::FinalisingRead {
             tag,
             counted: _,
             sent: _,
-        } => message(x, Kind::ReadFinalise, tag, false),
-        _ => message(x, Kind::Query, start, false),
+        } => message(x, Kind::ReadFinalise, tag, false, 0),
+        _ => message(x, Kind::Query, start, false, 0),
     }
 }
 
-fn message(x: State, kind: Kind, tag: Tag, element: bool) -> Broadcast
-    ensures { λ r. ⌜ r ≡ broadcastOf x kind tag element ⌝ }
+fn message(x: State, kind: Kind, tag: Tag, element: bool, length: u16) -> Broadcast
+    ensures { λ r. ⌜ r ≡ broadcastOf x kind tag element length ⌝ }
 {
     let me = x.me;
     Broadcast {
@@ -66,7 +85,18 @@ fn message(x: State, kind: Kind, tag: Tag, element: bool) -> Broadcast
         operation: x.operation,
         tag,
         element,
+        length,
     }
+}
+
+// Sends each server its element of the board with zeros past its length, which is put into a lent buffer.
+fn cut_to_each(cfg: Config, b: Broadcast, board: &[u8], whole: &mut [u8], sends: &mut [u8])
+    requires { ⌜ (ToEachPre cfg b (now board) (now sends)) × (length (now whole) ≡ length (now board)) ⌝ }
+    ensures { λ _. ⌜ now (sends .exit) ≡ recordsOf cfg (broadcast cfg b (cut (b .length) (now (board .entry)))) ⌝ }
+{
+    bytes::copy(board, whole);
+    zeros::cut(b.length, whole);
+    to_each(cfg, b, whole, sends);
 }
 
 // Sends a message to each server, 1 to N, in that order.
@@ -122,6 +152,7 @@ fn address(cfg: Config, b: Broadcast, s: u8, buffer: &mut [u8])
         operation: b.operation,
         tag,
         present: b.element,
+        length: b.length,
     };
     record::write(cfg, h, buffer);
 }

@@ -29,9 +29,11 @@ pub(crate) fn settle(
     match next {
         Move::Waits => accepted(x, 0, Ended::Nothing),
         Move::Begins(phase) => send::announce(cfg, in_phase(x, phase), kept, sends),
-        Move::Ends { how, sent } => {
-            show::show(cfg, how, sent, elements, board);
-            accepted(in_phase(x, Phase::Idle), 0, how)
+        Move::Ends(how) => accepted(in_phase(x, Phase::Idle), 0, how),
+        Move::Shows { tag, sent } => {
+            let lengths = x.lengths;
+            let length = show::show(cfg, sent, lengths, elements, board);
+            accepted(in_phase(x, Phase::Idle), 0, Ended::Read { tag, length })
         }
     }
 }

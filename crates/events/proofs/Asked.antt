@@ -14,9 +14,9 @@ use Rattle.config.specs.Config.{Valid, boardLength, rigQuestions}
 use Rattle.config.specs.Questions.{Question, ask, firstNo}
 use Rattle.config.proofs.Questions.{firstNo-no, firstNo-pass, firstNo-yes, none-first, none-rest, rig-later, rigQuestions-numbered, yes-next}
 use Rattle.config.proofs.Valid.{rig-valid}
-use Rattle.protocol.specs.Boards.{BoardCall, BoardRig, questions}
+use Rattle.protocol.specs.Boards.{BoardCall, BoardRig, questions, writeFits}
 use Rattle.protocol.specs.Rig as protocol
-use Rattle.protocol.specs.Rig.{Code, questionsTo11}
+use Rattle.protocol.specs.Rig.{Code, codeOf, questionsTo11}
 use Rattle.events.specs.declared.Rig.{Rig}
 use Rattle.events.specs.View.{Lent}
 use Rattle.events.specs.Questions.{eventQuestions, laterQuestions, rigWithin, sized}
@@ -53,7 +53,7 @@ module _ (cfg : Config) (m : ℕ) (holds : Bool) (rest : List Question) (h : fir
 -- an event
 module _ (cfg : Config) (m : ℕ) (r : Rig) (a : BoardCall) (read : List ℕ) (l : Lent) where
   abbrev boardIs : Bool
-  boardIs = eqb (length (a .board)) (boardLength cfg)
+  boardIs = eqb (length (a .board .bytes)) (boardLength cfg)
 
   abbrev readIs : Bool
   readIs = eqb (length read) (boardLength cfg)
@@ -61,8 +61,12 @@ module _ (cfg : Config) (m : ℕ) (r : Rig) (a : BoardCall) (read : List ℕ) (l
   abbrev shape : Bool
   shape = boardIs && readIs && sized cfg m l && rigWithin cfg m r
 
-  -- where 1 to 5 are answered yes, the refusal is 6, or that of 7 to 13
-  pub asked-six : firstNo (rigQuestions cfg m) ≡ 0 → firstNo (eventQuestions cfg m r a read l) ≡ cond shape (firstNo (laterQuestions cfg m r a l)) 6
+  abbrev fits : Bool
+  fits = writeFits cfg a (codeOf (a .code))
+
+  -- where 1 to 5 are answered yes, the refusal is 6, or 19, or that of 7 to 13
+  pub asked-six : firstNo (rigQuestions cfg m) ≡ 0
+      → firstNo (eventQuestions cfg m r a read l) ≡ cond shape (firstNo (ask 19 (writeFits cfg a (codeOf (a .code))) ∷ laterQuestions cfg m r a l)) 6
   unfolding eventQuestions firstNo
   asked-six five = firstNo-pass (rigQuestions cfg m) _ (rigQuestions-numbered cfg m) five
 
@@ -70,11 +74,17 @@ module _ (cfg : Config) (m : ℕ) (r : Rig) (a : BoardCall) (read : List ℕ) (l
   module _ (h : firstNo (eventQuestions cfg m r a read l) ≡ 0) where
     shaped : shape ≡ true
     unfolding eventQuestions
-    shaped = six cfg m shape (laterQuestions cfg m r a l) h .0
+    shaped = six cfg m shape (ask 19 fits ∷ laterQuestions cfg m r a l) h .0
+
+    after-six : (writeFits cfg a (codeOf (a .code)) ≡ true) × (firstNo (laterQuestions cfg m r a l) ≡ 0)
+    unfolding eventQuestions
+    after-six = yes-next 19 fits (laterQuestions cfg m r a l) (omega arith) (six cfg m shape (ask 19 fits ∷ laterQuestions cfg m r a l) h .1)
+
+    pub event-fits : writeFits cfg a (codeOf (a .code)) ≡ true
+    event-fits = after-six .0
 
     pub event-later : firstNo (laterQuestions cfg m r a l) ≡ 0
-    unfolding eventQuestions
-    event-later = six cfg m shape (laterQuestions cfg m r a l) h .1
+    event-later = after-six .1
 
     lengths : (boardIs && readIs && sized cfg m l) ≡ true
     lengths = and-left (boardIs && readIs && sized cfg m l) (rigWithin cfg m r) shaped
@@ -82,8 +92,8 @@ module _ (cfg : Config) (m : ℕ) (r : Rig) (a : BoardCall) (read : List ℕ) (l
     handed : (boardIs && readIs) ≡ true
     handed = and-left (boardIs && readIs) (sized cfg m l) lengths
 
-    pub event-board : length (a .board) ≡ boardLength cfg
-    event-board = eqb-true (length (a .board)) (boardLength cfg) (and-left boardIs readIs handed)
+    pub event-board : length (a .board .bytes) ≡ boardLength cfg
+    event-board = eqb-true (length (a .board .bytes)) (boardLength cfg) (and-left boardIs readIs handed)
 
 -- of an event that was not refused there is a code, and 8 to 11 are answered yes
 module _ (cfg : Config) (m : ℕ) (v : BoardRig) (a : BoardCall) (formed : Bool) where

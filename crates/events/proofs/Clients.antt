@@ -1,42 +1,21 @@
 -- What is asked of a client that is to begin or to crash is what is asked of the protocol's. Assumes nothing.
 use Prim.Native.Nat.{ℕ, _*_}
-use mathlib.Core.Path.{_≡_, refl, ap₂, _∙_}
-use mathlib.Core.Bool.{Bool, true, cond, _&&_}
+use mathlib.Core.Path.{_≡_, refl, ap, ap₂, _∙_}
+use mathlib.Core.Bool.{Bool, true, _&&_}
 use mathlib.Core.List.{List, [], _∷_}
 use borrow.Author.Tests.{eq-eqb}
-use lib.Dec.{ltb}
+use lib.Dec.{leb}
 use lib.ListN.{length}
 use Rattle.config.specs.declared.Config.{Config}
 use Rattle.config.specs.Config.{Valid, boardLength, questions}
 use Rattle.config.specs.Questions.{Question, ask, firstNo, numbered}
 use Rattle.config.proofs.Questions.{firstNo-pass, firstNo-yes, numbered-both, questions-numbered}
 use Rattle.config.proofs.Valid.{valid-asked}
-use Rattle.client.specs.declared.Phase.{Phase}
-use Rattle.client.specs.declared.Phase.the-variants.{Idle, Asking, PreWriting, FinalisingWrite, FinalisingRead, Down}
 use Rattle.client.specs.declared.State.{State}
 use Rattle.client.specs.Questions.{askBeginQuestions, beginReadQuestions, beginWriteQuestions, callQuestions, crashQuestions}
-use Rattle.client.specs.State.{bare, phaseOf, stateWithin, view}
+use Rattle.client.specs.State.{bare, stateWithin, view}
+use Rattle.client.proofs.Theorems.{bare-begin}
 use Rattle.protocol.specs.Client as protocol
-use Rattle.protocol.specs.Client.{highestNumber}
-
--- whether it is up, and whether it is idle, is told by its state alone
-pub up-is : (cfg : Config) (x : Phase) (kept es : List ℕ) → protocol.isUp (phaseOf cfg x kept es) ≡ protocol.isUp (phaseOf cfg x [] [])
-unfolding protocol.isUp phaseOf
-up-is cfg Idle kept es = refl
-up-is cfg (Asking writes best counted) kept es = refl
-up-is cfg (PreWriting tag counted) kept es = refl
-up-is cfg (FinalisingWrite tag counted) kept es = refl
-up-is cfg (FinalisingRead tag counted sent) kept es = refl
-up-is cfg Down kept es = refl
-
-idle-is : (cfg : Config) (x : Phase) (kept es : List ℕ) → protocol.isIdle (phaseOf cfg x kept es) ≡ protocol.isIdle (phaseOf cfg x [] [])
-unfolding protocol.isIdle phaseOf
-idle-is cfg Idle kept es = refl
-idle-is cfg (Asking writes best counted) kept es = refl
-idle-is cfg (PreWriting tag counted) kept es = refl
-idle-is cfg (FinalisingWrite tag counted) kept es = refl
-idle-is cfg (FinalisingRead tag counted sent) kept es = refl
-idle-is cfg Down kept es = refl
 
 -- what a client that is to begin is asked, by its state alone
 abbrev pub idleOf : Config → State → List Question
@@ -44,9 +23,7 @@ idleOf cfg x = protocol.beginQuestions (bare cfg x)
 
 -- 9, 10 and 11
 pub begin-asked : (cfg : Config) (x : State) (kept es : List ℕ) → firstNo (protocol.beginQuestions (view cfg x kept es)) ≡ firstNo (idleOf cfg x)
-unfolding protocol.beginQuestions firstNo view
-begin-asked cfg x kept es =
-    ap₂ (λ u i. cond u (cond i (cond (ltb (x .operation) highestNumber) 0 11) 10) 9) (up-is cfg (x .phase) kept es) (idle-is cfg (x .phase) kept es)
+begin-asked cfg x kept es = ap firstNo (bare-begin cfg x kept es)
 
 pub ask-numbered : (cfg : Config) (x : State) → numbered (askBeginQuestions cfg x) ≡ true
 unfolding callQuestions protocol.beginQuestions numbered
@@ -69,9 +46,10 @@ module _ (cfg : Config) (valid : Valid cfg) (x : State) (within : stateWithin cf
   pub read-number : (sends : List ℕ) → length sends ≡ 80 * cfg .n → firstNo (beginReadQuestions cfg x sends) ≡ firstNo (idleOf cfg x)
   read-number sends e = call-number _ (idleOf cfg x) (eq-eqb (length sends) (80 * cfg .n) e)
 
-  pub write-number : (board kept sends : List ℕ) → length board ≡ boardLength cfg → length kept ≡ boardLength cfg → length sends ≡ 80 * cfg .n
-      → firstNo (beginWriteQuestions cfg x board kept sends) ≡ firstNo (idleOf cfg x)
-  write-number board kept sends b k e =
-      call-number _ (idleOf cfg x)
+  pub write-number : (n : ℕ) (board kept sends : List ℕ) → leb n (boardLength cfg) ≡ true → length board ≡ boardLength cfg → length kept ≡ boardLength cfg → length sends ≡ 80 * cfg .n
+      → firstNo (beginWriteQuestions cfg x n board kept sends) ≡ firstNo (idleOf cfg x)
+  write-number n board kept sends fits b k e =
+      call-number _ (ask 19 (leb n (boardLength cfg)) ∷ idleOf cfg x)
       (ap₂ _&&_ (eq-eqb (length board) (boardLength cfg) b)
       (ap₂ _&&_ (eq-eqb (length kept) (boardLength cfg) k) (eq-eqb (length sends) (80 * cfg .n) e)))
+      ∙ firstNo-yes 19 (leb n (boardLength cfg)) (idleOf cfg x) fits

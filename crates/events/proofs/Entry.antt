@@ -18,6 +18,9 @@ use Rattle.config.specs.Refusal.{clamped, refusalNumber}
 use Rattle.config.proofs.Questions.{firstNo-high, firstNo-stop, last-all, last-no, last-yes, numbered-both, rigQuestions-numbered}
 use Rattle.config.proofs.Valid.{rig-most, rig-valid}
 use Rattle.protocol.specs.Board.{refused}
+use Rattle.protocol.specs.Boards.{cut, writeFits}
+use Rattle.protocol.specs.Rig.{codeOf}
+use Rattle.protocol.proofs.Cut.{length-cut}
 use Rattle.parties.specs.declared.Answer.{Answer}
 use Rattle.events.specs.declared.Call.{Call}
 use Rattle.events.specs.declared.Change.{Change}
@@ -26,11 +29,12 @@ use Rattle.events.specs.declared.Rig.{Rig}
 use Rattle.events.specs.declared.Turn.{Turn}
 use Rattle.events.specs.View.{Lent}
 use Rattle.parties.specs.Within.{clientInPlace, serverInPlace}
-use Rattle.events.specs.Questions.{allBelow, allSized, eventQuestions, hasPlaces, laterQuestions, partiesWithin, partQuestions, partWithin, placesOf, rigWithin, sized}
+use Rattle.events.specs.Questions.{allSized, eventQuestions, hasPlaces, laterQuestions, partiesWithin, partQuestions, partWithin, placesOf, rigWithin, sized}
 use Rattle.events.specs.Calls.{ChangePost, EventPost, PartOf, called, eventNo, partNo, turned, withPart}
 use Rattle.events.specs.inner.Part.{Names, refusing}
 use Rattle.events.specs.inner.Turn.{TurnPost, TurnPre}
-use Rattle.events.proofs.Below.{below-at}
+use Rattle.laws.specs.Below.{allBelow}
+use Rattle.laws.proofs.Below.{below-at}
 use Rattle.events.proofs.Pairs.{put-same}
 use Rattle.events.proofs.Lengths.{boards-are, elements-are, messages-are, stores-are}
 use Rattle.events.proofs.named.Laws.{names-client, names-server}
@@ -71,6 +75,11 @@ six-high : (cfg : Config) (m : ℕ) (holds : Bool) → firstNo (rigQuestions cfg
 unfolding numbered
 six-high cfg m holds =
     firstNo-high (rigQuestions cfg m ++ ask 6 holds ∷ []) (numbered-both (rigQuestions cfg m) (ask 6 holds ∷ []) (rigQuestions-numbered cfg m) refl)
+
+-- a board cut at a length is as long
+pub cut-sized : (cfg : Config) (m n : ℕ) (board read : List ℕ) (l : Lent) → allSized cfg m (cut n board) read l ≡ allSized cfg m board read l
+cut-sized cfg m n board read l =
+    ap (λ (k : ℕ). eqb k (boardLength cfg) && eqb (length read) (boardLength cfg) && sized cfg m l) (length-cut n board)
 
 -- ---- a part
 
@@ -191,8 +200,8 @@ module _ (cfg : Config) (m : ℕ) (p : Part) (a : Call) (board read : List ℕ) 
             event = λ _ r part all. post .event r (record {
               part = part;
               names = its-names;
-              yes = last-yes (rigQuestions cfg m) 6 (long && rigWithin cfg m r) (rigQuestions-numbered cfg m) (both .0)
-                  (ap₂ _&&_ (and-left long few (both .1)) all);
+              yes = last-yes (rigQuestions cfg m) 6 (allSized cfg m (cut (a .length) board) read l && rigWithin cfg m r) (rigQuestions-numbered cfg m) (both .0)
+                  (ap₂ _&&_ (cut-sized cfg m (a .length) board read l ∙ and-left long few (both .1)) all);
             });
           }
 
@@ -206,8 +215,11 @@ module _ (cfg : Config) (m : ℕ) (r : Rig) (a : Call) (board read : List ℕ) (
       → eventNo cfg m r (called a board) read l ≡ got
   unfolding eventQuestions
   early {got} e ne =
-      ap firstNo (sym (append-assoc (rigQuestions cfg m) (ask 6 (all-long && rigWithin cfg m r) ∷ []) (laterQuestions cfg m r (called a board) l)))
-      ∙ firstNo-stop (rigQuestions cfg m ++ ask 6 (all-long && rigWithin cfg m r) ∷ []) (laterQuestions cfg m r (called a board) l) (λ z. ne (e ∙ z))
+      let six = all-long && rigWithin cfg m r in
+      let after = ask 19 (writeFits cfg (called a board) (codeOf (a .code))) ∷ laterQuestions cfg m r (called a board) l in
+      ap (λ (b : Bool). firstNo (rigQuestions cfg m ++ ask 6 (b && rigWithin cfg m r) ∷ after)) (cut-sized cfg m (a .length) board read l)
+      ∙ ap firstNo (sym (append-assoc (rigQuestions cfg m) (ask 6 six ∷ []) after))
+      ∙ firstNo-stop (rigQuestions cfg m ++ ask 6 six ∷ []) after (λ z. ne (e ∙ z))
       ∙ sym e
 
   -- one of its parties keeps what is past its limits, or one of 1 to 5 is answered no

@@ -1,5 +1,4 @@
 pub mod Asked
-pub mod Below
 mod Clients
 pub mod Entry
 pub mod Inside

@@ -1,8 +1,8 @@
--- The number of an event's first no, where questions 1 to 6 are answered yes: it is one of 7 to 13, or 0. Assumes nothing.
+-- The number of an event's first no, where questions 1 to 6 are answered yes: it is 19 or one of 7 to 13, or 0. Assumes nothing.
 use Prim.Native.Nat.{ℕ, _≤_, _<_}
 use mathlib.Core.Path.{_≡_, refl, sym, ap, ap₂, _∙_}
 use mathlib.Core.Bool.{Bool, true, false, cond}
-use mathlib.Core.Option.{none, some}
+use mathlib.Core.Option.{Option, none, some}
 use mathlib.Core.List.{List, [], _∷_, _++_}
 use native.Mathlib.Omega.{arith}
 use borrow.Author.Tests.{le-ltb, lt-ltb}
@@ -12,7 +12,7 @@ use Rattle.config.specs.Questions.{Question, ask, firstNo, numbered}
 use Rattle.config.proofs.Questions.{firstNo-pass, firstNo-stop}
 use Rattle.record.specs.Record.{messageOf}
 use Rattle.flight.proofs.Laws.{length-records}
-use Rattle.protocol.specs.Boards.{BoardCall, BoardRig, move, questions}
+use Rattle.protocol.specs.Boards.{BoardCall, BoardRig, move, questions, writeFits}
 use Rattle.protocol.specs.Client.{beginQuestions}
 use Rattle.protocol.specs.Parties.{questionsToBegin, questionsToCrashClient, questionsToCrashServer}
 use Rattle.protocol.specs.Rig as rig
@@ -41,13 +41,21 @@ module _ (cfg : Config) (m : ℕ) (r : Rig) (a : BoardCall) (read : List ℕ) (l
   abbrev v : BoardRig
   v = view cfg r l
 
+  -- 19, and the others
+  afterSix : Option Code → ℕ
+  afterSix w = firstNo (ask 19 (writeFits cfg a w) ∷ questions cfg m v a (formedFor cfg (flight r l) (a .position) w) w)
+
   -- 7
   pub no-event : codeOf (a .code) ≡ none → eventNo cfg m r a read l ≡ 7
-  unfolding rig.questions firstNo
-  no-event e =
-      six-number cfg m r a read l yes ∙ ap (λ w. firstNo (questions cfg m v a (formedFor cfg (flight r l) (a .position) w) w)) e
+  unfolding rig.questions firstNo afterSix rig.writeFits
+  no-event e = six-number cfg m r a read l yes ∙ ap afterSix e
 
-  module _ (w : Code) (code : codeOf (a .code) ≡ some w) where
+  -- 19
+  pub long-number : (w : Code) → codeOf (a .code) ≡ some w → writeFits cfg a (some w) ≡ false → eventNo cfg m r a read l ≡ 19
+  unfolding firstNo afterSix
+  long-number w code out = six-number cfg m r a read l yes ∙ ap afterSix code ∙ rw out
+
+  module _ (w : Code) (code : codeOf (a .code) ≡ some w) (fits : writeFits cfg a (some w) ≡ true) where
     abbrev to11 : List Question
     to11 = questionsTo11 cfg v a w
 
@@ -58,9 +66,8 @@ module _ (cfg : Config) (m : ℕ) (r : Rig) (a : BoardCall) (read : List ℕ) (l
     room = hasRoom m (move cfg v a w)
 
     all : eventNo cfg m r a read l ≡ firstNo (to11 ++ ask 12 well ∷ ask 13 room ∷ [])
-    unfolding rig.questions firstNo
-    all =
-        six-number cfg m r a read l yes ∙ ap (λ w. firstNo (questions cfg m v a (formedFor cfg (flight r l) (a .position) w) w)) code
+    unfolding rig.questions firstNo afterSix
+    all = six-number cfg m r a read l yes ∙ ap afterSix code ∙ rw fits
 
     -- one of 8 to 11
     pub early-number : (k : ℕ) → firstNo (questionsTo11 cfg (view cfg r l) a w) ≡ k → (k ≡ 0 → ⊥) → eventNo cfg m r a read l ≡ k
@@ -98,9 +105,9 @@ module _ (cfg : Config) (r : Rig) (l : Lent) (i : ℕ) where
   position-there h = rw (lt-ltb i (length (view cfg r l .inFlight)) (omega (arith, many cfg r l, h)))
 
 -- an event by its part, at a position where there is none
-pub missing : (cfg : Config) (m : ℕ) (p : Part) (a : Call) (board read : List ℕ) (l : Lent) (w : Code) → codeOf (a .code) ≡ some w → p .count ≤ a .position
-    → ((r : Rig) → questionsTo11 cfg (view cfg r l) (called a board) w ≡ positionQuestions (view cfg r l .inFlight) (a .position))
+pub missing : (cfg : Config) (m : ℕ) (p : Part) (a : Call) (board read : List ℕ) (l : Lent) (w : Code) → codeOf (a .code) ≡ some w → writeFits cfg (called a board) (some w) ≡ true
+    → p .count ≤ a .position → ((r : Rig) → questionsTo11 cfg (view cfg r l) (called a board) w ≡ positionQuestions (view cfg r l .inFlight) (a .position))
     → (r : Rig) → Ready cfg m r p a board read l → eventNo cfg m r (called a board) read l ≡ 8
-missing cfg m p a board read l w code past asks r ready =
-    early-number cfg m r (called a board) read l (ready .yes) w code 8
+missing cfg m p a board read l w code fits past asks r ready =
+    early-number cfg m r (called a board) read l (ready .yes) w code fits 8
     (ap firstNo (asks r) ∙ position-missing cfg r l (a .position) (omega (arith, past, ready .part .count))) (λ z. omega (arith, z))

@@ -18,6 +18,7 @@ use Rattle.config.specs.Questions.{within}
 use Rattle.config.specs.Config.{storeLength}
 use Rattle.server.specs.Within.{stateWithin as serverStateWithin}
 use Rattle.client.specs.State.{stateWithin}
+use Rattle.protocol.proofs.Cut.{length-cut}
 use Rattle.parties.specs.Acts.{among, pairWithin}
 use Rattle.events.specs.declared.Call.{Call}
 use Rattle.events.specs.declared.Part.{Part}
@@ -44,7 +45,7 @@ module _ {cfg : Config} {m : ℕ} {r : Rig} {p : Part} {a : Call} {board read : 
   is-within = six-within cfg m r (called a board) read l (ready .yes)
 
   pub board-long : length board ≡ boardLength cfg
-  board-long = six-board cfg m r (called a board) read l (ready .yes)
+  board-long = sym (length-cut (a .length) board) ∙ six-board cfg m r (called a board) read l (ready .yes)
 
   pub read-long : length read ≡ boardLength cfg
   read-long = six-read cfg m r (called a board) read l (ready .yes)

@@ -15,9 +15,10 @@ use Rattle.config.specs.declared.Config.{Config}
 use Rattle.events.specs.declared.Part.{Part}
 use Rattle.events.specs.declared.Rig.{Rig}
 use Rattle.parties.specs.Within.{clientInPlace, serverInPlace}
-use Rattle.events.specs.Questions.{allBelow, partiesWithin, rigWithin}
+use Rattle.events.specs.Questions.{partiesWithin, rigWithin}
 use Rattle.events.specs.Calls.{withPart}
-use Rattle.events.proofs.Below.{below-all, below-at}
+use Rattle.laws.specs.Below.{allBelow}
+use Rattle.laws.proofs.Below.{below-all, below-at}
 
 -- a test of what stands in each of n places
 module _ {A : Type 0} (n : ℕ) (xs : List A) (fits : ℕ → Option A → Bool) (all : allBelow n (λ i. fits i (getElem? xs i)) ≡ true) where

@@ -6,6 +6,7 @@ use native.Mathlib.Omega.{arith}
 use lib.ListN.{length, drop, length-append}
 use lib.Seq.{drop-at, take-at}
 use Rattle.config.specs.declared.Config.{Config}
+use Rattle.config.specs.Config.{Valid}
 use Rattle.record.specs.Record.{messageOf, recordOf}
 use Rattle.record.proofs.Laws.{record-long}
 use Rattle.client.specs.Send as send
@@ -38,8 +39,9 @@ module _ (cfg : Config) (high : cfg .e ≤ 64) where
     room-out =
         omega (arith, length-sends cfg high ms h, ap length out, length-append (send.recordsOf cfg ms) (drop (length (send.recordsOf cfg ms)) sends))
 
-  -- behind others they are the messages behind those of the others
+-- behind others they are the messages behind those of the others
+module _ (cfg : Config) (valid : Valid cfg) where
   pub messages-behind : (rs : List (List ℕ)) (ms : List BoardMessage) → Sound cfg ms
       → messagesOf cfg (rs ++ map (recordOf cfg) ms) ≡ messagesOf cfg rs ++ ms
   messages-behind rs ms h =
-      map-append (messageOf cfg) rs (map (recordOf cfg) ms) ∙ ap (λ x. messagesOf cfg rs ++ x) (read-sends cfg high ms h)
+      map-append (messageOf cfg) rs (map (recordOf cfg) ms) ∙ ap (λ x. messagesOf cfg rs ++ x) (read-sends cfg valid ms h)

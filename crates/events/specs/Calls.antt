@@ -10,7 +10,7 @@ use Rattle.config.specs.declared.Config.{Config}
 use Rattle.config.specs.Questions.{firstNo}
 use Rattle.record.specs.Record.{recordOf}
 use Rattle.client.specs.declared.State as client
-use Rattle.protocol.specs.Boards.{Board, BoardCall, BoardMessage, BoardTurn, moveOf}
+use Rattle.protocol.specs.Boards.{BoardCall, BoardMessage, BoardTurn, boardOf, moveOf}
 use Rattle.protocol.specs.Rig.{Code, beginWrite, beginRead, handOver, lose, double, crashServer, crashClient, codeOf, unlessNo}
 use Rattle.protocol.specs.Board.{refused}
 use Rattle.parties.specs.declared.Node.{Node}
@@ -24,9 +24,9 @@ use Rattle.events.specs.declared.Turn.{Turn}
 use Rattle.events.specs.View.{Lent, flight, view}
 use Rattle.events.specs.Questions.{eventQuestions, partQuestions, rigWithin, sized}
 
--- an event as it is called: its code, party and position, and the board handed in
-abbrev pub called : Call → Board → BoardCall
-called a board = record { code = a .code; party = a .party; position = a .position; board = board }
+-- an event as it is called: its code, party and position, and the board handed in, of the length handed in
+abbrev pub called : Call → List ℕ → BoardCall
+called a board = record { code = a .code; party = a .party; position = a .position; board = boardOf (a .length) board }
 
 -- the refusal's number, or 0
 abbrev pub eventNo : Config → ℕ → Rig → BoardCall → List ℕ → Lent → ℕ

@@ -1,16 +1,17 @@
--- What an event of a rig asks, in document 01's order.
-use Prim.Native.Nat.{ℕ, zero, suc, _+_, _-_, _*_}
+-- What an event of a rig asks, in the documents' order.
+use Prim.Native.Nat.{ℕ, _+_, _-_, _*_}
 use mathlib.Core.Bool.{Bool, true, cond, _&&_}
 use mathlib.Core.Option.{Option, none, some}
 use mathlib.Core.List.{List, [], _∷_, _++_}
 use lib.Dec.{eqb, leb}
 use lib.ListN.{length, getD, getElem?}
+use Rattle.laws.specs.Below.{allBelow}
 use Rattle.config.specs.declared.Config.{Config}
 use Rattle.config.specs.Config.{boardLength, elementsLength, recordLength, rigQuestions, storeLength}
 use Rattle.config.specs.Questions.{Question, ask, within}
 use Rattle.flight.specs.Flight.{stands}
 use Rattle.record.specs.Record.{wellFormed}
-use Rattle.protocol.specs.Boards.{BoardCall, questions}
+use Rattle.protocol.specs.Boards.{BoardCall, questions, questionsAfter6}
 use Rattle.protocol.specs.Rig.{Code, codeOf, beginWrite, beginRead, handOver, lose, double, crashServer, crashClient}
 use Rattle.parties.specs.Within.{clientInPlace, serverInPlace}
 use Rattle.events.specs.declared.Call.{Call}
@@ -36,13 +37,8 @@ lentSized cfg m board x = eqb board (boardLength cfg) && sizedBy cfg m (x .messa
 abbrev pub sized : Config → ℕ → Lent → Bool
 sized cfg m l = sizedBy cfg m (length (l .messages)) (length (l .stores)) (length (l .boards)) (length (l .elements))
 
--- it is so of each place below n
-unfoldable pub allBelow : ℕ → (ℕ → Bool) → Bool
-allBelow zero f = true
-allBelow (suc n) f = allBelow n f && f n
-
 -- "is each count, server number, client number and tag in the state within its limit, ..": those of every server and every client. A
--- party's own number is that of its place.
+-- party's own number is that of its place. "A length above V kept by a party gets 6."
 abbrev pub partiesWithin : Config → Rig → Bool
 partiesWithin cfg r =
     allBelow (cfg .n) (λ i. serverInPlace cfg i (getElem? (r .servers) i))
@@ -107,15 +103,15 @@ abbrev pub laterQuestions : Config → ℕ → Rig → BoardCall → Lent → Li
 laterQuestions cfg m r a l =
     questions cfg m (view cfg r l) a (formedFor cfg (flight r l) (a .position) (codeOf (a .code))) (codeOf (a .code))
 
--- An event: questions 1 to 5; 6, of every buffer handed in, whatever the event, and of the rig; 7 to 13.
+-- An event: questions 1 to 5; 6, of every buffer handed in, whatever the event, and of the rig; 19; 7 to 13.
 unfoldable pub eventQuestions : Config → ℕ → Rig → BoardCall → List ℕ → Lent → List Question
 eventQuestions cfg m r a read l =
     rigQuestions cfg m
-    ++ ask 6 (allSized cfg m (a .board) read l && rigWithin cfg m r)
-    ∷ laterQuestions cfg m r a l
+    ++ ask 6 (allSized cfg m (a .board .bytes) read l && rigWithin cfg m r)
+    ∷ questionsAfter6 cfg m (view cfg r l) a (formedFor cfg (flight r l) (a .position) (codeOf (a .code))) (codeOf (a .code))
 
 -- An event by a part of a rig: 1 to 5; 6, of every buffer handed in, of how many are in flight, of the part's places, which are to be those that
--- the event names, and of what its parties keep. 7 to 13 are those of the rig's event (`ChangePost`'s `event`).
+-- the event names, and of what its parties keep. 19 and 7 to 13 are those of the rig's event (`ChangePost`'s `event`).
 unfoldable pub partQuestions : Config → ℕ → Part → Call → List ℕ → List ℕ → Lent → List Question
 partQuestions cfg m p a board read l =
     rigQuestions cfg m

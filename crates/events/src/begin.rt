@@ -10,7 +10,7 @@ ghost use mathlib.Core.Path.{_≡_};
 ghost use Prim.Native.Nat.{_*_, _≤_};
 ghost use lib.ListN.{length};
 ghost use Rattle.config.specs.Config.{Valid, boardLength, mostMessages};
-ghost use Rattle.events.specs.inner.Begin.{BeginPre, ReadPost, WritePost, askedNo};
+ghost use Rattle.events.specs.inner.Begin.{BeginPre, ReadPost, WritePost, askedNo, askedWriteNo};
 
 // Question 8 and, where there is no room, 9 to 11 and 13: the number of the first that is answered no, or 0.
 fn asked(cfg: Config, m: usize, part: Part, party: u8) -> u8
@@ -30,7 +30,18 @@ fn asked(cfg: Config, m: usize, part: Part, party: u8) -> u8
     13
 }
 
-// Event 1: "begin write (client, V bytes)". Questions 8 to 11, and 13.
+// Question 19, and then those.
+fn write_asked(cfg: Config, m: usize, part: Part, call: Call) -> u8
+    requires { ⌜ (Valid cfg) × (part .count ≤ mostMessages) ⌝ }
+    ensures { λ r. ⌜ r ≡ askedWriteNo cfg m part call ⌝ }
+{
+    if cfg.k * cfg.e < call.length as usize {
+        return 19;
+    }
+    asked(cfg, m, part, call.party)
+}
+
+// Event 1: "begin write (client, V bytes)", with a length. Questions 19, 8 to 11, and 13.
 pub(crate) fn write(
     cfg: Config,
     m: usize,
@@ -43,7 +54,7 @@ pub(crate) fn write(
     requires { ⌜ (BeginPre cfg m part (now messages)) × (length (now boards) ≡ cfg .c * boardLength cfg) ⌝ }
     ensures { λ x. ⌜ WritePost cfg m part call (now (board .entry)) (now (messages .entry)) (now (boards .entry)) x (now (messages .exit)) (now (boards .exit)) ⌝ }
 {
-    let no = asked(cfg, m, part, call.party);
+    let no = write_asked(cfg, m, part, call);
     if no != 0 {
         return outcome::refused(part, Refusal::of(no));
     }
@@ -56,6 +67,7 @@ pub(crate) fn write(
     let acted = parties::begin::write(
         cfg,
         part.pair,
+        call.length,
         board,
         &mut boards[at..to],
         &mut messages[from..end],

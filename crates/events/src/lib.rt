@@ -33,11 +33,13 @@ pub struct Rig {
     pub count: usize,
 }
 
-// An event as it is called: its code, the party's number and a message's position, each of any value.
+// An event as it is called: its code, the party's number, a message's position and the length of the board handed in, each of any value.
+// The length is that of a write; with another event it is not looked at.
 pub struct Call {
     pub code: u8,
     pub party: u8,
     pub position: usize,
+    pub length: u16,
 }
 
 // The places of a server and of a client.
@@ -115,7 +117,7 @@ pub fn names(cfg: Config, count: usize, call: Call, messages: &[u8]) -> Places
     }
 }
 
-// An event of a rig, questions 1 to 13, for a host that keeps its rig in place: it takes the part whose places `names` gives, and gives it
+// An event of a rig, questions 1 to 6, 19 and 7 to 13, for a host that keeps its rig in place: it takes the part whose places `names` gives, and gives it
 // back for the host to put there. 6 is asked of the buffers and of this part, and of no other party.
 pub fn changes(
     cfg: Config,

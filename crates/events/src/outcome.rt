@@ -26,7 +26,11 @@ pub(crate) fn is_refusal(answer: Answer) -> bool
         Answer::Nothing => false,
         Answer::Written { client: _, tag: _ } => false,
         Answer::Spent { client: _ } => false,
-        Answer::Read { client: _, tag: _ } => false,
+        Answer::Read {
+            client: _,
+            tag: _,
+            length: _,
+        } => false,
         Answer::No(_) => true,
     }
 }

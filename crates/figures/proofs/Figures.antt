@@ -8,14 +8,14 @@ use Rattle.code.specs.Decoded.{decoded, decodedByte}
 use Rattle.code.specs.Polynomial as polynomial
 use Rattle.config.specs.Config.{questions}
 use Rattle.config.specs.Questions.{firstNo}
-use Rattle.record.specs.Record.{all, allZero, clauses, elementBytes, fourBytes, headerBytes, kindOf, messageClauses, messageOf, ofConfig, recordOf, wellFormed}
+use Rattle.record.specs.Record.{all, allZero, clauses, elementBytes, fourBytes, headerBytes, kindOf, messageClauses, messageOf, ofConfig, recordOf, twoBytes, wellFormed}
 use Rattle.protocol.proofs.Evaluate.{answersTo}
 use Rattle.server.specs.Calls.{stepQuestions}
-use Rattle.server.specs.Within.{among, every, floorWithin, tagsWithin, once, stateWithin}
+use Rattle.server.specs.Within.{among, every, floorWithin, lengthsWithin, numbersWithin, tagsWithin, once, stateWithin}
 use Rattle.server.specs.View.{each, view}
 
 pub figures : Figures
-unfolding times partialProduct doubled double power inverseOf inverseBelow element elementByte decoded decodedByte tabulate polynomial.sum polynomial.value polynomial.carried polynomial.rooted polynomial.roots polynomial.divided polynomial.scaled polynomial.lagrange polynomial.interpolated answersTo questions firstNo all allZero clauses elementBytes fourBytes headerBytes kindOf messageClauses messageOf ofConfig recordOf wellFormed stepQuestions among every floorWithin tagsWithin once stateWithin each view
+unfolding times partialProduct doubled double power inverseOf inverseBelow element elementByte decoded decodedByte tabulate polynomial.sum polynomial.value polynomial.carried polynomial.rooted polynomial.roots polynomial.divided polynomial.scaled polynomial.lagrange polynomial.interpolated answersTo questions firstNo all allZero clauses elementBytes fourBytes headerBytes kindOf messageClauses messageOf ofConfig recordOf twoBytes wellFormed stepQuestions among every floorWithin tagsWithin lengthsWithin numbersWithin once stateWithin each view
 figures =
     record {
       quorum-5-3 = refl;

@@ -15,6 +15,7 @@ use Rattle.tag.specs.declared.Tag.{Tag}
 use Rattle.tag.specs.Tag.{above, key, start}
 use Rattle.record.specs.declared.Kind.{Kind}
 use Rattle.record.specs.declared.Kind.the-variants.{PreWrite, PreWriteAnswer, ReadFinalise, ReadFinaliseAnswer}
+use Rattle.record.specs.Element.{Element, elementWith}
 use Rattle.record.specs.Message.{Message}
 use Rattle.record.specs.Record.{all, ofConfig, recordOf}
 use Rattle.protocol.specs.Server.{Server, Served, elementOf, freshServer, serverStep}
@@ -47,41 +48,49 @@ abbrev pub one : Config
 one = config 1 1 0 1 2
 
 -- a message of client c to server 1, in its operation 1
-abbrev pub message : Kind → ℕ → Tag → Option (List ℕ) → Message (List ℕ)
+abbrev pub message : Kind → ℕ → Tag → Option Element → Message Element
 message kind c t e = record { kind = kind; client = c; server = 1; operation = 1; tag = t; element = e }
 
--- a pre-write of (z, c), by client c, with the element z; a read finalise by client 1
-abbrev pub preWrite : ℕ → ℕ → Message (List ℕ)
-preWrite z c = message PreWrite c (tag z c) (some (z ∷ []))
+-- a pre-write of (z, c), by client c, with the element z of a board with length 1; a read finalise by client 1
+abbrev pub preWrite : ℕ → ℕ → Message Element
+preWrite z c = message PreWrite c (tag z c) (some (elementWith 1 (z ∷ [])))
 
-abbrev pub readFinalise : ℕ → ℕ → Message (List ℕ)
+abbrev pub readFinalise : ℕ → ℕ → Message Element
 readFinalise z c = message ReadFinalise 1 (tag z c) none
 
 -- server 1 with D 0 is handed a message
-abbrev pub step : Server (List ℕ) → Message (List ℕ) → Served (List ℕ)
+abbrev pub step : Server Element → Message Element → Served Element
 step v m = serverStep key 0 1 v m
 
 -- "D 0, fresh", and after each of the pre-writes
-abbrev pub server-0 : Server (List ℕ)
-server-0 = freshServer (0 ∷ [])
+abbrev pub server-0 : Server Element
+server-0 = freshServer (elementWith 1 (0 ∷ []))
 
-abbrev pub server-1 : Server (List ℕ)
+abbrev pub server-1 : Server Element
 server-1 = step server-0 (preWrite 1 1) .server
 
-abbrev pub server-2 : Server (List ℕ)
+abbrev pub server-2 : Server Element
 server-2 = step server-1 (preWrite 2 1) .server
 
-abbrev pub server-3 : Served (List ℕ)
+abbrev pub server-3 : Served Element
 server-3 = step server-2 (preWrite 1 2)
 
 -- the last of these as a state with its store, and the number that a step in it gets
 abbrev pub state-3 : State
-state-3 = record { me = record { 0 = 1 }; highest = start; floor = Floor.At (tag 1 2); count = 1; tags = replicate 8 (tag 2 1) }
+state-3 =
+    record {
+      me = record { 0 = 1 };
+      highest = start;
+      floor = Floor.At (tag 1 2);
+      count = 1;
+      tags = replicate 8 (tag 2 1);
+      lengths = replicate 8 1;
+    }
 
 abbrev pub store-3 : List ℕ
 store-3 = 2 ∷ []
 
-abbrev pub gets : Message (List ℕ) → ℕ
+abbrev pub gets : Message Element → ℕ
 gets m = firstNo (stepQuestions one state-3 (recordOf one m) store-3 (replicate 80 0))
 
 pub record Figures : Type 0 where

@@ -1,1 +1,1 @@
-// No code: document 01's figures, as one theorem.
+// No code: document 01's figures, as one theorem, and those of boards shorter than the block, as another.

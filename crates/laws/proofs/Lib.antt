@@ -1,3 +1,4 @@
+pub mod Below
 pub mod Bools
 pub mod Bytes
 pub mod Lists

@@ -1,4 +1,5 @@
 pub mod Algebra
+pub mod Below
 pub mod Bytes
 pub mod Lists
 pub mod Parts

@@ -32,7 +32,7 @@ use Rattle.rig.specs.InPlace.{Turned, eventBy, next, none}
 use Rattle.rig.specs.Runs.{callsOf}
 use Rattle.lines.specs.declared.Ran.{Ran}
 use Rattle.lines.specs.Block.{RanPost, countAfter, linesOf, lineRoom}
-use Rattle.lines.specs.Event.{boardAt, callAt, callsIn, eventLength}
+use Rattle.lines.specs.Event.{bytesAt, callAt, callsIn, eventLength}
 use Rattle.lines.specs.Line.{lineOf}
 use Rattle.lines.specs.inner.Text.{Appended}
 use Rattle.lines.proofs.Texts.{joined, recast}
@@ -129,10 +129,14 @@ lines-more first h (x ∷ xs) e =
     ∙ ap (λ (n : ℕ). (lineOf first (x .answer) ++ linesOf (countAfter first 1) xs) ++ lineOf n (e .answer)) (omega arith)
 
 -- the call of the record at a place, from its head and its board
-pub called-there : {a : Call} {board : List ℕ} (input : List ℕ) {v w : ℕ} (at : ℕ) → v ≡ w → board ≡ boardAt v at input
-    → ((u : ℕ) → called a (boardAt u at input) ≡ callAt u at input) → called a board ≡ callAt w at input
+pub called-there : {a : Call} {board : List ℕ} (input : List ℕ) {v w : ℕ} (at : ℕ) → v ≡ w → board ≡ bytesAt v at input
+    → called a (bytesAt v at input) ≡ callAt v at input → called a board ≡ callAt w at input
 called-there {a} {board} input {v} at same its head =
-    ap (called a) its ∙ head v ∙ ap (λ (u : ℕ). callAt u at input) same
+    ap (called a) its ∙ head ∙ ap (λ (u : ℕ). callAt u at input) same
+
+-- its bytes
+pub bytes-there : {board : List ℕ} (input : List ℕ) {v w : ℕ} (at : ℕ) → v ≡ w → board ≡ bytesAt v at input → board ≡ bytesAt w at input
+bytes-there input at same its = its ∙ ap (λ (u : ℕ). bytesAt u at input) same
 
 -- What one turn does: the record's call, the change of the rig, its line and the next count.
 pub record Step (cfg : Config) (m : ℕ) (input out : List ℕ) (r : Ran) (l : Lent) (r′ : Ran) (l′ : Lent) (out′ : List ℕ) : Type 0 where
@@ -145,6 +149,7 @@ pub record Step (cfg : Config) (m : ℕ) (input out : List ℕ) (r : Ran) (l : L
   pub whole : r .taken + eventLength (boardLength cfg) ≤ length input
   pub takes : r′ .taken ≡ r .taken + eventLength (boardLength cfg)
   pub calls : called call board ≡ callAt (boardLength cfg) (r .taken) input
+  pub handed : board ≡ bytesAt (boardLength cfg) (r .taken) input
   pub reads : length read ≡ boardLength cfg
   pub turned : Turned cfg m (r .rig) l call board read change read′ l′ (r′ .rig)
   pub says : Appended out (r .used) (lineOf (r .count) (answerOf (change .answer) read′)) out′ (r′ .used)
@@ -222,15 +227,11 @@ module _ (cfg : Config) (m : ℕ) (rig : Rig) (l : Lent) (first : ℕ) (few : fi
           ∙ ap (λ (k : ℕ). tabulate k callOf) (sym long)
 
       its-bytes : Bytes (s .board)
-      unfolding callAt
-      its-bytes =
-          subst Bytes (sym (ap (λ (x : BoardCall). x .board) (s .calls)))
-          (bytes-part (boardLength cfg) (r .taken + 4) input bytes)
+      its-bytes = subst Bytes (sym (s .handed)) (bytes-part (boardLength cfg) (r .taken + 4) input bytes)
 
       its-long : length (s .board) ≡ boardLength cfg
-      unfolding callAt
       its-long =
-          ap (λ (x : BoardCall). length (x .board)) (s .calls)
+          ap length (s .handed)
           ∙ length-take-le (boardLength cfg) (drop (r .taken + 4) input)
           (omega (arith, s .whole, length-drop (r .taken + 4) input))
 

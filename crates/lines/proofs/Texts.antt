@@ -1,5 +1,5 @@
 -- Texts put into a buffer, one after another.
-use Prim.Native.Nat.{ℕ, _+_, _-_, _*_, _/_, _%_, _≤_, _<_}
+use Prim.Native.Nat.{ℕ, zero, suc, _+_, _-_, _*_, _/_, _%_, _≤_, _<_, min}
 use mathlib.Core.Path.{_≡_, refl, sym, ap, ap₂, subst₂, _∙_}
 use mathlib.Core.List.{List, [], _∷_, _++_, append-assoc}
 use native.Mathlib.Omega.{arith}
@@ -10,7 +10,7 @@ use lib.Seq.{drop-drop, length-take-le, set-split, take-at, take-suc}
 use Rattle.laws.specs.Parts.{over}
 use Rattle.laws.proofs.Parts.{over-copied-rest, over-length, over-rest}
 use Rattle.io.specs.Digits.{glyph}
-use Rattle.lines.specs.Line.{hexOf}
+use Rattle.lines.specs.Line.{blank, bytesOf, hexOf}
 use Rattle.lines.specs.inner.Text.{Appended}
 
 -- bytes put behind others that were put there
@@ -102,3 +102,27 @@ hex-put bs start out a i to x y h room ex ey p =
     (ap₂ (λ (g h : ℕ). hexOf (take i bs) ++ (g ∷ h ∷ [])) ex ey ∙ sym (hex-next bs i h))
     (omega arith)
     (joined p (joined (one out to x (omega arith)) (one (set out to x) (to + 1) y (omega (arith, length-set out to x)))))
+
+-- as many of the bytes as a length says
+take-lesser : (n : ℕ) (bs : List ℕ) → take (min n (length bs)) bs ≡ take n bs
+take-lesser zero bs = let e : min zero (length bs) ≡ 0 = omega arith in ap (λ (k : ℕ). take k bs) e
+take-lesser (suc n) [] = let e : min (suc n) 0 ≡ 0 = omega arith in ap (λ (k : ℕ). take {A = ℕ} k []) e
+take-lesser (suc n) (b ∷ bs) =
+    let e : min (suc n) (length (b ∷ bs)) ≡ suc (min n (length bs)) = omega arith in
+    ap (λ (k : ℕ). take k (b ∷ bs)) e ∙ ap (λ (l : List ℕ). b ∷ l) (take-lesser n bs)
+
+-- they are none
+pub none-shown : (n : ℕ) (bs : List ℕ) → min n (length bs) ≡ 0 → [] ≡ bytesOf (take n bs)
+unfolding bytesOf
+none-shown n bs e = sym (ap bytesOf (sym (take-lesser n bs) ∙ ap (λ (k : ℕ). take k bs) e))
+
+-- they are some
+some-bytes : (bs : List ℕ) → (length bs ≡ 0 → ⊥) → blank ++ hexOf bs ≡ bytesOf bs
+unfolding bytesOf
+some-bytes [] h = absurd (h refl)
+some-bytes (b ∷ bs) h = refl
+
+pub some-shown : (n end : ℕ) (bs : List ℕ) → end ≡ min n (length bs) → (end ≡ 0 → ⊥) → blank ++ hexOf (take end bs) ≡ bytesOf (take n bs)
+some-shown n end bs e h =
+    some-bytes (take end bs) (λ none. h (sym (length-take-le end bs (omega (arith, e))) ∙ none))
+    ∙ ap (λ (k : ℕ). bytesOf (take k bs)) e ∙ ap bytesOf (take-lesser n bs)

@@ -4,9 +4,10 @@ use Prim.Native.Nat.{ℕ, zero, suc, _/_, _%_}
 use mathlib.Core.Bool.{cond}
 use mathlib.Core.List.{List, [], _∷_, _++_}
 use lib.Dec.{ltb}
+use lib.ListN.{take}
 use Rattle.tag.specs.declared.Tag.{Tag}
 use Rattle.protocol.specs.Board.{refused, nothingEnded, writtenBy, spentBy, readBy}
-use Rattle.protocol.specs.Boards.{BoardAnswer}
+use Rattle.protocol.specs.Boards.{Board, BoardAnswer}
 use Rattle.io.specs.Digits.{glyph}
 
 -- the decimal digits of a number that has at most so many
@@ -37,9 +38,14 @@ tagOf t = blank ++ decimalOf (t .number) ++ blank ++ decimalOf (t .client)
 unfoldable pub writtenOf : Tag → List ℕ
 writtenOf t = (32 ∷ 119 ∷ 114 ∷ 105 ∷ 116 ∷ 116 ∷ 101 ∷ 110 ∷ []) ++ tagOf t ++ newline
 
--- " read Z C" and the board
-unfoldable pub shownOf : Tag → List ℕ → List ℕ
-shownOf t board = (32 ∷ 114 ∷ 101 ∷ 97 ∷ 100 ∷ []) ++ tagOf t ++ blank ++ hexOf board ++ newline
+-- a blank and bytes; "a read of length 0 prints only its tag"
+unfoldable pub bytesOf : List ℕ → List ℕ
+bytesOf [] = []
+bytesOf (b ∷ bs) = blank ++ hexOf (b ∷ bs)
+
+-- " read Z C" and the board, as many bytes as it is long
+unfoldable pub shownOf : Tag → Board → List ℕ
+shownOf t board = (32 ∷ 114 ∷ 101 ∷ 97 ∷ 100 ∷ []) ++ tagOf t ++ bytesOf (take (board .length) (board .bytes)) ++ newline
 
 -- " no" and the number
 unfoldable pub refusedOf : ℕ → List ℕ

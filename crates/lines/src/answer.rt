@@ -2,10 +2,11 @@
 use super::text;
 use parties::Answer;
 use tag::Tag;
-ghost use Prim.Native.Nat.{_+_, _*_, _≤_};
-ghost use lib.ListN.{length};
+ghost use Prim.Native.Nat.{_+_, _*_, _≤_, min};
+ghost use mathlib.Core.Path.{_≡_};
+ghost use lib.ListN.{length, take};
 ghost use Rattle.parties.specs.Acts.{answerOf};
-ghost use Rattle.lines.specs.Line.{lineOf, refusedOf, saidOf, shownOf, tagOf, writtenOf};
+ghost use Rattle.lines.specs.Line.{bytesOf, lineOf, refusedOf, saidOf, shownOf, tagOf, writtenOf};
 ghost use Rattle.lines.specs.inner.Text.{Appended};
 
 // A tag, with a blank before each part.
@@ -29,15 +30,34 @@ fn written(tag: Tag, out: &mut [u8], at: usize) -> usize
     text::word(b"\n", out, end)
 }
 
+// The lesser of two numbers.
+fn lesser(a: usize, b: usize) -> usize
+    ensures { λ r. ⌜ r ≡ min a b ⌝ }
+{
+    if a < b { a } else { b }
+}
+
+// A blank and the bytes read, as many as the length says; nothing of none.
+fn board(long: u16, read: &[u8], out: &mut [u8], at: usize) -> usize
+    requires { ⌜ at + (1 + 2 * length (now read)) ≤ length (now out) ⌝ }
+    ensures { λ r. ⌜ Appended (now (out .entry)) at (bytesOf (take long (now (read .entry)))) (now (out .exit)) r × (r ≤ at + (1 + 2 * length (now (read .entry)))) ⌝ }
+{
+    let end = lesser(long as usize, read.len());
+    if end == 0 {
+        return at;
+    }
+    let digits = text::word(b" ", out, at);
+    text::hex(&read[..end], out, digits)
+}
+
 // A read that ended.
-fn shown(tag: Tag, read: &[u8], out: &mut [u8], at: usize) -> usize
+fn shown(tag: Tag, long: u16, read: &[u8], out: &mut [u8], at: usize) -> usize
     requires { ⌜ at + (64 + 2 * length (now read)) ≤ length (now out) ⌝ }
-    ensures { λ r. ⌜ Appended (now (out .entry)) at (shownOf tag (now (read .entry))) (now (out .exit)) r × (r ≤ at + (64 + 2 * length (now (read .entry)))) ⌝ }
+    ensures { λ r. ⌜ Appended (now (out .entry)) at (shownOf tag (record { length = long; bytes = now (read .entry) })) (now (out .exit)) r × (r ≤ at + (64 + 2 * length (now (read .entry)))) ⌝ }
 {
     let after = text::word(b" read", out, at);
-    let blank = tagged(tag, out, after);
-    let board = text::word(b" ", out, blank);
-    let end = text::hex(read, out, board);
+    let bytes = tagged(tag, out, after);
+    let end = board(long, read, out, bytes);
     text::word(b"\n", out, end)
 }
 
@@ -60,12 +80,16 @@ fn said(answer: Answer, read: &[u8], out: &mut [u8], at: usize) -> usize
         Answer::Nothing => text::word(b" ok\n", out, at),
         Answer::Written { client: _, tag } => written(tag, out, at),
         Answer::Spent { client: _ } => text::word(b" spent\n", out, at),
-        Answer::Read { client: _, tag } => shown(tag, read, out, at),
+        Answer::Read {
+            client: _,
+            tag,
+            length,
+        } => shown(tag, length, read, out, at),
         Answer::No(why) => refused(why.number(), out, at),
     }
 }
 
-// Puts an event's line into a buffer from a place on, and answers the place after it. The board of a read is the bytes read.
+// Puts an event's line into a buffer from a place on, and answers the place after it. The board of a read is as many of the bytes read as its length says.
 pub(crate) fn line(count: u64, answer: Answer, read: &[u8], out: &mut [u8], at: usize) -> usize
     requires { ⌜ at + (84 + 2 * length (now read)) ≤ length (now out) ⌝ }
     ensures { λ r. ⌜ Appended (now (out .entry)) at (lineOf count (answerOf answer (now (read .entry)))) (now (out .exit)) r × (r ≤ at + (84 + 2 * length (now (read .entry)))) ⌝ }

@@ -1,35 +1,38 @@
-// An event as a record of bytes: its code, party and position, 2 bytes, and its board. All that knows the record's form stands here.
+// An event as a record of bytes: its code, party and position, 2 bytes, its board, and its length, 2 bytes. All that knows the record's form
+// stands here.
 use events::Call;
-ghost use Prim.Native.Nat.{ℕ, _+_, _≤_};
+ghost use Prim.Native.Nat.{_+_, _≤_};
 ghost use mathlib.Core.Path.{_≡_};
 ghost use lib.ListN.{length};
 ghost use Rattle.events.specs.Calls.{called as calledWith};
-ghost use Rattle.lines.specs.Event.{boardAt, callAt, eventLength};
+ghost use Rattle.lines.specs.Event.{bytesAt, callAt, eventLength};
 
 // The bytes of a record with a board of v bytes.
 pub(crate) fn size(v: usize) -> usize
     requires { ⌜ v ≤ 1024 ⌝ }
     ensures { λ r. ⌜ r ≡ eventLength v ⌝ }
 {
-    4 + v
+    6 + v
 }
 
 // What the record at a place calls.
-pub(crate) fn called(at: usize, input: &[u8]) -> Call
-    requires { ⌜ at + 4 ≤ length (now input) ⌝ }
-    ensures { λ r. ⌜ ((v : ℕ) → calledWith r (boardAt v at (now (input .entry))) ≡ callAt v at (now (input .entry))) ⌝ }
+pub(crate) fn called(at: usize, v: usize, input: &[u8]) -> Call
+    requires { ⌜ at + eventLength v ≤ length (now input) ⌝ }
+    ensures { λ r. ⌜ calledWith r (bytesAt v at (now (input .entry))) ≡ callAt v at (now (input .entry)) ⌝ }
 {
+    let end = at + 4 + v;
     Call {
         code: input[at],
         party: input[at + 1],
         position: super::little(input[at + 2], input[at + 3]),
+        length: super::little(input[end], input[end + 1]) as u16,
     }
 }
 
-// Its board.
+// The bytes of its board.
 pub(crate) fn board(at: usize, v: usize, input: &[u8]) -> &[u8]
     requires { ⌜ at + eventLength v ≤ length (now input) ⌝ }
-    ensures { λ r. ⌜ now r ≡ boardAt v at (now (input .entry)) ⌝ }
+    ensures { λ r. ⌜ now r ≡ bytesAt v at (now (input .entry)) ⌝ }
 {
     let from = at + 4;
     let to = from + v;

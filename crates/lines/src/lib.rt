@@ -17,7 +17,8 @@ ghost use Rattle.config.specs.Lengths.{lengthsOf};
 ghost use Rattle.config.specs.Questions.{firstNo};
 ghost use Rattle.events.specs.View.{lent};
 ghost use Rattle.lines.specs.Block.{BlockPost, lineRoom};
-ghost use Rattle.lines.specs.Event.{eventLength, littleOf};
+ghost use Rattle.record.specs.Record.{littleTwo};
+ghost use Rattle.lines.specs.Event.{eventLength};
 
 // What running a block leaves: the rig, the count of the next event, how many bytes of the input were taken, and how many of the output
 // are in use.
@@ -52,7 +53,7 @@ pub fn block(
     let mut taken = 0;
     let mut used = 0;
     while goes_on(input.len(), taken, size, used, starts) {
-        let call = event::called(taken, input);
+        let call = event::called(taken, v, input);
         let places = events::names(cfg, rig.count, call, messages);
         let s = places.server;
         let c = places.client;
@@ -90,7 +91,7 @@ pub fn block(
     }
 }
 
-// The bytes of an event's record; 4 where the configuration is refused.
+// The bytes of an event's record; 6 where the configuration is refused.
 pub fn event_length(cfg: Config, m: usize) -> usize
     ensures { λ r. ⌜ r ≡ eventLength (lengthsOf cfg m .board) ⌝ }
 {
@@ -132,7 +133,7 @@ fn goes_on(long: usize, taken: usize, size: usize, used: usize, starts: usize) -
 
 // A number of two bytes, the low one first.
 pub fn little(low: u8, high: u8) -> usize
-    ensures { λ r. ⌜ r ≡ littleOf low high ⌝ }
+    ensures { λ r. ⌜ r ≡ littleTwo low high ⌝ }
 {
     low as usize + 256 * high as usize
 }

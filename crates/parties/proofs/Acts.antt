@@ -86,14 +86,14 @@ unfolding protocol.answerOf
 its-answer me Nothing read = refl
 its-answer me (Written t) read = refl
 its-answer me Spent read = refl
-its-answer me (Read t) read = refl
+its-answer me (Read t length) read = refl
 
 -- the lent board stays but where a read ends
 pub not-read : (me : Client) (e : Ended) (read read′ : List ℕ) → isRead (endedBy me e) ≡ false → shown (endedOf e read′) read ≡ read
 not-read me Nothing read read′ h = refl
 not-read me (Written t) read read′ h = refl
 not-read me Spent read read′ h = refl
-not-read me (Read t) read read′ h = absurd (true≢false h)
+not-read me (Read t length) read read′ h = absurd (true≢false h)
 
 -- A client's move: `move` is the protocol's, y the code's, by the number of the first question that is answered no.
 module _ (cfg : Config) (number : ℕ) (act : BoardParties → BoardActed) (x : Pair) (l l′ : Parts) (sends sends′ read read′ : List ℕ) (move : BoardMoved) (y : Moved) where

@@ -19,7 +19,7 @@ use Rattle.client.specs.declared.Moved.{Moved}
 use Rattle.client.specs.Calls.{CrashPost, inPhase}
 use Rattle.client.specs.Questions.{crashQuestions}
 use Rattle.client.specs.State as clientView
-use Rattle.client.specs.State.{phaseOf, phaseWithin, stateWithin}
+use Rattle.client.specs.State.{lengthsWithin, phaseOf, phaseWithin, stateWithin}
 use Rattle.protocol.specs.Board.{nothingEnded}
 use Rattle.protocol.specs.Parties.{quiet}
 use Rattle.protocol.proofs.Pairs.{crash-client-pair, crash-server-pair}
@@ -29,6 +29,7 @@ use Rattle.parties.specs.Acts.{ActPost, Parts, crashesClient, crashesSer
 use Rattle.parties.specs.inner.Acted.{endedBy, movedOn, quietly, refusing}
 use Rattle.parties.proofs.Acts.{accepted-act, refused-act}
 use Rattle.parties.proofs.Sound.{sound-none}
+use Rattle.client.proofs.Phases.{self-in}
 use Rattle.client.specs.Send.{recordsOf}
 
 -- the pair with its server down, and with its client down
@@ -37,7 +38,7 @@ serverDown x = record { node = record { state = x .node .state; up = false }; cl
 
 abbrev pub clientDown : Pair → Pair
 clientDown x =
-    record { node = x .node; client = record { me = x .client .me; operation = x .client .operation; phase = Phase.Down } }
+    record { node = x .node; client = inPhase (x .client) Phase.Down }
 
 module _ (cfg : Config) (x : Pair) (l : Parts) (sends read : List ℕ) where
   server-crashed-is : x .node .up ≡ true → ActPost cfg (firstNo (ask 9 (x .node .up) ∷ [])) (crashesServer x) x l sends read (quietly (serverDown x)) l sends read
@@ -57,7 +58,7 @@ module _ (cfg : Config) (x : Pair) (l : Parts) (sends read : List ℕ) where
   number = firstNo (crashQuestions cfg (x .client))
 
   client-down : number ≡ 0 → ActPost cfg number (crashesClient x) x l sends read (quietly (clientDown x)) l sends read
-  unfolding quiet recordsOf firstNo clientView.view phaseOf stateWithin phaseWithin
+  unfolding quiet recordsOf firstNo clientView.view phaseOf stateWithin phaseWithin lengthsWithin
   client-down none =
       accepted-act cfg number (crashesClient x) x l sends read none (quietly (clientDown x)) l sends read [] nothingEnded
       (λ p. crash-client-pair p (serverNumber (x .node .state .me)) (serverView.view cfg (x .node .state) (l .store)) (x .node .up)
@@ -65,8 +66,7 @@ module _ (cfg : Config) (x : Pair) (l : Parts) (sends read : List ℕ) where
       refl refl refl sound-none (λ _. refl) (refl, refl)
       (λ h _. rw (
         and-left (serverStateWithin cfg (x .node .state)) (stateWithin cfg (x .client)) h,
-        and-left (within 1 (cfg .c) (clientNumber (x .client .me))) (phaseWithin cfg (x .client .phase))
-            (and-right (serverStateWithin cfg (x .node .state)) (stateWithin cfg (x .client)) h),
+        self-in cfg (x .client) (and-right (serverStateWithin cfg (x .node .state)) (stateWithin cfg (x .client)) h),
       ))
       (refl, refl, refl)
 

@@ -2,19 +2,19 @@
 -- they do keeps it there. In order: what is within the limits; what a message of the configuration says; a client; a server; the parties;
 -- the states of question 6. Assumes nothing.
 use Prim.Native.Nat.{ℕ, zero, suc, _+_, _*_, _≤_, _<_}
-use mathlib.Core.Path.{_≡_, refl, sym, ap, subst, _∙_}
-use mathlib.Core.Bool.{Bool, true, cond, not, _&&_, _||_}
+use mathlib.Core.Path.{_≡_, refl, sym, ap, ap₂, subst, _∙_}
+use mathlib.Core.Bool.{Bool, true, false, cond, not, _&&_, _||_}
 use mathlib.Core.Option.{Option, none, some}
 use mathlib.Core.List.{List, [], _∷_, _++_}
 use native.Mathlib.Nat.{mul-le-mul-right}
 use native.Mathlib.Omega.{arith}
 use borrow.Author.Tests.{eq-eqb, ne-eqb, eqb-true, le-leb, leb-true, ltb-true}
-use lib.Dec.{eqb, ltb}
-use lib.ListN.{length, getD, drop, length-drop}
+use lib.Dec.{eqb, leb, ltb}
+use lib.ListN.{length, getD, take, drop, length-drop}
 use lib.Seq.{length-take-le}
 use Rattle.laws.proofs.Bools.{and-left, and-right}
 use Rattle.config.specs.declared.Config.{Config}
-use Rattle.config.specs.Config.{Valid, storeLength}
+use Rattle.config.specs.Config.{Valid, boardLength, storeLength}
 use Rattle.config.specs.Number.{clientNumber}
 use Rattle.config.specs.Questions.{within}
 use Rattle.config.proofs.Questions.{within-true}
@@ -22,25 +22,26 @@ use Rattle.tag.specs.declared.Tag.{Tag}
 use Rattle.tag.specs.Tag.{allowed, key, start}
 use Rattle.tag.proofs.Order.{allowed-client, key-one}
 use Rattle.code.specs.Element.{element}
-use Rattle.code.specs.Decoded.{decodedPairs}
 use Rattle.code.proofs.Decoding.{length-element}
 use Rattle.record.specs.declared.Kind.{Kind}
 use Rattle.record.specs.declared.Kind.the-variants.{Query, QueryAnswer, PreWrite, PreWriteAnswer, WriteFinalise, WriteFinaliseAnswer, ReadFinalise, ReadFinaliseAnswer}
 use Rattle.record.specs.Kinds.{isForServer}
+use Rattle.record.specs.Element.{Element}
 use Rattle.record.specs.Record.{all, highestNumber, isPresent, kindNumber, messageClauses, ofConfig, ownTag, presence, queryTag, sized}
 use Rattle.record.proofs.Clauses.{all-at}
 use Rattle.server.specs.declared.State as serverState
-use Rattle.server.specs.Within.{every, stateWithin as serverStateWithin}
+use Rattle.server.specs.Within.{every, lengthsWithin as lengthsIn, stateWithin as serverStateWithin}
 use Rattle.server.specs.View as serverView
-use Rattle.server.specs.View.{each, placeAt, tagAt}
-use Rattle.server.proofs.Limits.{state-allowed, state-count, state-highest}
+use Rattle.server.specs.View.{each, placeAt, storedLength, tagAt}
+use Rattle.server.proofs.Limits.{state-allowed, state-count, state-highest, state-lengths}
 use Rattle.client.specs.declared.Phase.{Phase}
 use Rattle.client.specs.declared.Phase.the-variants.{Idle, Asking, PreWriting, FinalisingWrite, FinalisingRead, Down}
 use Rattle.client.specs.declared.State as clientState
 use Rattle.client.specs.Servers.{withinServers}
 use Rattle.client.specs.State as clientView
-use Rattle.client.specs.State.{phaseOf, phaseWithin, stateWithin, tagWithin}
-use Rattle.protocol.specs.Boards.{Board, BoardActed, BoardClient, BoardEnded, BoardMessage, BoardMoved, BoardParties, BoardPhase, BoardServer, BoardStored, Element, begin, beginClient, clientStep, deliver, freshParties, serverStep}
+use Rattle.client.specs.State.{Slots, lengthsWithin, phaseOf, phaseWithin, slots, stateWithin, tagWithin, toWrite}
+use Rattle.client.proofs.Phases.{lengths-in, phase-in}
+use Rattle.protocol.specs.Boards.{Board, BoardActed, BoardClient, BoardEnded, BoardMessage, BoardMoved, BoardParties, BoardPhase, BoardServer, BoardStored, begin, beginClient, clientStep, decode, deliver, encode, freshParties, serverStep}
 use Rattle.protocol.specs.Client as client
 use Rattle.protocol.specs.Client.{idle, asking, preWriting, finalisingWrite, finalisingRead, down, asked, awaited, awaits, counting, ends, enough, enoughToRead, isFirst, nextTag, sendEach, sendPreWrites, sendReadFinalises, sendWriteFinalises, settling, stays}
 use Rattle.protocol.specs.Number.{nothingYet, toList}
@@ -59,18 +60,23 @@ use Rattle.parties.proofs.Sound.{sound-none, sound-one, sound-toEach}
 abbrev pub TagFits : Config → Tag → Type 0
 TagFits cfg t = (allowed (cfg .c) t ≡ true) × (t .number ≤ highestNumber)
 
--- a client's tag is one
+-- the length of a board to write, if there is one, is at most V
+abbrev pub BoardFits : Config → Option Board → Type 0
+BoardFits cfg none = Unit {0}
+BoardFits cfg (some v) = v .length ≤ boardLength cfg
+
+-- a client's tag is one, and its board's length fits
 unfoldable pub PhaseFits : Config → BoardPhase → Type 0
 PhaseFits cfg idle = Unit {0}
-PhaseFits cfg (asking b t cs) = TagFits cfg t
+PhaseFits cfg (asking b t cs) = TagFits cfg t × BoardFits cfg b
 PhaseFits cfg (preWriting t cs) = TagFits cfg t
 PhaseFits cfg (finalisingWrite t cs) = TagFits cfg t
 PhaseFits cfg (finalisingRead t cs es) = TagFits cfg t
 PhaseFits cfg down = Unit {0}
 
--- a stored tag is one, and its element has E bytes
+-- a stored tag is one, and its element has E bytes and a length of at most V
 abbrev pub StoredFits : Config → BoardStored → Type 0
-StoredFits cfg x = TagFits cfg (x .tag) × (length (x .element) ≡ cfg .e)
+StoredFits cfg x = TagFits cfg (x .tag) × (sized cfg (some (x .element)) ≡ true)
 
 -- a server's stored tags are
 unfoldable pub StoreFits : Config → List BoardStored → Type 0
@@ -144,6 +150,11 @@ unfolding ofConfig all messageClauses
 is-of cfg kind c s o t e ho hc hs ht he q w p =
     rw (ho, le-leb (t .number) highestNumber (ht .1), he, q, w, p, hc, hs, ht .0)
 
+-- an element of a board whose length fits
+encoded-sized : (cfg : Config) (v : Board) → v .length ≤ boardLength cfg → (s : ℕ) → sized cfg (some (encode cfg v s)) ≡ true
+encoded-sized cfg v fits s =
+    ap₂ _&&_ (eq-eqb (length (element cfg (v .bytes) s)) (cfg .e) (length-element cfg (v .bytes) s)) (le-leb (v .length) (boardLength cfg) fits)
+
 -- ---- a client
 
 -- what its move leaves fits, and so does what it sends
@@ -174,13 +185,13 @@ module _ (cfg : Config) (c : ℕ) (own : within 1 (cfg .c) c ≡ true) (o : ℕ)
       let some-number : t .number + 1 ≡ 0 → ⊥ = λ e. omega (arith, e) in
       (rw (ne-eqb (t .number + 1) 0 some-number) own, omega (arith, h))
 
-  pre-writes-fit : (v : Board) (t : Tag) → t .number < highestNumber → MovedFits cfg (sendPreWrites (element cfg) cfg c o v (nextTag t c))
+  pre-writes-fit : (v : Board) → v .length ≤ boardLength cfg → (t : Tag) → t .number < highestNumber
+      → MovedFits cfg (sendPreWrites (encode cfg) cfg c o v (nextTag t c))
   unfolding sendPreWrites PhaseFits nextTag
-  pre-writes-fit v t h =
+  pre-writes-fit v fits t h =
       record {
         sends =
-            each-sound PreWrite (nextTag t c) (λ s. some (element cfg v s)) (next-fits t h)
-            (λ s. eq-eqb (length (element cfg v s)) (cfg .e) (length-element cfg v s)) refl (eq-eqb c c refl) (λ s. refl);
+            each-sound PreWrite (nextTag t c) (λ s. some (encode cfg v s)) (next-fits t h) (encoded-sized cfg v fits) refl (eq-eqb c c refl) (λ s. refl);
         phase = next-fits t h;
       }
 
@@ -188,12 +199,12 @@ module _ (cfg : Config) (c : ℕ) (own : within 1 (cfg .c) c ≡ true) (o : ℕ)
   unfolding sendReadFinalises PhaseFits
   reads-fit t h = record { sends = each-sound ReadFinalise t nothingYet h (λ s. refl) refl refl (λ s. refl); phase = h }
 
-  asked-fits : (b : Option Board) (t : Tag) → TagFits cfg t → MovedFits cfg (asked (element cfg) cfg c o b t)
+  asked-fits : (b : Option Board) → BoardFits cfg b → (t : Tag) → TagFits cfg t → MovedFits cfg (asked (encode cfg) cfg c o b t)
   unfolding asked
-  asked-fits none t h = reads-fit t h
-  asked-fits (some v) t h =
-      cond-elim (MovedFits cfg) (ltb (t .number) highestNumber) (sendPreWrites (element cfg) cfg c o v (nextTag t c)) (ends o client.spent)
-      (λ e. pre-writes-fit v t (ltb-true (t .number) highestNumber e)) (λ _. ends-fits cfg o client.spent)
+  asked-fits none fits t h = reads-fit t h
+  asked-fits (some v) fits t h =
+      cond-elim (MovedFits cfg) (ltb (t .number) highestNumber) (sendPreWrites (encode cfg) cfg c o v (nextTag t c)) (ends o client.spent)
+      (λ e. pre-writes-fit v fits t (ltb-true (t .number) highestNumber e)) (λ _. ends-fits cfg o client.spent)
 
   writes-fit : (t : Tag) → TagFits cfg t → t .client ≡ c → MovedFits cfg (sendWriteFinalises cfg c o t)
   unfolding sendWriteFinalises PhaseFits
@@ -212,12 +223,12 @@ module _ (cfg : Config) (c : ℕ) (own : within 1 (cfg .c) c ≡ true) (o : ℕ)
         sym (ap (λ u. u .client) one) ∙ eqb-true (m .tag .client) (m .client) own ∙ mine
 
     settled-fits : (p : BoardPhase) → PhaseFits cfg p → awaits key p m ≡ true
-        → MovedFits cfg (settling (element cfg) (decodedPairs cfg) cfg c o (counting key p m))
+        → MovedFits cfg (settling (encode cfg) (decode cfg) cfg c o (counting key p m))
     unfolding settling counting PhaseFits awaits client.endRead
     settled-fits idle h a = stays-fits cfg _ tt
     settled-fits (asking b t cs) h a =
-        let f = higher-fits cfg t (m .tag) h (message-fits cfg m good) in
-        cond-elim (MovedFits cfg) (enough cfg _) _ _ (λ _. asked-fits b (higher key t (m .tag)) f) (λ _. stays-fits cfg _ f)
+        let f = higher-fits cfg t (m .tag) (h .0) (message-fits cfg m good) in
+        cond-elim (MovedFits cfg) (enough cfg _) _ _ (λ _. asked-fits b (h .1) (higher key t (m .tag)) f) (λ _. stays-fits cfg _ (f, h .1))
     settled-fits (preWriting t cs) h a =
         cond-elim (MovedFits cfg) (enough cfg _) _ _ (λ _. writes-fit t h (own-tag t cs h a)) (λ _. stays-fits cfg _ h)
     settled-fits (finalisingWrite t cs) h a = cond-elim (MovedFits cfg) (enough cfg _) _ _ (λ _. ends-fits cfg o _) (λ _. stays-fits cfg _ h)
@@ -227,14 +238,15 @@ module _ (cfg : Config) (c : ℕ) (own : within 1 (cfg .c) c ≡ true) (o : ℕ)
 
 module _ (cfg : Config) (c : ℕ) (own : within 1 (cfg .c) c ≡ true) (x : BoardClient) where
   -- it begins
-  pub begun-fits : x .operation < highestNumber → (board : Option Board) → MovedFits cfg (beginClient cfg c x board)
-  unfolding client.beginClient PhaseFits
-  begun-fits h board =
+  pub begun-sound : x .operation < highestNumber → (board : Option Board) → Sound cfg (beginClient cfg c x board .sends)
+  unfolding client.beginClient
+  begun-sound h board =
       let next = within-true 1 highestNumber (x .operation + 1) (omega arith) (omega (arith, h)) in
-      record {
-        sends = each-sound cfg c own (x .operation + 1) next Query start nothingYet (start-fits cfg) (λ s. refl) refl refl (λ s. refl);
-        phase = start-fits cfg;
-      }
+      each-sound cfg c own (x .operation + 1) next Query start nothingYet (start-fits cfg) (λ s. refl) refl refl (λ s. refl)
+
+  begun-fits : x .operation < highestNumber → (board : Option Board) → BoardFits cfg board → MovedFits cfg (beginClient cfg c x board)
+  unfolding client.beginClient PhaseFits
+  begun-fits h board fits = record { sends = begun-sound h board; phase = (start-fits cfg, fits) }
 
   -- it is handed an answer
   pub step-fits : Valid cfg → PhaseFits cfg (x .phase) → (m : BoardMessage) → ofConfig cfg m ≡ true → m .client ≡ c
@@ -242,7 +254,7 @@ module _ (cfg : Config) (c : ℕ) (own : within 1 (cfg .c) c ≡ true) (x : Boar
   unfolding client.clientStep client.settle client.counted awaited
   step-fits valid fits m good mine =
       cond-elim (MovedFits cfg) (awaited key x m)
-      (settling (element cfg) (decodedPairs cfg) cfg c (x .operation) (counting key (x .phase) m)) (stays x)
+      (settling (encode cfg) (decode cfg) cfg c (x .operation) (counting key (x .phase) m)) (stays x)
       (λ a.
       let same = eqb-true (m .operation) (x .operation) (and-left (eqb (m .operation) (x .operation)) (awaits key (x .phase) m) a) in
       settled-fits cfg c own (x .operation) (subst (λ n. within 1 highestNumber n ≡ true) same (operation-within cfg m good)) valid m good mine
@@ -281,19 +293,19 @@ module _ (cfg : Config) where
       → ServerFits cfg (storeElement key (cfg .d) v t e)
   unfolding storeElement
   element-fits v t none h k z = h
-  element-fits v t (some e) h k z = store-fits v (record { tag = t; element = e }) h (k, eqb-true (length e) (cfg .e) z)
+  element-fits v t (some e) h k z = store-fits v (record { tag = t; element = e }) h (k, z)
 
   finalised-fits : (v : BoardServer) (t : Tag) → ServerFits cfg v → TagFits cfg t → ServerFits cfg (finalised key v t)
   unfolding finalised
   finalised-fits v t h k = record { highest = higher-fits cfg (v .highest) t (h .highest) k; stored = h .stored }
 
-  -- a stored element has E bytes
+  -- a stored element has E bytes and a length that fits
   stored-sized : (t : Tag) (xs : List BoardStored) → StoreFits cfg xs → sized cfg (elementOf key t xs) ≡ true
   unfolding StoreFits elementOf
   stored-sized t [] h = refl
   stored-sized t (x ∷ xs) h =
       cond-elim (λ o. sized cfg o ≡ true) (sameKey key (x .tag) t) (some (x .element)) (elementOf key t xs)
-      (λ _. eq-eqb (length (x .element)) (cfg .e) (h .0 .1)) (λ _. stored-sized t xs (h .1))
+      (λ _. h .0 .1) (λ _. stored-sized t xs (h .1))
 
 module _ (cfg : Config) (s : ℕ) (v : BoardServer) (fits : ServerFits cfg v) (m : BoardMessage) (good : ofConfig cfg m ≡ true) (mine : m .server ≡ s) where
   -- an answer that carries a tag and an element within the limits
@@ -351,13 +363,13 @@ module _ (cfg : Config) (s : ℕ) (v : BoardServer) (fits : ServerFits cfg v) (m
 -- ---- the parties
 
 module _ (cfg : Config) where
-  pub fresh-fits : (board : Board) → PartiesFit cfg (freshParties cfg board)
+  pub fresh-fits : (board : Board) → board .length ≤ boardLength cfg → PartiesFit cfg (freshParties cfg board)
   unfolding parties.freshParties client.freshClient freshServer noServer PhaseFits StoreFits
-  fresh-fits board =
+  fresh-fits board fits =
       record {
         servers = λ s.
-            cond-elim (ServerFits cfg) (within 1 (cfg .n) s) (freshServer (element cfg board s)) noServer
-            (λ _. record { highest = start-fits cfg; stored = ((start-fits cfg, length-element cfg board s), tt) })
+            cond-elim (ServerFits cfg) (within 1 (cfg .n) s) (freshServer (encode cfg board s)) noServer
+            (λ _. record { highest = start-fits cfg; stored = ((start-fits cfg, encoded-sized cfg board fits s), tt) })
             (λ _. record { highest = start-fits cfg; stored = tt });
         clients = λ c. tt;
       }
@@ -380,9 +392,9 @@ module _ (cfg : Config) (p : BoardParties) (fits : PartiesFit cfg p) where
       }
 
   pub begin-fits : (c : ℕ) → within 1 (cfg .c) c ≡ true → p .clients c .operation < highestNumber → (board : Option Board)
-      → ActedFits cfg (begin cfg p c board)
+      → BoardFits cfg board → ActedFits cfg (begin cfg p c board)
   unfolding parties.begin
-  begin-fits c own h board = client-acts-fits c (beginClient cfg c (p .clients c) board) (begun-fits cfg c own (p .clients c) h board)
+  begin-fits c own h board fits = client-acts-fits c (beginClient cfg c (p .clients c) board) (begun-fits cfg c own (p .clients c) h board fits)
 
   module _ (valid : Valid cfg) (m : BoardMessage) (good : ofConfig cfg m ≡ true) where
     to-server-fits : ActedFits cfg (serverActs p (m .server) (serverStep cfg (m .server) (p .servers (m .server)) m))
@@ -439,43 +451,52 @@ module _ (cfg : Config) where
   tag-fits : (t : Tag) (counted : ℕ) → tagWithin cfg t counted ≡ true → t .number ≤ highestNumber → TagFits cfg t
   tag-fits t counted h n = (and-left (allowed (cfg .c) t) (withinServers (cfg .n) counted) h, n)
 
-  phase-fits : (p : Phase) (kept es : List ℕ) → phaseWithin cfg p ≡ true → NumberedPhase p → PhaseFits cfg (phaseOf cfg p kept es)
-  unfolding NumberedPhase PhaseFits phaseOf phaseWithin
-  phase-fits Idle kept es h n = tt
-  phase-fits (Asking writes best counted) kept es h n = tag-fits best counted h n
-  phase-fits (PreWriting tag counted) kept es h n = tag-fits tag counted h n
-  phase-fits (FinalisingWrite tag counted) kept es h n = tag-fits tag counted h n
-  phase-fits (FinalisingRead tag counted sent) kept es h n =
+  board-fits : (writes : Bool) (v : Board) → cond writes (leb (v .length) (boardLength cfg)) true ≡ true → BoardFits cfg (cond writes (some v) none)
+  board-fits true v h = leb-true (v .length) (boardLength cfg) h
+  board-fits false v h = tt
+
+  phase-fits : (p : Phase) (v : Board) (es : Slots) → phaseWithin cfg p ≡ true → lengthsWithin cfg p (v .length) (es .lengths) ≡ true → NumberedPhase p
+      → PhaseFits cfg (phaseOf cfg p v es)
+  unfolding NumberedPhase PhaseFits phaseOf phaseWithin lengthsWithin
+  phase-fits Idle v es h l n = tt
+  phase-fits (Asking writes best counted) v es h l n = (tag-fits best counted h n, board-fits writes v l)
+  phase-fits (PreWriting tag counted) v es h l n = tag-fits tag counted h n
+  phase-fits (FinalisingWrite tag counted) v es h l n = tag-fits tag counted h n
+  phase-fits (FinalisingRead tag counted sent) v es h l n =
       tag-fits tag counted (and-left (tagWithin cfg tag counted) (withinServers (cfg .n) sent) h) n
-  phase-fits Down kept es h n = tt
+  phase-fits Down v es h l n = tt
 
   -- a client of which question 6 is answered yes
   pub client-seen-fits : (x : clientState.State) (kept es : List ℕ) → stateWithin cfg x ≡ true → NumberedPhase (x .phase)
       → PhaseFits cfg (clientView.view cfg x kept es .phase)
-  unfolding clientView.view stateWithin
-  client-seen-fits x kept es h n =
-      phase-fits (x .phase) kept es (and-right (within 1 (cfg .c) (clientNumber (x .me))) (phaseWithin cfg (x .phase)) h) n
+  unfolding clientView.view
+  client-seen-fits x kept es h n = phase-fits (x .phase) (toWrite x kept) (slots x es) (phase-in cfg x h) (lengths-in cfg x h) n
 
 -- the numbers of a server's tags have four bytes
 pub record NumberedServer (x : serverState.State) : Type 0 where
   pub highest : x .highest .number ≤ highestNumber
   pub tags : (j : ℕ) → tagAt (x .tags) j .number ≤ highestNumber
 
-module _ (cfg : Config) (tags : List Tag) (bytes : List ℕ) (numbers : (j : ℕ) → tagAt tags j .number ≤ highestNumber) where
-  places-fit : (i n : ℕ) → every (allowed (cfg .c)) (each (tagAt tags) i n) ≡ true → (i + n) * cfg .e ≤ length bytes
-      → StoreFits cfg (each (placeAt cfg tags bytes) i n)
-  unfolding StoreFits each every
-  places-fit i zero h l = tt
-  places-fit i (suc n) h l =
+module _ (cfg : Config) (tags : List Tag) (lengths bytes : List ℕ) (numbers : (j : ℕ) → tagAt tags j .number ≤ highestNumber) where
+  places-fit : (i n : ℕ) → every (allowed (cfg .c)) (each (tagAt tags) i n) ≡ true → lengthsIn cfg (each (storedLength lengths) i n) ≡ true
+      → (i + n) * cfg .e ≤ length bytes → StoreFits cfg (each (placeAt cfg tags lengths bytes) i n)
+  unfolding StoreFits each every lengthsIn
+  places-fit i zero h f l = tt
+  places-fit i (suc n) h f l =
+      let fits = leb (storedLength lengths i) (boardLength cfg) in
+      let others = every (λ k. leb k (boardLength cfg)) (each (storedLength lengths) (suc i) n) in
       let t = tagAt tags i in
       let rest = every (allowed (cfg .c)) (each (tagAt tags) (suc i) n) in
       let next : suc i + n ≡ i + suc n = omega arith in
       let inside : suc i * cfg .e ≤ (i + suc n) * cfg .e = mul-le-mul-right (cfg .e) (omega arith) in (
         (
           (and-left (allowed (cfg .c) t) rest h, numbers i),
-          length-take-le (cfg .e) (drop (i * cfg .e) bytes) (omega (arith, inside, l, length-drop (i * cfg .e) bytes)),
+          ap₂ _&&_
+              (eq-eqb (length (take (cfg .e) (drop (i * cfg .e) bytes))) (cfg .e)
+              (length-take-le (cfg .e) (drop (i * cfg .e) bytes) (omega (arith, inside, l, length-drop (i * cfg .e) bytes))))
+              (and-left fits others f),
         ),
-        places-fit (suc i) n (and-right (allowed (cfg .c) t) rest h) (subst (λ k. k * cfg .e ≤ length bytes) (sym next) l),
+        places-fit (suc i) n (and-right (allowed (cfg .c) t) rest h) (and-right fits others f) (subst (λ k. k * cfg .e ≤ length bytes) (sym next) l),
       )
 
 -- a server of which question 6 is answered yes, with its store
@@ -488,6 +509,6 @@ server-seen-fits cfg x bytes h long numbered =
     record {
       highest = (state-highest cfg x h, numbered .highest);
       stored =
-          places-fit cfg (x .tags) bytes (numbered .tags) 0 (x .count) (state-allowed cfg x h)
+          places-fit cfg (x .tags) (x .lengths) bytes (numbered .tags) 0 (x .count) (state-allowed cfg x h) (state-lengths cfg x h)
           (subst (λ k. k * cfg .e ≤ length bytes) (sym none-before) (omega (arith, fits, long)));
     }

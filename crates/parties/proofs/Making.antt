@@ -1,6 +1,6 @@
 -- Fresh parties: a server's element is encoded and put into its store; what the questions of a making show. Assumes nothing.
 use Prim.Native.Nat.{ℕ, _≤_, min}
-use mathlib.Core.Path.{_≡_, refl, sym, ap, ap₂, subst, _∙_}
+use mathlib.Core.Path.{_≡_, refl, sym, ap, ap₂, _∙_}
 use mathlib.Core.Bool.{Bool, true, false, cond, _&&_}
 use mathlib.Core.List.{List, [], _∷_}
 use native.Mathlib.Omega.{arith}
@@ -25,6 +25,7 @@ use Rattle.code.specs.Element.{element}
 use Rattle.code.specs.Encode.{EncodePost, encodeQuestions}
 use Rattle.code.proofs.Decoding.{length-element}
 use Rattle.code.proofs.Encodable.{accepted as encode-accepted}
+use Rattle.record.specs.Element.{Element, elementWith}
 use Rattle.server.specs.declared.Stepped.{Stepped}
 use Rattle.server.specs.Calls as server
 use Rattle.server.specs.Within as limits
@@ -32,8 +33,9 @@ use Rattle.server.specs.View as serverView
 use Rattle.server.proofs.Invariant.{fresh-within}
 use Rattle.server.proofs.Laws as serverLaws
 use Rattle.client.specs.declared.NewState.{NewState}
+use Rattle.client.specs.declared.State as client
 use Rattle.client.specs.Calls as clientCalls
-use Rattle.client.specs.State.{phaseWithin, stateWithin}
+use Rattle.client.specs.State.{lengthsWithin, phaseWithin, stateWithin}
 use Rattle.protocol.specs.Server.{freshServer}
 use Rattle.parties.specs.declared.Node.{Node}
 use Rattle.parties.specs.Fresh.{FreshClientPost, FreshServerPost, freshNode, freshState, serverNo, freshServerQuestions}
@@ -82,7 +84,7 @@ module _ (cfg : Config) (s : ℕ) (start store : List ℕ) where
   number-high = firstNo-high (freshServerQuestions cfg s (length start) (length store)) (numbered-both (questions cfg) _ (questions-numbered cfg) refl)
 
   pub server-refused : (got : ℕ) → got ≡ serverNo cfg s start store → (got ≡ 0 → ⊥) → (verdict : Verdict) (x : Node)
-      → verdictNumber verdict ≡ min got lastQuestion → x ≡ freshNode 1 → FreshServerPost cfg s start store store (record { verdict = verdict; node = x })
+      → verdictNumber verdict ≡ min got lastQuestion → x ≡ freshNode 1 1 → FreshServerPost cfg s start store store (record { verdict = verdict; node = x })
   server-refused got e ne verdict x number least =
       record {
         number = number ∙ omega (arith, e, number-high);
@@ -125,19 +127,23 @@ module _ (cfg : Config) (s : ℕ) (start store : List ℕ) (pre : NodePre cfg s 
       ∙ firstNo-yes 6 _ (ask 8 (within 1 (cfg .n) (serverNumber me)) ∷ [])
       (ap₂ _&&_ (eq-eqb (length buffer) (cfg .e) (ap length is ∙ length-element cfg start s)) (eq-eqb (length store) (storeLength cfg) (pre .store-length)))
       ∙ firstNo-yes 8 _ [] (ap (within 1 (cfg .n)) own ∙ pre .inside) in
-      let node : record { state = r .state; up = true } ≡ freshNode s = ap (λ z. record { state = z; up = true }) (post .state) ∙ ap freshNode own in
+      let length : server.freshLength cfg me buffer store ≡ boardLength cfg =
+      ap (λ (b : Bool). cond b (boardLength cfg) 0) (eq-eqb _ 0 (sym (post .number) ∙ accepted)) in
+      let node : record { state = r .state; up = true } ≡ freshNode (boardLength cfg) s =
+      ap (λ z. record { state = z; up = true }) (post .state) ∙ ap₂ freshNode length own in
       record {
         is = node;
-        seen = ap (λ (x : Node). serverView.view cfg (x .state) after) (sym node) ∙ serverLaws.fresh-view cfg me buffer store after r post accepted ∙ ap freshServer is;
+        seen = ap (λ (x : Node). serverView.view cfg (x .state) after) (sym node) ∙ serverLaws.fresh-view cfg me buffer store after r post accepted
+            ∙ ap (λ (bs : List ℕ). freshServer (elementWith (boardLength cfg) bs)) is;
         long = serverLaws.fresh-valid cfg me buffer store after r post accepted .long ∙ sym (pre .store-length);
       }
 
 -- it passes question 6
-pub node-within : (cfg : Config) (s : ℕ) (store : List ℕ) (e : List ℕ) → within 1 (cfg .n) s ≡ true
-    → serverView.view cfg (freshNode s .state) store ≡ freshServer e → limits.stateWithin cfg (freshNode s .state) ≡ true
+pub node-within : (cfg : Config) (s : ℕ) (store : List ℕ) (e : Element) → e .length ≤ boardLength cfg → within 1 (cfg .n) s ≡ true
+    → serverView.view cfg (freshNode (boardLength cfg) s .state) store ≡ freshServer e → limits.stateWithin cfg (freshNode (boardLength cfg) s .state) ≡ true
 unfolding server.freshState
-node-within cfg s store e inside is =
-    serverLaws.within-state cfg (freshNode s .state) store inside (ap (limits.serverWithin cfg) is ∙ fresh-within cfg e)
+node-within cfg s store e fits inside is =
+    serverLaws.within-state cfg (freshNode (boardLength cfg) s .state) store inside (ap (limits.serverWithin cfg) is ∙ fresh-within cfg e fits)
 
 -- client c
 module _ (cfg : Config) (c : ℕ) (valid : Valid cfg) (inside : within 1 (cfg .c) c ≡ true) where
@@ -145,24 +151,26 @@ module _ (cfg : Config) (c : ℕ) (valid : Valid cfg) (inside : within 1 (cfg .c
   unfolding clientQuestions
   client-asked = last-yes (questions cfg) 8 _ (questions-numbered cfg) (valid-asked cfg valid) inside
 
-  pub client-is : (r : NewState) → FreshClientPost cfg c r → r ≡ NewState.Made (freshState c)
+  pub client-is : (r : NewState) → FreshClientPost cfg c r → r .state ≡ freshState c
   client-is r post = post .made client-asked
 
   pub client-within : stateWithin cfg (freshState c) ≡ true
-  unfolding stateWithin phaseWithin
+  unfolding stateWithin phaseWithin lengthsWithin
   client-within = rw inside
 
 -- what its number, made, gives, or what refuses it
-pub client-fresh : (cfg : Config) (c : ℕ) (me : ClientNumber) → clientNumber me ≡ c → (r : NewState) → clientCalls.FreshPost cfg me r → FreshClientPost cfg c r
-client-fresh cfg c me own r post =
+pub client-fresh : (cfg : Config) (c : ℕ) (got : NewClient) → NewClientPost cfg c got → (me : ClientNumber) → got ≡ NewClient.Made me → clientNumber me ≡ c → (r : NewState)
+    → clientCalls.FreshPost cfg me r → FreshClientPost cfg c r
+client-fresh cfg c got asked me is own r post =
+    let none : firstNo (clientQuestions cfg c) ≡ 0 = sym (sym (ap newClientNumber is) ∙ asked .number) in
     record {
       number = post .number ∙ ap (λ n. firstNo (clientQuestions cfg n)) own;
-      made = λ z. post .made (ap (λ n. firstNo (clientQuestions cfg n)) own ∙ z) ∙ ap (λ n. NewState.Made (freshState n)) own;
+      made = λ z. post .state ∙ ap freshState own;
+      refused = λ ne. absurd (ne none);
     }
 
-pub client-refused : (cfg : Config) (c : ℕ) (got : NewClient) (why : Refusal) → NewClientPost cfg c got → got ≡ NewClient.No why → (r : NewState)
-    → r ≡ NewState.No why → FreshClientPost cfg c r
-client-refused cfg c got why post e r is =
+pub client-refused : (cfg : Config) (c : ℕ) (got : NewClient) (why : Refusal) → NewClientPost cfg c got → got ≡ NewClient.No why → (x : client.State)
+    → x ≡ freshState 1 → FreshClientPost cfg c (record { verdict = Verdict.No why; state = x })
+client-refused cfg c got why post e x is =
     let number : refusalNumber why ≡ firstNo (clientQuestions cfg c) = sym (ap newClientNumber e) ∙ post .number in
-    subst (FreshClientPost cfg c) (sym is)
-    (record { number = number; made = λ z. absurd (omega (arith, refusal-low why, number, z)) })
+    record { number = number; made = λ z. absurd (omega (arith, refusal-low why, number, z)); refused = λ _. is }

@@ -9,6 +9,7 @@ use mathlib.Core.List.{List, [], _∷_, _++_, map, List·Memᴰ·head, List·Mem
 use native.Mathlib.Omega.{arith}
 use lib.ListN.{length, getElem?, length-append}
 use Rattle.config.specs.declared.Config.{Config}
+use Rattle.config.specs.Config.{Valid}
 use Rattle.record.specs.Record.{messageOf, ofConfig, recordOf}
 use Rattle.record.proofs.Laws.{reads-back, record-long}
 use Rattle.client.specs.Send.{recordsOf}
@@ -66,6 +67,8 @@ module _ (cfg : Config) (high : cfg .e ≤ 64) where
       more : (n : ℕ) → 80 + 80 * n ≡ 80 * suc n
       more n = omega arith
 
+-- and what is read back
+module _ (cfg : Config) (valid : Valid cfg) where
   pub read-sends : (ms : List BoardMessage) → Sound cfg ms → map (messageOf cfg) (map (recordOf cfg) ms) ≡ ms
   read-sends [] h = refl
-  read-sends (m ∷ ms) h = ap₂ _∷_ (reads-back cfg high m (sound-first h)) (read-sends ms (sound-rest h))
+  read-sends (m ∷ ms) h = ap₂ _∷_ (reads-back cfg valid m (sound-first h)) (read-sends ms (sound-rest h))

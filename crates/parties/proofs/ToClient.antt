@@ -21,10 +21,9 @@ use Rattle.config.proofs.Questions.{firstNo-pass, firstNo-stop, none-first, non
 use Rattle.config.proofs.Valid.{valid}
 use Rattle.tag.specs.declared.Tag.{Tag}
 use Rattle.tag.specs.Tag.{key}
-use Rattle.code.specs.Element.{element}
-use Rattle.code.specs.Decoded.{decodedPairs}
 use Rattle.record.specs.declared.Kind.{Kind}
 use Rattle.record.specs.Kinds.{isForClient, isForServer}
+use Rattle.record.specs.Element.{Element}
 use Rattle.record.specs.Record.{highestNumber, isPresent, kindNumber, messageClauses, messageOf, ofConfig, presence, wellFormed}
 use Rattle.record.proofs.Clauses.{all-at}
 use Rattle.laws.specs.Bytes.{Bytes}
@@ -40,8 +39,9 @@ use Rattle.client.specs.Calls.{StepPost, clientStep, endedOf, shown, unlessNo}
 use Rattle.client.specs.Questions.{callQuestions, isFor, stepQuestions, stepSized}
 use Rattle.client.specs.Send.{front, recordsOf}
 use Rattle.client.specs.State as clientView
-use Rattle.client.specs.State.{lent, phaseWithin, placed, placedAt, stateWithin}
-use Rattle.protocol.specs.Boards.{BoardClient, BoardMessage, BoardMoved, BoardParties, BoardPhase, decode, encode, order}
+use Rattle.client.specs.State.{lent, placed, placedAt, stateWithin}
+use Rattle.client.proofs.Phases.{self-in}
+use Rattle.protocol.specs.Boards.{Board, BoardClient, BoardMessage, BoardMoved, BoardParties, BoardPhase, decode, encode, order}
 use Rattle.protocol.specs.Client as protocol
 use Rattle.protocol.specs.Client.{idle, asking, preWriting, finalisingWrite, finalisingRead, down, asked, awaited, awaits, counted, counting, endRead, ends, enough, enoughToRead, isFirst, nothing, sendPreWrites, sendReadFinalises, sendWriteFinalises, settle, settling, spent, stays}
 use Rattle.protocol.specs.Parties as parties
@@ -58,13 +58,13 @@ use Rattle.parties.proofs.ToServer.{lacks, no-such}
 
 -- ---- a step that sends takes no element and ends nothing
 
-absent : (o : Option (List ℕ)) → not (isPresent o) ≡ true → o ≡ none
+absent : (o : Option Element) → not (isPresent o) ≡ true → o ≡ none
 absent none h = refl
 absent (some e) h = absurd (true≢false (sym h))
 
 module _ (cfg : Config) (c : ℕ) (w : BoardMessage) (of : ofConfig cfg w ≡ true) where
   abbrev step : BoardClient → BoardMoved
-  step x = protocol.clientStep key (element cfg) (decodedPairs cfg) cfg c x w
+  step x = protocol.clientStep key (encode cfg) (decode cfg) cfg c x w
 
   abbrev Bare : BoardMoved → Type 0
   Bare y = (w .element ≡ none) × (y .ended ≡ nothing)
@@ -87,13 +87,13 @@ module _ (cfg : Config) (c : ℕ) (w : BoardMessage) (of : ofConfig cfg w ≡ tr
   abbrev Quiet : BoardMoved → Type 0
   Quiet y = Sends y → y .ended ≡ nothing
 
-  asked-quiet : (o : ℕ) (b : Option (List ℕ)) (t : Tag) → Quiet (asked (element cfg) cfg c o b t)
+  asked-quiet : (o : ℕ) (b : Option Board) (t : Tag) → Quiet (asked (encode cfg) cfg c o b t)
   unfolding asked sendReadFinalises sendPreWrites ends
   asked-quiet o none t s = refl
   asked-quiet o (some v) t s = cond-elim Quiet (ltb (t .number) highestNumber) _ (ends o spent) (λ _ _. refl) (λ _ s. absurd (s refl)) s
 
   abbrev settles : ℕ → BoardPhase → BoardMoved
-  settles o p = settling (element cfg) (decodedPairs cfg) cfg c o p
+  settles o p = settling (encode cfg) (decode cfg) cfg c o p
 
   abbrev Silent : BoardMoved → Type 0
   Silent y = Sends y → ⊥
@@ -206,8 +206,7 @@ module _ (cfg : Config) (x : client.State) (handed kept es sends read : List ℕ
     its-kind = not-server (w .kind) (and-right (eqb (w .client) (clientNumber (x .me))) (isForClient (w .kind)) to-mine)
 
     its-number : within 1 (cfg .c) (clientNumber (x .me)) ≡ true
-    unfolding stateWithin
-    its-number = and-left (within 1 (cfg .c) (clientNumber (x .me))) (phaseWithin cfg (x .phase)) to-within
+    its-number = self-in cfg x to-within
 
 -- ---- what is left
 
@@ -215,7 +214,7 @@ nothing-is : (e : Ended) (read : List ℕ) → endedOf e read ≡ nothing → e 
 nothing-is Nothing read h = refl
 nothing-is (Written t) read h = cc
 nothing-is Spent read h = cc
-nothing-is (Read t) read h = cc
+nothing-is (Read t length) read h = cc
 
 module _ (cfg : Config) (x : Pair) (handed store kept es es′ sends sends′ read read′ : List ℕ) (is-bytes : Bytes handed) (numbers : NumberedPhase (x .client .phase))
     (y : Moved) (post : StepPost cfg (x .client) handed (lent kept es sends read) (lent kept es′ sends′ read′) y) (long : length es′ ≡ length es) where
@@ -260,8 +259,8 @@ module _ (cfg : Config) (x : Pair) (handed store kept es es′ sends sends′ re
         ap (λ k. cond (eqb k 0) move (stays before)) (step-pass cfg me handed kept es sends read none-no)
         ∙ told (awaited key before m)
       where
-        told : (z : Bool) → cond (eqb (cond z 0 14) 0) (cond z (settle (element cfg) (decodedPairs cfg) cfg c (counted key before m)) (stays before)) (stays before)
-            ≡ cond z (settle (element cfg) (decodedPairs cfg) cfg c (counted key before m)) (stays before)
+        told : (z : Bool) → cond (eqb (cond z 0 14) 0) (cond z (settle (encode cfg) (decode cfg) cfg c (counted key before m)) (stays before)) (stays before)
+            ≡ cond z (settle (encode cfg) (decode cfg) cfg c (counted key before m)) (stays before)
         told true = refl
         told false = refl
 
@@ -272,9 +271,9 @@ module _ (cfg : Config) (x : Pair) (handed store kept es es′ sends sends′ re
         let s = serverNumber (x .node .state .me) in
         subst (λ n. delivers cfg handed (withPair p s v (x .node .up) n before)
         ≡ record {
-          parties = withPair p s v (x .node .up) n (protocol.clientStep key (element cfg) (decodedPairs cfg) cfg n before m .client);
-          sends = protocol.clientStep key (element cfg) (decodedPairs cfg) cfg n before m .sends;
-          answer = parties.answerOf n (protocol.clientStep key (element cfg) (decodedPairs cfg) cfg n before m .ended);
+          parties = withPair p s v (x .node .up) n (protocol.clientStep key (encode cfg) (decode cfg) cfg n before m .client);
+          sends = protocol.clientStep key (encode cfg) (decode cfg) cfg n before m .sends;
+          answer = parties.answerOf n (protocol.clientStep key (encode cfg) (decode cfg) cfg n before m .ended);
         })
         (for-me cfg me handed kept es sends read none-no)
         (deliver-client (order cfg) (encode cfg) (decode cfg) cfg p v before m s (x .node .up) (its-kind cfg me handed kept es sends read none-no))

@@ -45,19 +45,19 @@ among cfg p x l =
     withPair p (serverNumber (x .node .state .me)) (serverView.view cfg (x .node .state) (l .store)) (x .node .up)
     (clientNumber (x .client .me)) (clientView.view cfg (x .client) (l .kept) (l .elements))
 
--- An answer as the history sees it: a read's bytes are those in the lent buffer when the event returns.
+-- An answer as the history sees it: a read's bytes are those in the lent buffer when the event returns, with the length that it tells.
 abbrev pub answerOf : Answer → List ℕ → BoardAnswer
 answerOf Answer.Nothing read = nothingEnded
 answerOf (Answer.Written c t) read = writtenBy (clientNumber c) t
 answerOf (Answer.Spent c) read = spentBy (clientNumber c)
-answerOf (Answer.Read c t) read = readBy (clientNumber c) t read
+answerOf (Answer.Read c t length) read = readBy (clientNumber c) t (record { length = length; bytes = read })
 answerOf (Answer.No why) read = refused (refusalNumber why)
 
 abbrev pub isRead : Answer → Bool
 isRead Answer.Nothing = false
 isRead (Answer.Written c t) = false
 isRead (Answer.Spent c) = false
-isRead (Answer.Read c t) = true
+isRead (Answer.Read c t length) = true
 isRead (Answer.No why) = false
 
 -- what the parties do, or, refused with a number, the parties as they were, with nothing sent

@@ -11,9 +11,9 @@ ghost use mathlib.Core.Bool.{true};
 ghost use mathlib.Core.Path.{_≡_};
 ghost use lib.ListN.{length};
 ghost use Rattle.config.specs.Config.{Valid};
-ghost use Rattle.config.specs.Number.{serverNumber};
+ghost use Rattle.config.specs.Number.{clientNumber, serverNumber};
 ghost use Rattle.config.specs.Questions.{firstNo, within};
-ghost use Rattle.parties.specs.Fresh.{FreshClientPost, FreshServerPost, freshNode, freshServerQuestions};
+ghost use Rattle.parties.specs.Fresh.{FreshClientPost, FreshServerPost, freshNode, freshServerQuestions, freshState};
 ghost use Rattle.parties.specs.inner.Fresh.{NodePost, NodePre};
 
 // What the making of a server leaves.
@@ -40,14 +40,44 @@ pub fn server(cfg: Config, s: u8, start: &[u8], store: &mut [u8]) -> NewNode
     }
 }
 
-// The client of a number, fresh: questions 1 to 5, and 8.
+// The client of a number, fresh: questions 1 to 5, and 8. On a refusal the client is of no use.
 pub fn client(cfg: Config, c: u8) -> NewState
     ensures { λ r. ⌜ FreshClientPost cfg c r ⌝ }
 {
     match Client::new(cfg, c) {
-        NewClient::No(why) => NewState::No(why),
+        NewClient::No(why) => NewState {
+            verdict: Verdict::No(why),
+            state: least_client(),
+        },
         NewClient::Made(me) => client::fresh(cfg, me),
     }
+}
+
+// Client 1 of the least configuration.
+fn least_client() -> client::State
+    ensures { λ r. ⌜ r ≡ freshState 1 ⌝ }
+{
+    let cfg = Config {
+        n: 1,
+        k: 1,
+        d: 0,
+        e: 1,
+        c: 1,
+    };
+    let me = client_number(cfg, 1);
+    let made = client::fresh(cfg, me);
+    made.state
+}
+
+// The number of a client of the configuration. There is one, so the other branch is never taken.
+fn client_number(cfg: Config, c: u8) -> Client
+    requires { ⌜ (Valid cfg) × (within 1 (cfg .c) c ≡ true) ⌝ }
+    ensures { λ r. ⌜ clientNumber r ≡ c ⌝ }
+{
+    let NewClient::Made(me) = Client::new(cfg, c) else {
+        loop {}
+    };
+    me
 }
 
 // The questions of a server to make: the number of the first that is answered no, or 0.
@@ -72,7 +102,7 @@ fn asked(cfg: Config, s: u8, start: usize, store: usize) -> u8
 
 // Server 1 of the least configuration.
 fn least() -> Node
-    ensures { λ r. ⌜ r ≡ freshNode 1 ⌝ }
+    ensures { λ r. ⌜ r ≡ freshNode 1 1 ⌝ }
 {
     let cfg = Config {
         n: 1,

@@ -24,14 +24,23 @@ pub struct Pair {
     pub client: client::State,
 }
 
-// An event's answer. The bytes of a board that is read stand in the lent buffer.
+// An event's answer. The bytes of a board that is read stand in the lent buffer: so many, zeros after.
 pub enum Answer {
     // No operation ended.
     Nothing,
     // The client whose operation ended, and the tag.
-    Written { client: Client, tag: Tag },
-    Spent { client: Client },
-    Read { client: Client, tag: Tag },
+    Written {
+        client: Client,
+        tag: Tag,
+    },
+    Spent {
+        client: Client,
+    },
+    Read {
+        client: Client,
+        tag: Tag,
+        length: u16,
+    },
     No(Refusal),
 }
 

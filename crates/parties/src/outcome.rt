@@ -42,7 +42,11 @@ fn ended_by(me: Client, ended: Ended) -> Answer
         Ended::Nothing => Answer::Nothing,
         Ended::Written(tag) => Answer::Written { client: me, tag },
         Ended::Spent => Answer::Spent { client: me },
-        Ended::Read(tag) => Answer::Read { client: me, tag },
+        Ended::Read { tag, length } => Answer::Read {
+            client: me,
+            tag,
+            length,
+        },
     }
 }
 

@@ -9,7 +9,7 @@ use lib.Dec.{eqb}
 use lib.ListN.{getElem?}
 use borrow.Author.Tests.{eqb-true}
 use Rattle.config.specs.declared.Config.{Config}
-use Rattle.config.specs.Questions.{firstNo, within}
+use Rattle.config.specs.Questions.{Question, ask, firstNo, within}
 use Rattle.tag.specs.declared.Tag.{Tag}
 use Rattle.record.specs.Kinds.{isForServer}
 use Rattle.record.specs.Message.{Message}
@@ -19,7 +19,7 @@ use Rattle.protocol.specs.Client.{Client}
 use Rattle.protocol.specs.Board.{Call, refused}
 use Rattle.protocol.specs.Parties as parties
 use Rattle.protocol.specs.Parties.{Acted, Parties, begin, clientActs, deliver, freshParties, questionsToBegin, questionsToCrashClient, questionsToCrashServer, quiet, serverActs, withClient, withServer}
-use Rattle.protocol.specs.Rig.{Code, Rig, Turn, beginWrite, beginRead, codeOf, crashClient, crashServer, deliverAt, double, event, handOver, hasRoom, leaves, lose, move, moveOf, questions, questionsTo11, run, unlessNo}
+use Rattle.protocol.specs.Rig.{Code, Rig, Turn, beginWrite, beginRead, codeOf, crashClient, crashServer, deliverAt, double, event, handOver, hasRoom, leaves, lose, move, moveOf, questions, questionsAfter6, questionsTo11, run, unlessNo, writeFits}
 use Rattle.protocol.specs.Alike.{AlikeRigs, AlikeTurns, StoredOnce, OnceEach, SameButOrder}
 use Rattle.protocol.proofs.Basics.{cond-elim}
 use Rattle.protocol.proofs.Reordered.{answer-same, same-order, server-same, step-once}
@@ -218,31 +218,31 @@ module _ {Value Element : Type 0} (key : Tag → ℕ) (encode : Value → ℕ �
         (questions-like (r .parties .servers) (z .parties .servers) each-like (z .parties .up) (z .parties .clients) (z .inFlight) a most formed w)
 
     -- the event, refused or not
-    pub event-alike : (most : ℕ) → AlikeTurns (event key encode decode cfg most r a) (event key encode decode cfg most z a)
+    pub event-alike : (fits : Value → Bool) (most : ℕ) → AlikeTurns (event key encode decode cfg fits most r a) (event key encode decode cfg fits most z a)
     unfolding event
-    event-alike most =
+    event-alike fits most =
         let w = codeOf (a .code) in
-        unless-alike alike (ap firstNo (questions-alike most true w)) (λ _. move-alike w)
+        unless-alike alike (ap (λ (qs : List Question). firstNo (ask 19 (writeFits fits a w) ∷ qs)) (questions-alike most true w)) (λ _. move-alike w)
 
     -- and each stored tag is there once afterwards
-    pub event-once : (most : ℕ) → OnceEach key (event key encode decode cfg most r a .rig .parties)
+    pub event-once : (fits : Value → Bool) (most : ℕ) → OnceEach key (event key encode decode cfg fits most r a .rig .parties)
     unfolding event unlessNo
-    event-once most =
+    event-once fits most =
         let w = codeOf (a .code) in
-        let n = firstNo (questions key encode decode cfg most r a true w) in
+        let n = firstNo (questionsAfter6 key encode decode cfg fits most r a true w) in
         cond-elim (λ t. OnceEach key (t .rig .parties)) (eqb n 0) (moveOf key encode decode cfg r a w) (record { rig = r; answer = refused n })
         (λ _ s. like-turns w .parties .servers s .once) (λ _. once)
 
   -- along a list of calls: the same events
-  pub run-alike : (most : ℕ) (calls : List (Call Value)) (r z : Rig Value Element) → AlikeRigs r z → OnceEach key (r .parties)
-      → run key encode decode cfg most r calls ≡ run key encode decode cfg most z calls
+  pub run-alike : (fits : Value → Bool) (most : ℕ) (calls : List (Call Value)) (r z : Rig Value Element) → AlikeRigs r z → OnceEach key (r .parties)
+      → run key encode decode cfg fits most r calls ≡ run key encode decode cfg fits most z calls
   unfolding run
-  run-alike most [] r z alike once = refl
-  run-alike most (a ∷ later) r z alike once =
-      let next = event-alike r z alike once a most in
+  run-alike fits most [] r z alike once = refl
+  run-alike fits most (a ∷ later) r z alike once =
+      let next = event-alike r z alike once a fits most in
       ap₂ (λ x rest. record { call = a; answer = x } ∷ rest) (next .answer)
-      (run-alike most later (event key encode decode cfg most r a .rig) (event key encode decode cfg most z a .rig) (next .rig)
-      (event-once r z alike once a most))
+      (run-alike fits most later (event key encode decode cfg fits most r a .rig) (event key encode decode cfg fits most z a .rig) (next .rig)
+      (event-once r z alike once a fits most))
 
   -- a fresh rig has each stored tag once: fresh servers store one, and where there is no server none is stored
   pub fresh-once : (start : Value) → OnceEach key (freshParties cfg encode start)

@@ -1,22 +1,25 @@
--- Document 01's tags and code are what the theorem over the protocol asks for: an order of tags, and a code of which any k elements
--- of a board give that board back.
+-- The documents' tags and code are what the theorem over the protocol asks for: an order of tags, and a code of which any k elements
+-- of a board give that board back, its length too.
 use Prim.Native.Nat.{ℕ, _+_, _<_, _≤_}
 use mathlib.Core.Path.{_≡_, refl, sym, ap, ap₂, _∙_}
 use mathlib.Core.Bool.{true}
 use mathlib.Core.List.{List, [], _∷_, map, List·Memᴰ}
 use native.Mathlib.Omega.{arith}
-use borrow.Author.Tests.{lt-ltb, le-leb}
+use borrow.Author.Tests.{leb-true, lt-ltb, le-leb}
 use lib.ListN.{length, length-map}
 use Rattle.config.specs.declared.Config.{Config}
-use Rattle.config.specs.Config.{Valid}
+use Rattle.config.specs.Config.{Valid, boardLength}
 use Rattle.tag.specs.declared.Tag.{Tag}
 use Rattle.tag.specs.Tag.{key}
 use Rattle.tag.proofs.Order.{key-one}
-use Rattle.code.specs.Decoded.{risingAbove}
+use Rattle.code.specs.Decoded.{decodedPairs, risingAbove}
+use Rattle.code.specs.Element.{element}
 use Rattle.code.proofs.Decoding.{decode-pairs}
-use Rattle.protocol.specs.Boards.{Board, Element, IsBoard, encode, decode, order, BoardRig, BoardCall, BoardEvent, BoardExecution, BoardAtomic, freshRig, run}
+use Rattle.record.specs.Element.{Element}
+use Rattle.protocol.specs.Boards.{Board, Filled, IsBoard, boardOf, bytesSent, decode, encode, fitsIn, lowestLength, order, BoardRig, BoardCall, BoardEvent, BoardExecution, BoardAtomic, freshRig, run}
 use Rattle.protocol.specs.Endings.{EndsOne}
 use Rattle.protocol.specs.Laws.{TagOrder, Coding, Rising, ElementsOf}
+use Rattle.protocol.proofs.Cut.{filled-is}
 use Rattle.protocol.proofs.Theorem as theorem
 
 next-key : (t : Tag) (c : ℕ) → t .client ≤ 16 → 1 ≤ c → key t < key (record { number = t .number + 1; client = c })
@@ -31,47 +34,63 @@ tag-order cfg v =
       next = λ t c a l h. next-key t c (omega (arith, a, v .c-high)) l;
     }
 
-abbrev numbers : List (ℕ × Element) → List ℕ
+abbrev numbers : {A : Type 0} → List (ℕ × A) → List ℕ
 numbers xs = map (λ x. x .0) xs
 
-pub rises : (n low : ℕ) (xs : List (ℕ × Element)) → Rising low n xs → risingAbove n low (numbers xs) ≡ true
+pub rises : {A : Type 0} (n low : ℕ) (xs : List (ℕ × A)) → Rising low n xs → risingAbove n low (numbers xs) ≡ true
 unfolding Rising risingAbove
 rises n low [] h = refl
 rises n low (x ∷ xs) h = rw (lt-ltb low (x .0) (h .0), le-leb (x .0) n (h .1)) (rises n (x .0) xs (h .2))
 
 module _ (cfg : Config) (v : Board) where
-  abbrev paired : ℕ → ℕ × Element
-  paired s = (s, encode cfg v s)
+  abbrev paired : ℕ → ℕ × List ℕ
+  paired s = (s, element cfg (v .bytes) s)
 
-  pairs : (xs : List (ℕ × Element)) → ElementsOf (encode cfg) v xs → map paired (numbers xs) ≡ xs
+  pairs : (xs : List (ℕ × Element)) → ElementsOf (encode cfg) v xs → map paired (numbers xs) ≡ map bytesSent xs
   unfolding ElementsOf
   pairs [] h = refl
-  pairs (x ∷ xs) h = ap₂ _∷_ (ap (λ e. (x .0, e)) (sym (h .0))) (pairs xs (h .1))
+  pairs (x ∷ xs) h = ap₂ _∷_ (ap (λ (e : Element). (x .0, e .bytes)) (sym (h .0))) (pairs xs (h .1))
 
--- document 01's code: any k elements of a board give that board back
+  -- the lowest of them has the board's length
+  lowest : (xs : List (ℕ × Element)) → 1 ≤ length xs → ElementsOf (encode cfg) v xs → lowestLength xs ≡ v .length
+  unfolding ElementsOf
+  lowest [] some h = absurd (omega arith)
+  lowest (x ∷ xs) some h = ap (λ (e : Element). e .length) (h .0)
+
+-- any k elements of a board give that board back
 pub coding : (cfg : Config) → Valid cfg → Coding cfg (IsBoard cfg) (encode cfg) (decode cfg)
 coding cfg valid =
     record {
       back = λ v b xs size up es.
-          sym (ap (decode cfg) (pairs cfg v xs es))
-          ∙ decode-pairs cfg valid (numbers xs) (rises (cfg .n) 0 xs up) (many xs size) v (b .0) (b .1);
+          ap₂ boardOf (lowest cfg v xs (omega (arith, size, valid .k-low)) es)
+          (sym (ap (decodedPairs cfg) (pairs cfg v xs es))
+          ∙ decode-pairs cfg valid (numbers xs) (rises (cfg .n) 0 xs up) (many xs size) (v .bytes) (b .whole) (b .filled .bytes))
+          ∙ filled-is v (b .filled);
     }
   where
     many : (xs : List (ℕ × Element)) → length xs ≡ cfg .k → cfg .k ≤ length (numbers xs)
     many xs size = omega (arith, size, length-map xs (λ (x : ℕ × Element). x .0))
 
--- Demand 3 over the model, with document 01's tags and code: for every valid configuration, every starting board and every list of calls, refused
+-- Demand 3 over the model, with the documents' tags and code: for every valid configuration, every starting board and every list of calls, refused
 -- ones included, the history has an order that fits. `atomic` is of every execution, in which any event may have been refused for any
--- reason; `atomic-calls` of every list of calls, with M the most that may be in flight.
+-- reason; `atomic-calls` of every list of calls, with M the most that may be in flight, and writes of V bytes with zeros past the length: a
+-- length above V is refused.
 module _ (cfg : Config) (valid : Valid cfg) (start : Board) (isBoard : IsBoard cfg start) where
   pub atomic : {r : BoardRig} {events : List BoardEvent} → BoardExecution cfg start r events → BoardAtomic cfg start events
   atomic =
       theorem.atomic cfg (order cfg) (tag-order cfg valid) (IsBoard cfg) (encode cfg) (decode cfg) (coding cfg valid) (valid .k-low) start isBoard
 
-  pub atomic-calls : (most : ℕ) (calls : List BoardCall) → ((a : BoardCall) → List·Memᴰ a calls → a .code ≡ 1 → IsBoard cfg (a .board))
+  pub atomic-calls : (most : ℕ) (calls : List BoardCall)
+      → ((a : BoardCall) → List·Memᴰ a calls → a .code ≡ 1 → (length (a .board .bytes) ≡ boardLength cfg) × Filled (a .board))
       → BoardAtomic cfg start (run cfg most (freshRig cfg start) calls)
-  atomic-calls =
+  atomic-calls most calls boards =
       theorem.atomic-calls cfg (order cfg) (tag-order cfg valid) (IsBoard cfg) (encode cfg) (decode cfg) (coding cfg valid) (valid .k-low) start isBoard
+      (fitsIn cfg) most calls
+      (λ a i one fits. record {
+        whole = boards a i one .0;
+        fits = leb-true (a .board .length) (boardLength cfg) fits;
+        filled = boards a i one .1;
+      })
 
   -- each answer that names a client ends exactly one operation of that client, begun before: written or spent a write, read a read
   pub ends-one : {r : BoardRig} {events : List BoardEvent} → BoardExecution cfg start r events → EndsOne events

@@ -3,6 +3,7 @@
 -- the element of the first of them.
 use Prim.Native.Nat.{ℕ}
 use mathlib.Core.Path.{_≡_, refl}
+use mathlib.Core.Bool.{Bool, true}
 use mathlib.Core.Option.{some, none}
 use mathlib.Core.List.{List, [], _∷_, _++_, map}
 use lib.ListN.{replicate}
@@ -59,7 +60,7 @@ abbrev readingAgain : List (Call (List ℕ))
 readingAgain =
     call 4 0 0 ∷ call 6 5 0 ∷ call 2 1 0 ∷ hand 4 0 ++ hand 1 0 ++ hand 4 0 ++ hand 4 0 ++ hand 1 4 ++ hand 1 3 ++ hand 2 1
 
-pub write-and-read : answersTo key encode decode config 64 [] (writing ++ reading ++ readingAgain)
+pub write-and-read : answersTo key encode decode config (λ v. true) 64 [] (writing ++ reading ++ readingAgain)
     ≡ replicate 29 nothingEnded
     ++ writtenBy 1 (tag 1 1)
     ∷ replicate 20 nothingEnded
@@ -74,7 +75,7 @@ write-and-read = refl
 abbrev asked : ℕ → Client (List ℕ) (List ℕ)
 asked number = record { operation = 1; phase = asking (some (7 ∷ [])) (tag number 2) three }
   where
-    three : ℕ → mathlib.Core.Bool.Bool
+    three : ℕ → Bool
     three s = lib.Dec.leb s 3
 
 -- the answer of server 4

@@ -67,7 +67,7 @@ answers =
     nothingEnded ∷
     nothingEnded ∷ nothingEnded ∷ readBy 1 (record { number = 0; client = 0 }) 0 ∷ refused 8 ∷ []
 
-pub example : answersTo key encode decode config 64 0 calls ≡ answers
+pub example : answersTo key encode decode config (λ v. true) 64 0 calls ≡ answers
 unfolding answersTo calls answers
 example = refl
 
@@ -100,14 +100,14 @@ refusal-answers =
     refused 8 ∷
     refused 8 ∷ nothingEnded ∷ refused 9 ∷ refused 13 ∷ nothingEnded ∷ nothingEnded ∷ refused 13 ∷ []
 
-pub refused-so : answersTo key encode decode config 3 0 refusals ≡ refusal-answers
+pub refused-so : answersTo key encode decode config (λ v. true) 3 0 refusals ≡ refusal-answers
 unfolding answersTo refusals refusal-answers
 refused-so = refl
 
 -- Question 12 comes before 13: client 1 asks, and the first of its three messages would be handed over. An ill-formed one gets 12, whether M is
 -- 64 or 2; a well-formed one gets 13 if M is 2, since its answer is a third.
 abbrev asks : Rig.Rig ℕ ℕ
-asks = Rig.event key encode decode config 64 (Rig.freshRig config encode 0) (call 2 1 0) .rig
+asks = Rig.event key encode decode config (λ v. true) 64 (Rig.freshRig config encode 0) (call 2 1 0) .rig
 
 abbrev hands : ℕ → Bool → ℕ
 hands most formed = firstNo (Rig.questions key encode decode config most asks (call 3 0 0) formed (some Rig.handOver))
@@ -117,9 +117,9 @@ unfolding answersTo
 twelve-first = (refl, refl, refl, refl)
 
 -- the theorem, for this configuration and code: every list of calls has a history with an order that fits
-pub example-atomic : (calls : List (Call ℕ)) → Atomic key 0 (Rig.run key encode decode config 64 (Rig.freshRig config encode 0) calls)
+pub example-atomic : (calls : List (Call ℕ)) → Atomic key 0 (Rig.run key encode decode config (λ v. true) 64 (Rig.freshRig config encode 0) calls)
 example-atomic calls =
-    atomic-calls config key tags (λ v. Unit {0}) encode decode coding (omega arith) 0 tt 64 calls (λ a i e. tt)
+    atomic-calls config key tags (λ v. Unit {0}) encode decode coding (omega arith) 0 tt (λ v. true) 64 calls (λ a i e f. tt)
 
 -- A write and a read of it: client 1 begins to write 7, and what is first in flight is handed over 18 times; then client 2 begins to read, and it is
 -- handed over 12 times more.
@@ -129,7 +129,7 @@ handed times = replicate times (call 3 0 0)
 pub write-then-read : List (Call ℕ)
 write-then-read = record { code = 1; party = 1; position = 0; board = 7 } ∷ handed 18 ++ call 2 2 0 ∷ handed 12
 
-pub write-then-read-answers : answersTo key encode decode config 64 0 write-then-read
+pub write-then-read-answers : answersTo key encode decode config (λ v. true) 64 0 write-then-read
     ≡ replicate 17 nothingEnded
     ++ writtenBy 1 (record { number = 1; client = 1 })
     ∷ replicate 12 nothingEnded
@@ -140,7 +140,7 @@ unfolding answersTo write-then-read
 write-then-read-answers = refl
 
 abbrev events : List (Event ℕ)
-events = Rig.run key encode decode config 64 (Rig.freshRig config encode 0) write-then-read
+events = Rig.run key encode decode config (λ v. true) 64 (Rig.freshRig config encode 0) write-then-read
 
 -- the event at place 17 ends the write, and that at place 30 the read, of what was written
 pub write-then-read-history : (history events 0 ≡ wrote 7 17) × (history events 19 ≡ showed 7 30)

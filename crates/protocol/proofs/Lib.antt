@@ -35,4 +35,8 @@ mod Calls
 mod Theorem
 mod Refute
 mod Teeth
+pub mod Cut
 pub mod Boards
+pub mod Decoded
+mod ShortBoards
+mod Lengths

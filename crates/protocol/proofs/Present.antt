@@ -37,12 +37,12 @@ module _ {Value Element : Type 0} (encode : Value → ℕ → Element) (v : Valu
   elements-more n [] (some e) h a = (h e refl, tt)
   elements-more n (x ∷ xs) o h a = (a .0, elements-more n xs o h (a .1))
 
-  present-elements : (n : ℕ) (es : ℕ → Option Element) → ((s : ℕ) (e : Element) → es s ≡ some e → e ≡ encode v s) → ElementsOf encode v (present n es)
+  pub present-elements : (n : ℕ) (es : ℕ → Option Element) → ((s : ℕ) (e : Element) → es s ≡ some e → e ≡ encode v s) → ElementsOf encode v (present n es)
   unfolding present ElementsOf
   present-elements zero es h = tt
   present-elements (suc n) es h = elements-more (suc n) (present n es) (es (suc n)) (h (suc n)) (present-elements n es h)
 
-  elements-take : (k : ℕ) (xs : List (ℕ × Element)) → ElementsOf encode v xs → ElementsOf encode v (take k xs)
+  pub elements-take : (k : ℕ) (xs : List (ℕ × Element)) → ElementsOf encode v xs → ElementsOf encode v (take k xs)
   unfolding ElementsOf
   elements-take zero xs a = tt
   elements-take (suc k) [] a = tt

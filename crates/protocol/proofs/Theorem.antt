@@ -2,6 +2,7 @@
 -- fits), specs/Rig.antt (the rig's events) and specs/Laws.antt (what is asked of the order of tags and of the code).
 use Prim.Native.Nat.{ℕ, _≤_}
 use mathlib.Core.Path.{_≡_, refl}
+use mathlib.Core.Bool.{Bool, true}
 use mathlib.Core.List.{List, [], List·Memᴰ}
 use Rattle.config.specs.declared.Config.{Config}
 use Rattle.tag.specs.declared.Tag.{Tag}
@@ -53,8 +54,9 @@ module _ {Value Element : Type 0} (cfg : Config) (key : Tag → ℕ) (tags : Tag
         endings.ends-one setting (a .good .log) (a .recorded)
 
     -- The same of every list of calls, with M the most that may be in flight: refused ones included, the events that the model answers to
-    -- them have a history with an order that fits.
-    pub atomic-calls : (most : ℕ) (calls : List (Call Value)) → ((a : Call Value) → List·Memᴰ a calls → a .code ≡ 1 → IsBoard (a .board))
-        → Atomic key start (run key encode decode cfg most (freshRig cfg encode start) calls)
-    atomic-calls most calls boards =
-        atomic (calls-run key encode decode cfg IsBoard start most calls boards (freshRig cfg encode start) [] fresh .1)
+    -- them have a history with an order that fits. A board that fits is a board.
+    pub atomic-calls : (fits : Value → Bool) (most : ℕ) (calls : List (Call Value))
+        → ((a : Call Value) → List·Memᴰ a calls → a .code ≡ 1 → fits (a .board) ≡ true → IsBoard (a .board))
+        → Atomic key start (run key encode decode cfg fits most (freshRig cfg encode start) calls)
+    atomic-calls fits most calls boards =
+        atomic (calls-run key encode decode cfg IsBoard fits start most calls boards (freshRig cfg encode start) [] fresh .1)

@@ -18,7 +18,7 @@ pub record Call (Value : Type 0) : Type 0 where
   pub board : Value
 
 -- "An event's answer is nothing ended or, each naming the client whose operation ended, written with tag, spent, or read with tag and
--- V bytes"; or it is refused with a number.
+-- V bytes", and a length; or it is refused with a number.
 pub data Answer (Value : Type 0) : Type 0 where
   refused : ℕ → Answer Value
   nothingEnded : Answer Value
@@ -140,7 +140,7 @@ module _ {Value : Type 0} where
   ShowsState leftOut state = Unit {0}
   ShowsState mismatched state = Unit {0}
 
-  -- The single board is fed the operations in an order: "Its state is V bytes, at first the starting board."
+  -- The single board is fed the operations in an order: "Its state is V bytes, at first the starting board." A value is whatever it keeps and shows.
   unfoldable pub Shown : (ℕ → Operation Value) → Value → List ℕ → Type 0
   Shown operations state [] = Unit {0}
   Shown operations state (p ∷ ps) = ShowsState (operations p) state × Shown operations (after (operations p) state) ps

@@ -1,11 +1,12 @@
--- The protocol with document 01's boards: what a board, an element and the order of tags are is said here, and the model's types and
+-- The protocol with the documents' boards: what a board, an element and the order of tags are is said here, and the model's types and
 -- definitions have names with them.
-use Prim.Native.Nat.{ℕ}
+use Prim.Native.Nat.{ℕ, _-_, _≤_}
 use mathlib.Core.Path.{_≡_}
 use mathlib.Core.Bool.{Bool}
 use mathlib.Core.Option.{Option}
-use mathlib.Core.List.{List}
-use lib.ListN.{length}
+use mathlib.Core.List.{List, [], _∷_, _++_, map}
+use lib.Dec.{leb}
+use lib.ListN.{length, take, replicate}
 use Rattle.config.specs.declared.Config.{Config}
 use Rattle.config.specs.Config.{boardLength}
 use Rattle.config.specs.Questions.{Question}
@@ -14,6 +15,7 @@ use Rattle.tag.specs.Tag.{key}
 use Rattle.laws.specs.Bytes.{Bytes}
 use Rattle.code.specs.Element.{element}
 use Rattle.code.specs.Decoded.{decodedPairs}
+use Rattle.record.specs.Element.{Element, elementWith}
 use Rattle.record.specs.Message.{Message}
 use Rattle.protocol.specs.Server as server
 use Rattle.protocol.specs.Client as client
@@ -22,24 +24,53 @@ use Rattle.protocol.specs.Parties as parties
 use Rattle.protocol.specs.Rig as rig
 use Rattle.protocol.specs.Rig.{Code}
 
--- a board and an element are lists of bytes
-abbrev pub Board : Type 0
-Board = List ℕ
+-- a board has a length and bytes
+pub record Board : Type 0 where
+  pub length : ℕ
+  pub bytes : List ℕ
 
-abbrev pub Element : Type 0
-Element = List ℕ
+-- so many bytes, "zeros after"
+unfoldable pub cut : ℕ → List ℕ → List ℕ
+cut n bs = take n bs ++ replicate (length bs - n) 0
 
--- "A board has V = k × E bytes."
-abbrev pub IsBoard : Config → Board → Type 0
-IsBoard cfg v = (length v ≡ boardLength cfg) × Bytes v
+-- the board of a length and bytes: "the code sees zeros after that many of its V bytes"
+abbrev pub boardOf : ℕ → List ℕ → Board
+boardOf n bs = record { length = n; bytes = cut n bs }
 
--- the element of a server for a board
+-- "the starting board has length V"
+abbrev pub startingBoard : Config → List ℕ → Board
+startingBoard cfg bs = record { length = boardLength cfg; bytes = bs }
+
+-- bytes, zeros past the length: of every length and all bytes that are handed in, `boardOf` is one
+pub record Filled (v : Board) : Type 0 where
+  pub bytes : Bytes (v .bytes)
+  pub zeros : cut (v .length) (v .bytes) ≡ v .bytes
+
+-- "A board has V = k × E bytes." "A write now brings a length from 0 to V".
+pub record IsBoard (cfg : Config) (v : Board) : Type 0 where
+  pub whole : length (v .bytes) ≡ boardLength cfg
+  pub fits : v .length ≤ boardLength cfg
+  pub filled : Filled v
+
+-- "19, is the write's length at most V"
+abbrev pub fitsIn : Config → Board → Bool
+fitsIn cfg v = leb (v .length) (boardLength cfg)
+
+-- the element of a server for a board, with the length beside it
 abbrev pub encode : Config → Board → ℕ → Element
-encode cfg = element cfg
+encode cfg v s = elementWith (v .length) (element cfg (v .bytes) s)
 
--- the board that elements of k servers give back
+-- "the length sent with its lowest server's element": the elements stand in order of their servers
+abbrev pub lowestLength : List (ℕ × Element) → ℕ
+lowestLength [] = 0
+lowestLength (x ∷ xs) = x .1 .length
+
+abbrev pub bytesSent : ℕ × Element → ℕ × List ℕ
+bytesSent x = (x .0, x .1 .bytes)
+
+-- the board that elements of k servers give back: that length "and that many bytes, zeros after"
 abbrev pub decode : Config → List (ℕ × Element) → Board
-decode cfg = decodedPairs cfg
+decode cfg xs = boardOf (lowestLength xs) (decodedPairs cfg (map bytesSent xs))
 
 -- the order of tags, as a key: "The number decides, then the client number."
 abbrev pub order : Config → Tag → ℕ
@@ -95,12 +126,9 @@ BoardEvent = board.Event Board
 -- ---- the definitions
 
 module _ (cfg : Config) where
-  -- a server: its step, the stored element of a tag
+  -- a server's step
   abbrev pub serverStep : ℕ → BoardServer → BoardMessage → BoardServed
   serverStep = server.serverStep (order cfg) (cfg .d)
-
-  abbrev pub elementOf : Tag → List BoardStored → Option Element
-  elementOf = server.elementOf (order cfg)
 
   -- a client: question 14, its step, its begin
   abbrev pub awaited : BoardClient → BoardMessage → Bool
@@ -135,15 +163,23 @@ module _ (cfg : Config) where
   abbrev pub questions : ℕ → BoardRig → BoardCall → Bool → Option Code → List Question
   questions = rig.questions (order cfg) (encode cfg) (decode cfg) cfg
 
+  abbrev pub writeFits : BoardCall → Option Code → Bool
+  writeFits = rig.writeFits (fitsIn cfg)
+
+  abbrev pub questionsAfter6 : ℕ → BoardRig → BoardCall → Bool → Option Code → List Question
+  questionsAfter6 = rig.questionsAfter6 (order cfg) (encode cfg) (decode cfg) cfg (fitsIn cfg)
+
   abbrev pub event : ℕ → BoardRig → BoardCall → BoardTurn
-  event = rig.event (order cfg) (encode cfg) (decode cfg) cfg
+  event = rig.event (order cfg) (encode cfg) (decode cfg) cfg (fitsIn cfg)
 
   abbrev pub run : ℕ → BoardRig → List BoardCall → List BoardEvent
-  run = rig.run (order cfg) (encode cfg) (decode cfg) cfg
+  run = rig.run (order cfg) (encode cfg) (decode cfg) cfg (fitsIn cfg)
 
   -- executions, and what is to be shown of their events
   abbrev pub BoardExecution : Board → BoardRig → List BoardEvent → Type 0
   BoardExecution = rig.Execution (order cfg) (encode cfg) (decode cfg) cfg (IsBoard cfg)
 
+  -- "A read must return the length of the nearest write and that many of its bytes, zeros after, and the starting board has length V; that is
+  -- what the single board now keeps and shows."
   abbrev pub BoardAtomic : Board → List BoardEvent → Type 0
   BoardAtomic = board.Atomic (order cfg)

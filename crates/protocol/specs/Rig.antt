@@ -50,6 +50,18 @@ module _ {A : Type 0} where
   unfoldable pub positionQuestions : List A → ℕ → List Question
   positionQuestions xs i = ask 8 (ltb i (length xs)) ∷ []
 
+module _ {Value : Type 0} where
+  -- whether what event 1 brings fits; of another nothing is asked
+  unfoldable pub writeFits : (Value → Bool) → Call Value → Option Code → Bool
+  writeFits fits a none = true
+  writeFits fits a (some beginWrite) = fits (a .board)
+  writeFits fits a (some beginRead) = true
+  writeFits fits a (some handOver) = true
+  writeFits fits a (some lose) = true
+  writeFits fits a (some double) = true
+  writeFits fits a (some crashServer) = true
+  writeFits fits a (some crashClient) = true
+
 module _ {Value Element : Type 0} where
   -- "all parties up, clients idle, nothing in flight"
   unfoldable pub freshRig : Config → (Value → ℕ → Element) → Value → Rig Value Element
@@ -108,16 +120,21 @@ module _ {Value Element : Type 0} (key : Tag → ℕ) (encode : Value → ℕ �
   questions most r a formed (some w) =
       ask 7 true ∷ questionsTo11 cfg r a w ++ ask 12 formed ∷ ask 13 (hasRoom most (move r a w)) ∷ []
 
+  -- "19, is the write's length at most V, placed after 6", and then those; `fits` says it of a board
+  abbrev pub questionsAfter6 : (Value → Bool) → ℕ → Rig Value Element → Call Value → Bool → Option Code → List Question
+  questionsAfter6 fits most r a formed w = ask 19 (writeFits fits a w) ∷ questions most r a formed w
+
   -- an event of the rig; its messages are well formed
-  unfoldable pub event : ℕ → Rig Value Element → Call Value → Turn Value Element
-  event most r a = unlessNo r (moveOf r a (codeOf (a .code))) (firstNo (questions most r a true (codeOf (a .code))))
+  unfoldable pub event : (Value → Bool) → ℕ → Rig Value Element → Call Value → Turn Value Element
+  event fits most r a =
+      unlessNo r (moveOf r a (codeOf (a .code))) (firstNo (questionsAfter6 fits most r a true (codeOf (a .code))))
 
   -- "Each event gets the rig as the one before left it": the events of a list of calls
-  unfoldable pub run : ℕ → Rig Value Element → List (Call Value) → List (Event Value)
-  run most r [] = []
-  run most r (a ∷ later) =
-      let t = event most r a in
-      record { call = a; answer = t .answer } ∷ run most (t .rig) later
+  unfoldable pub run : (Value → Bool) → ℕ → Rig Value Element → List (Call Value) → List (Event Value)
+  run fits most r [] = []
+  run fits most r (a ∷ later) =
+      let t = event fits most r a in
+      record { call = a; answer = t .answer } ∷ run fits most (t .rig) later
 
 -- An execution: the rig that it comes to, and its events. Any event may be refused, for any reason, want of room among them, and then nothing changes; an
 -- accepted one is the model's move, once the questions 7 to 11 are answered, and a board that it writes is a board.

@@ -17,19 +17,23 @@ use Rattle.config.specs.Refusal.{clamped, refusalNumber, verdictNumber}
 use Rattle.config.proofs.Questions.{firstNo-high, firstNo-pass, firstNo-stop, questions-numbered}
 use Rattle.record.specs.declared.Header.{Header}
 use Rattle.record.specs.declared.Reading.{Reading}
-use Rattle.record.specs.Calls.{ReadPost, WritePost, limits, readQuestions, withElement, writeQuestions}
+use Rattle.record.specs.Calls.{ReadPost, WritePost, isHeader, readQuestions, withElement, writeQuestions}
 use Rattle.record.specs.inner.Parse.{ParsePost}
+use Rattle.record.specs.Element.{Element}
 use Rattle.record.specs.Message.{Message}
-use Rattle.record.specs.Record.{messageOf, ofConfig, recordOf, wellFormed}
+use Rattle.record.specs.Record.{lengthAt, messageOf, recordOf, wellFormed}
 use Rattle.record.proofs.Clauses.{Says, not-so, says-message}
-use Rattle.record.proofs.Written.{message-limits}
 
 module _ (cfg : Config) (bs : List ℕ) where
   pub refused : wellFormed cfg bs ≡ false → ParsePost cfg bs (Reading.No Refusal.IllFormed)
-  refused h = record { number = rw h; message = rw h }
+  refused h = record { number = rw h; message = rw h; length = rw h }
 
   pub accepted : (h : Header) → Says cfg bs h → wellFormed cfg bs ≡ true → ParsePost cfg bs (Reading.Message h)
-  accepted h s w = record { number = rw w; message = rw w (ap {B = Option (Message (List ℕ))} some (says-message cfg bs h s)) }
+  accepted h s w = record {
+    number = rw w;
+    message = rw w (ap {B = Option (Message Element)} some (says-message cfg bs h s));
+    length = rw w (s .length);
+  }
 
 -- the first questions decide
 pub first-stops : (first rest : List Question) (asked number : ℕ) → numbered first ≡ true → asked ≡ firstNo first → (asked ≡ 0 → ⊥)
@@ -44,17 +48,23 @@ module _ (cfg : Config) (bs : List ℕ) where
       record {
         number = h ∙ sym e;
         message = rw (ne-eqb (firstNo (readQuestions cfg bs)) 0 (λ z. refuses (sym e ∙ z)));
+        length = rw (ne-eqb (firstNo (readQuestions cfg bs)) 0 (λ z. refuses (sym e ∙ z)));
       }
 
   -- by question 12
   module _ (e : firstNo (readQuestions cfg bs) ≡ cond (wellFormed cfg bs) 0 12) where
-    read-by : (w : Bool) → firstNo (readQuestions cfg bs) ≡ cond w 0 12
-        → cond w (some (messageOf cfg bs)) none ≡ cond (eqb (firstNo (readQuestions cfg bs)) 0) (some (messageOf cfg bs)) none
-    read-by true h = rw (eq-eqb (firstNo (readQuestions cfg bs)) 0 h)
-    read-by false h = rw (ne-eqb (firstNo (readQuestions cfg bs)) 0 (λ z. omega arith))
+    read-by : (w : Bool) → firstNo (readQuestions cfg bs) ≡ cond w 0 12 → w ≡ eqb (firstNo (readQuestions cfg bs)) 0
+    read-by true h = sym (eq-eqb (firstNo (readQuestions cfg bs)) 0 h)
+    read-by false h = sym (ne-eqb (firstNo (readQuestions cfg bs)) 0 (λ z. omega arith))
 
     pub parsed-read : (r : Reading) → ParsePost cfg bs r → ReadPost cfg bs r
-    parsed-read r p = record { number = p .number ∙ sym e; message = p .message ∙ read-by (wellFormed cfg bs) e }
+    parsed-read r p =
+        let by = read-by (wellFormed cfg bs) e in
+        record {
+          number = p .number ∙ sym e;
+          message = p .message ∙ ap (λ (b : Bool). cond b (some (messageOf cfg bs)) none) by;
+          length = p .length ∙ ap (λ (b : Bool). cond b (lengthAt bs) 0) by;
+        }
 
   module _ (passed : firstNo (questions cfg) ≡ 0) where
     pub read-shape : (length bs ≡ 80 → ⊥) → firstNo (readQuestions cfg bs) ≡ 6
@@ -83,15 +93,12 @@ module _ (cfg : Config) (h : Header) (bs : List ℕ) where
     unfolding writeQuestions firstNo
     write-shape e = firstNo-pass (questions cfg) _ (questions-numbered cfg) passed ∙ rw (ne-eqb (length bs) 80 e)
 
-    -- 12, by the limits of the header's numbers and by the other rules
+    -- 12, by what the rules say of the header
     module _ (e : length bs ≡ 80) where
-      by-rules : firstNo (writeQuestions cfg h bs) ≡ cond (ofConfig cfg (withElement cfg h bs)) 0 12
+      pub write-last : firstNo (writeQuestions cfg h bs) ≡ cond (isHeader cfg h bs) 0 12
       unfolding writeQuestions firstNo
-      by-rules = firstNo-pass (questions cfg) _ (questions-numbered cfg) passed ∙ rw (eq-eqb (length bs) 80 e)
+      write-last = firstNo-pass (questions cfg) _ (questions-numbered cfg) passed ∙ rw (eq-eqb (length bs) 80 e)
 
-      pub write-limits : limits cfg h ≡ false → firstNo (writeQuestions cfg h bs) ≡ 12
-      write-limits l =
-          by-rules ∙ ap (λ (b : Bool). cond b 0 12) (not-so (ofConfig cfg (withElement cfg h bs)) (limits cfg h) (message-limits cfg h bs) l)
-
-      pub write-last : limits cfg h ≡ true → firstNo (writeQuestions cfg h bs) ≡ cond (ofConfig cfg (withElement cfg h bs)) 0 12
-      write-last l = by-rules
+      -- it breaks a rule that a header without fault keeps
+      pub write-breaks : (rule : Bool) → (isHeader cfg h bs ≡ true → rule ≡ true) → rule ≡ false → firstNo (writeQuestions cfg h bs) ≡ 12
+      write-breaks rule kept broken = write-last ∙ ap (λ (b : Bool). cond b 0 12) (not-so (isHeader cfg h bs) rule kept broken)

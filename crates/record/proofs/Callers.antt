@@ -16,11 +16,10 @@ use Rattle.config.specs.Refusal.{refusalNumber, verdictNumber}
 use Rattle.config.proofs.Valid.{valid-asked}
 use Rattle.record.specs.declared.Header.{Header}
 use Rattle.record.specs.declared.Reading.{Reading}
-use Rattle.record.specs.Calls.{ReadPost, WritePost, messageRead, readNumber, readQuestions, withElement, writeQuestions}
+use Rattle.record.specs.Calls.{ReadPost, WritePost, isHeader, lengthRead, messageRead, readNumber, readQuestions, withElement, writeQuestions}
 use Rattle.record.specs.Message.{Message}
-use Rattle.record.specs.Record.{messageOf, ofConfig, recordOf, wellFormed}
+use Rattle.record.specs.Record.{lengthAt, lengthFits, messageOf, ofConfig, recordOf, wellFormed}
 use Rattle.record.proofs.Answers.{read-last, write-last}
-use Rattle.record.proofs.Written.{message-limits}
 
 module _ (cfg : Config) (bs : List ℕ) (r : Reading) (post : ReadPost cfg bs r) where
   -- a message was read: no question was answered no, and the header with the element in the bytes is the record's message
@@ -31,6 +30,10 @@ module _ (cfg : Config) (bs : List ℕ) (r : Reading) (post : ReadPost cfg bs r)
   its-message h e =
       Option·some-injective (withElement cfg h bs) (messageOf cfg bs)
       (ap (messageRead cfg bs) (sym e) ∙ post .message ∙ rw (eq-eqb (firstNo (readQuestions cfg bs)) 0 (was-read h e)))
+
+  pub its-read-length : (h : Header) → r ≡ Reading.Message h → h .length ≡ lengthAt bs
+  its-read-length h e =
+      ap lengthRead (sym e) ∙ post .length ∙ rw (eq-eqb (firstNo (readQuestions cfg bs)) 0 (was-read h e))
 
   -- it was refused, by the first question that is answered no
   pub was-refused : (why : Refusal) → r ≡ Reading.No why → refusalNumber why ≡ firstNo (readQuestions cfg bs)
@@ -48,9 +51,10 @@ pub read-well-formed : (cfg : Config) (bs : List ℕ) → Valid cfg → length b
 read-well-formed cfg bs v e h = twelve (wellFormed cfg bs) (sym (read-12 cfg bs v e) ∙ h)
 
 -- a message of the configuration is written, whatever the record held
-module _ (cfg : Config) (h : Header) (bs : List ℕ) (v : Valid cfg) (e : length bs ≡ 80) (m : ofConfig cfg (withElement cfg h bs) ≡ true) where
+module _ (cfg : Config) (h : Header) (bs : List ℕ) (v : Valid cfg) (e : length bs ≡ 80) (m : ofConfig cfg (withElement cfg h bs) ≡ true) (fits : lengthFits cfg (h .present) (h .length) ≡ true) where
   pub write-asked : firstNo (writeQuestions cfg h bs) ≡ 0
-  write-asked = write-last cfg h bs (valid-asked cfg v) e (message-limits cfg h bs m) ∙ rw m
+  unfolding isHeader
+  write-asked = write-last cfg h bs (valid-asked cfg v) e ∙ rw (m, fits)
 
   pub was-written : (after : List ℕ) (r : Verdict) → WritePost cfg h bs after r
       → (verdictNumber r ≡ 0) × (after ≡ recordOf cfg (withElement cfg h bs))

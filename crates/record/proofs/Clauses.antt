@@ -14,9 +14,10 @@ use Rattle.config.specs.Questions.{within}
 use Rattle.config.proofs.Questions.{within-low, within-high}
 use Rattle.tag.specs.Tag.{allowed}
 use Rattle.record.specs.declared.Header.{Header}
+use Rattle.record.specs.Element.{elementWith}
 use Rattle.record.specs.Calls.{isSound, soundClauses, withElement}
 use Rattle.record.specs.inner.Parse.{laidOut, layoutClauses}
-use Rattle.record.specs.Record.{all, clauses, clientAt, elementIn, kindAt, kindNumber, kindOf, messageOf, operationAt, presentAt, serverAt, tagAt, wellFormed}
+use Rattle.record.specs.Record.{all, clauses, clientAt, elementIn, kindAt, kindNumber, kindOf, lengthAt, lengthFits, messageOf, operationAt, presentAt, serverAt, tagAt, wellFormed}
 
 -- of clauses that all hold each holds
 pub all-at : (bs : List Bool) → all bs ≡ true → (i : ℕ) → getD bs i true ≡ true
@@ -63,7 +64,7 @@ module _ (cfg : Config) (bs : List ℕ) where
 
   pub its-layout : wellFormed cfg bs ≡ true → laidOut cfg bs ≡ true
   unfolding clauses laidOut all
-  its-layout h = rw (clause 1 h, clause 2 h, clause 4 h, clause 5 h)
+  its-layout h = rw (clause 1 h, clause 2 h, clause 5 h, clause 6 h)
 
   pub its-kind : wellFormed cfg bs ≡ true → within 1 8 (kindAt bs) ≡ true
   unfolding clauses
@@ -71,15 +72,19 @@ module _ (cfg : Config) (bs : List ℕ) where
 
   pub its-client : wellFormed cfg bs ≡ true → within 1 (cfg .c) (clientAt bs) ≡ true
   unfolding clauses
-  its-client h = clause 9 h
+  its-client h = clause 10 h
 
   pub its-server : wellFormed cfg bs ≡ true → within 1 (cfg .n) (serverAt bs) ≡ true
   unfolding clauses
-  its-server h = clause 10 h
+  its-server h = clause 11 h
 
   pub its-tag : wellFormed cfg bs ≡ true → allowed (cfg .c) (tagAt bs) ≡ true
   unfolding clauses
-  its-tag h = clause 11 h
+  its-tag h = clause 12 h
+
+  pub its-fit : wellFormed cfg bs ≡ true → lengthFits cfg (presentAt bs) (lengthAt bs) ≡ true
+  unfolding clauses
+  its-fit h = clause 4 h
 
   -- a header that says what the record says
   pub record Says (h : Header) : Type 0 where
@@ -89,6 +94,7 @@ module _ (cfg : Config) (bs : List ℕ) where
     pub operation : h .operation ≡ operationAt bs
     pub tag : h .tag ≡ tagAt bs
     pub present : h .present ≡ presentAt bs
+    pub length : h .length ≡ lengthAt bs
 
   pub says-message : (h : Header) → Says h → withElement cfg h bs ≡ messageOf cfg bs
   unfolding withElement messageOf
@@ -100,7 +106,7 @@ module _ (cfg : Config) (bs : List ℕ) where
         server = s .server i;
         operation = s .operation i;
         tag = s .tag i;
-        element = cond (s .present i) (some (elementIn cfg bs)) none;
+        element = cond (s .present i) (some (elementWith (s .length i) (elementIn cfg bs))) none;
       }
 
   module _ (h : Header) (s : Says h) where
@@ -111,12 +117,12 @@ module _ (cfg : Config) (bs : List ℕ) where
 
     pub its-header : wellFormed cfg bs ≡ true → isSound h ≡ true
     unfolding clauses all
-    its-header w = says-sound (its-kind w) ∙ rw (clause 3 w, clause 6 w, clause 7 w, clause 8 w)
+    its-header w = says-sound (its-kind w) ∙ rw (clause 3 w, clause 7 w, clause 8 w, clause 9 w)
 
     pub well-formed : length bs ≡ 80 → laidOut cfg bs ≡ true → within 1 (cfg .c) (clientAt bs) ≡ true → within 1 (cfg .n) (serverAt bs) ≡ true
-        → allowed (cfg .c) (tagAt bs) ≡ true → isSound h ≡ true → wellFormed cfg bs ≡ true
+        → allowed (cfg .c) (tagAt bs) ≡ true → lengthFits cfg (presentAt bs) (lengthAt bs) ≡ true → isSound h ≡ true → wellFormed cfg bs ≡ true
     unfolding wellFormed clauses all laidOut
-    well-formed e l c v t o =
+    well-formed e l c v t f o =
         let p = layoutClauses cfg bs in
         let q = soundAt bs in
         let k = all-at p l 0 in
@@ -126,6 +132,7 @@ module _ (cfg : Config) (bs : List ℕ) where
           k,
           all-at p l 1,
           all-at q o' 0,
+          f,
           all-at p l 2,
           all-at p l 3,
           all-at q o' 1,

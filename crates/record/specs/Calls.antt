@@ -16,11 +16,12 @@ use Rattle.tag.specs.declared.Tag.{Tag}
 use Rattle.tag.specs.Tag.{allowed}
 use Rattle.record.specs.declared.Header.{Header}
 use Rattle.record.specs.declared.Reading.{Reading}
+use Rattle.record.specs.Element.{Element, elementWith}
 use Rattle.record.specs.Message.{Message}
-use Rattle.record.specs.Record.{all, elementIn, kindNumber, messageOf, ofConfig, ownTag, presence, queryTag, recordOf, wellFormed}
+use Rattle.record.specs.Record.{all, elementIn, kindNumber, lengthAt, lengthFits, messageOf, ofConfig, ownTag, presence, queryTag, recordOf, wellFormed}
 
 -- the message of a header, with the element, if one is present, that stands in the record's bytes
-unfoldable pub withElement : Config → Header → List ℕ → Message (List ℕ)
+unfoldable pub withElement : Config → Header → List ℕ → Message Element
 withElement cfg h bs =
     record {
       kind = h .kind;
@@ -28,7 +29,7 @@ withElement cfg h bs =
       server = serverNumber (h .server);
       operation = h .operation;
       tag = h .tag;
-      element = cond (h .present) (some (elementIn cfg bs)) none;
+      element = cond (h .present) (some (elementWith (h .length) (elementIn cfg bs))) none;
     }
 
 -- Reading: questions 1 to 5; 6, the buffer's length; 12, "Is the record handed over well formed?"
@@ -41,13 +42,19 @@ readNumber (Reading.Message h) = 0
 readNumber (Reading.No why) = refusalNumber why
 
 -- the message that was read from the bytes
-abbrev pub messageRead : Config → List ℕ → Reading → Option (Message (List ℕ))
+abbrev pub messageRead : Config → List ℕ → Reading → Option (Message Element)
 messageRead cfg bs (Reading.Message h) = some (withElement cfg h bs)
 messageRead cfg bs (Reading.No why) = none
+
+-- the header's length, which is in its message if an element is present
+abbrev pub lengthRead : Reading → ℕ
+lengthRead (Reading.Message h) = h .length
+lengthRead (Reading.No why) = 0
 
 pub record ReadPost (cfg : Config) (bs : List ℕ) (r : Reading) : Type 0 where
   pub number : readNumber r ≡ firstNo (readQuestions cfg bs)
   pub message : messageRead cfg bs r ≡ cond (eqb (firstNo (readQuestions cfg bs)) 0) (some (messageOf cfg bs)) none
+  pub length : lengthRead r ≡ cond (eqb (firstNo (readQuestions cfg bs)) 0) (lengthAt bs) 0
 
 -- The rules of a record, of a header: its client, server and tag are within their limits;
 abbrev pub limits : Config → Header → Bool
@@ -61,10 +68,14 @@ soundClauses kind client operation t present =
 unfoldable pub isSound : Header → Bool
 isSound h = all (soundClauses (kindNumber (h .kind)) (clientNumber (h .client)) (h .operation) (h .tag) (h .present))
 
--- Writing: questions 1 to 5; 6, the buffer's length; 12, does the header's message break no rule of the record?
+-- a header with the element in the record's bytes breaks no rule of the record, that on its length among them
+unfoldable pub isHeader : Config → Header → List ℕ → Bool
+isHeader cfg h bs = ofConfig cfg (withElement cfg h bs) && lengthFits cfg (h .present) (h .length)
+
+-- Writing: questions 1 to 5; 6, the buffer's length; 12, does the header break no rule of the record?
 unfoldable pub writeQuestions : Config → Header → List ℕ → List Question
 writeQuestions cfg h bs =
-    questions cfg ++ ask 6 (eqb (length bs) recordLength) ∷ ask 12 (ofConfig cfg (withElement cfg h bs)) ∷ []
+    questions cfg ++ ask 6 (eqb (length bs) recordLength) ∷ ask 12 (isHeader cfg h bs) ∷ []
 
 -- the bytes before and after
 pub record WritePost (cfg : Config) (h : Header) (bs after : List ℕ) (r : Verdict) : Type 0 where

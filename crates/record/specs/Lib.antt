@@ -1,4 +1,5 @@
 pub mod Calls
+pub mod Element
 pub mod Kinds
 pub mod inner
 pub mod Message

@@ -1,4 +1,4 @@
--- A message, as the protocol sees it: no bytes. The element is any type; of the records it is a list of E bytes.
+-- A message, as the protocol sees it: no bytes. The element is any type; of the records it is a length and E bytes.
 use Prim.Native.Nat.{ℕ}
 use mathlib.Core.Option.{Option}
 use Rattle.tag.specs.declared.Tag.{Tag}

@@ -1,4 +1,4 @@
--- Document 01, "Message record, 80 bytes": the bytes of a message. Assumes nothing.
+-- Document 01, "Message record, 80 bytes": the bytes of a message, with the length that document 02 puts there. Assumes nothing.
 use Prim.Native.Nat.{ℕ, _+_, _-_, _*_, _/_, _%_}
 use mathlib.Core.Bool.{Bool, true, cond, not, _&&_}
 use mathlib.Core.Option.{Option, none, some}
@@ -6,12 +6,13 @@ use mathlib.Core.List.{List, [], _∷_, _++_}
 use lib.Dec.{eqb, leb}
 use lib.ListN.{length, getD, take, drop, replicate}
 use Rattle.config.specs.declared.Config.{Config}
-use Rattle.config.specs.Config.{mostWidth, recordLength}
+use Rattle.config.specs.Config.{boardLength, mostWidth, recordLength}
 use Rattle.config.specs.Questions.{within}
 use Rattle.tag.specs.declared.Tag.{Tag}
 use Rattle.tag.specs.Tag.{allowed, same, start}
 use Rattle.record.specs.declared.Kind.{Kind}
 use Rattle.record.specs.declared.Kind.the-variants.{Query, QueryAnswer, PreWrite, PreWriteAnswer, WriteFinalise, WriteFinaliseAnswer, ReadFinalise, ReadFinaliseAnswer}
+use Rattle.record.specs.Element.{Element, elementWith}
 use Rattle.record.specs.Message.{Message}
 
 -- every one of them holds
@@ -33,6 +34,13 @@ numberAt i bs = littleEndian (getD bs i 0) (getD bs (i + 1) 0) (getD bs (i + 2) 
 
 unfoldable pub fourBytes : ℕ → List ℕ
 fourBytes n = n % 256 ∷ n / 256 % 256 ∷ n / 65536 % 256 ∷ n / 16777216 % 256 ∷ []
+
+-- a number of two bytes
+abbrev pub littleTwo : ℕ → ℕ → ℕ
+littleTwo a b = a + 256 * b
+
+unfoldable pub twoBytes : ℕ → List ℕ
+twoBytes n = n % 256 ∷ n / 256 % 256 ∷ []
 
 -- the highest number of four bytes
 abbrev pub highestNumber : ℕ
@@ -62,7 +70,8 @@ kindOf n =
     ReadFinaliseAnswer))))))
 
 -- "Offset 0 kind, 1 client, 2 server, 3 element present (0 or 1), 4 to 7 operation number (at least 1), 8 to 11 tag number, 12 tag's
--- client, 13 to 15 zero, 16 to 79 element, zero past E and zero when absent."
+-- client, 13 to 15 zero, 16 to 79 element, zero past E and zero when absent." Of these, "offsets 13 and 14 hold the length in kind 3, and in
+-- kind 8 with an element, and are zero elsewhere".
 abbrev pub kindAt : List ℕ → ℕ
 kindAt bs = getD bs 0 0
 
@@ -80,6 +89,9 @@ operationAt bs = numberAt 4 bs
 
 abbrev pub tagAt : List ℕ → Tag
 tagAt bs = record { number = numberAt 8 bs; client = getD bs 12 0 }
+
+abbrev pub lengthAt : List ℕ → ℕ
+lengthAt bs = littleTwo (getD bs 13 0) (getD bs 14 0)
 
 -- the E bytes from 16
 abbrev pub elementIn : Config → List ℕ → List ℕ
@@ -101,6 +113,10 @@ ownTag kind client t = cond (within 3 6 kind) (eqb (t .client) client) true
 abbrev pub presence : ℕ → Bool → Bool
 presence kind present = cond (eqb kind 3) present (cond (eqb kind 8) true (not present))
 
+-- With an element, a "length above V makes a record ill formed"; without one it is zero.
+abbrev pub lengthFits : Config → Bool → ℕ → Bool
+lengthFits cfg present length = cond present (leb length (boardLength cfg)) (eqb length 0)
+
 -- The section, clause by clause.
 unfoldable pub clauses : Config → List ℕ → List Bool
 clauses cfg bs =
@@ -108,7 +124,8 @@ clauses cfg bs =
     ∷ within 1 8 (kindAt bs)
     ∷ leb (getD bs 3 0) 1
     ∷ leb 1 (operationAt bs)
-    ∷ allZero (take 3 (drop 13 bs))
+    ∷ lengthFits cfg (presentAt bs) (lengthAt bs)
+    ∷ eqb (getD bs 15 0) 0
     ∷ allZero (drop (elementEnd cfg (presentAt bs)) bs)
     ∷ queryTag (kindAt bs) (tagAt bs)
     ∷ ownTag (kindAt bs) (clientAt bs) (tagAt bs)
@@ -124,7 +141,7 @@ unfoldable pub wellFormed : Config → List ℕ → Bool
 wellFormed cfg bs = all (clauses cfg bs)
 
 -- reading: the message of a record
-unfoldable pub messageOf : Config → List ℕ → Message (List ℕ)
+unfoldable pub messageOf : Config → List ℕ → Message Element
 messageOf cfg bs =
     record {
       kind = kindOf (kindAt bs);
@@ -132,37 +149,47 @@ messageOf cfg bs =
       server = serverAt bs;
       operation = operationAt bs;
       tag = tagAt bs;
-      element = cond (presentAt bs) (some (elementIn cfg bs)) none;
+      element = cond (presentAt bs) (some (elementWith (lengthAt bs) (elementIn cfg bs))) none;
     }
 
-module _ {Element : Type 0} where
-  -- whether an element is present
-  abbrev pub isPresent : Option Element → Bool
-  isPresent none = Bool.false
-  isPresent (some e) = true
+-- whether an element is present
+abbrev pub isPresent : Option Element → Bool
+isPresent none = Bool.false
+isPresent (some e) = true
 
--- an element has E bytes
-abbrev pub sized : Config → Option (List ℕ) → Bool
+-- its length, zero when absent
+abbrev pub lengthOf : Option Element → ℕ
+lengthOf none = 0
+lengthOf (some e) = e .length
+
+-- an element has E bytes, and a length of at most V
+abbrev pub sized : Config → Option Element → Bool
 sized cfg none = true
-sized cfg (some e) = eqb (length e) (cfg .e)
+sized cfg (some e) = eqb (length (e .bytes)) (cfg .e) && leb (e .length) (boardLength cfg)
 
 -- the 64 bytes from 16: "zero past E and zero when absent"
-unfoldable pub elementBytes : Config → Option (List ℕ) → List ℕ
+unfoldable pub elementBytes : Config → Option Element → List ℕ
 elementBytes cfg none = replicate mostWidth 0
-elementBytes cfg (some e) = e ++ replicate (mostWidth - cfg .e) 0
+elementBytes cfg (some e) = e .bytes ++ replicate (mostWidth - cfg .e) 0
 
 -- the first 16 bytes
-unfoldable pub headerBytes : Kind → ℕ → ℕ → Bool → ℕ → Tag → List ℕ
-headerBytes kind client server present operation t =
-    kindNumber kind ∷ client ∷ server ∷ cond present 1 0 ∷ fourBytes operation ++ fourBytes (t .number) ++ t .client ∷ 0 ∷ 0 ∷ 0 ∷ []
+unfoldable pub headerBytes : Kind → ℕ → ℕ → Bool → ℕ → Tag → ℕ → List ℕ
+headerBytes kind client server present operation t length =
+    kindNumber kind
+    ∷ client
+    ∷ server
+    ∷ cond present 1 0
+    ∷ fourBytes operation ++ fourBytes (t .number) ++ t .client ∷ twoBytes length ++ 0 ∷ []
 
 -- writing: the record of a message
-unfoldable pub recordOf : Config → Message (List ℕ) → List ℕ
+unfoldable pub recordOf : Config → Message Element → List ℕ
 recordOf cfg m =
-    headerBytes (m .kind) (m .client) (m .server) (isPresent (m .element)) (m .operation) (m .tag) ++ elementBytes cfg (m .element)
+    headerBytes (m .kind) (m .client) (m .server) (isPresent (m .element)) (m .operation) (m .tag) (lengthOf (m .element))
+    ++ elementBytes cfg (m .element)
 
--- The messages of a configuration: the section's clauses on what a message says, whose numbers have four bytes and whose element E.
-unfoldable pub messageClauses : Config → Message (List ℕ) → List Bool
+-- The messages of a configuration: the section's clauses on what a message says, whose numbers have four bytes and whose element E, with a
+-- length of at most V.
+unfoldable pub messageClauses : Config → Message Element → List Bool
 messageClauses cfg m =
     within 1 highestNumber (m .operation)
     ∷ leb (m .tag .number) highestNumber
@@ -175,5 +202,5 @@ messageClauses cfg m =
     ∷ allowed (cfg .c) (m .tag)
     ∷ []
 
-unfoldable pub ofConfig : Config → Message (List ℕ) → Bool
+unfoldable pub ofConfig : Config → Message Element → Bool
 ofConfig cfg m = all (messageClauses cfg m)

@@ -4,7 +4,7 @@ ghost use mathlib.Core.Path.{_≡_};
 ghost use Prim.Native.Nat.{_+_, _≤_};
 ghost use lib.ListN.{length, replicate};
 ghost use Rattle.record.specs.inner.Parse.{RecordPre, laidOut};
-ghost use Rattle.record.specs.Record.{allZero, elementEnd, fourBytes, numberAt, littleEndian};
+ghost use Rattle.record.specs.Record.{allZero, elementEnd, fourBytes, numberAt, littleEndian, littleTwo};
 ghost use mathlib.Core.Bool.{cond};
 ghost use Rattle.config.specs.Config.{Valid};
 
@@ -21,6 +21,13 @@ pub(crate) fn number_at(at: usize, buf: &[u8]) -> u32
     ensures { λ r. ⌜ r ≡ numberAt at (now (buf .entry)) ⌝ }
 {
     number(buf[at], buf[at + 1], buf[at + 2], buf[at + 3])
+}
+
+// A length's two bytes, the lowest first.
+pub(crate) fn length(a: u8, b: u8) -> u16
+    ensures { λ r. ⌜ r ≡ littleTwo a b ⌝ }
+{
+    a as u16 + b as u16 * 256
 }
 
 // The four bytes of a number, the lowest first.
@@ -80,7 +87,7 @@ pub(crate) fn clear(part: &mut [u8])
     }
 }
 
-// Whether offsets 0 and 3 hold numbers that they may hold, and zeros stand where they are due.
+// Whether offsets 0 and 3 hold numbers that they may hold, and zeros stand at offset 15 and past the element.
 pub(crate) fn laid_out(cfg: Config, buf: &[u8]) -> bool
     requires { ⌜ RecordPre cfg (now buf) ⌝ }
     ensures { λ r. ⌜ r ≡ laidOut cfg (now (buf .entry)) ⌝ }
@@ -94,7 +101,7 @@ pub(crate) fn laid_out(cfg: Config, buf: &[u8]) -> bool
     if 1 < buf[3] {
         return false;
     }
-    if !zero(&buf[13..16]) {
+    if buf[15] != 0 {
         return false;
     }
     if buf[3] == 0 {

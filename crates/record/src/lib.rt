@@ -12,11 +12,12 @@ use config::Refusal;
 use config::Server;
 use config::Verdict;
 use tag::Tag;
+ghost use mathlib.Core.Bool.{true};
 ghost use mathlib.Core.Path.{_≡_};
 ghost use Rattle.record.specs.Calls.{ReadPost, WritePost, withElement};
 ghost use Rattle.record.specs.Kinds.{isForServer};
 ghost use Rattle.record.specs.inner.Parse.{ParsePost, RecordPre};
-ghost use Rattle.record.specs.Record.{kindNumber, kindOf, recordOf};
+ghost use Rattle.record.specs.Record.{kindNumber, kindOf, lengthFits, recordOf};
 
 // The eight kinds of message, in document 01's order: their numbers are 1 to 8.
 pub enum Kind {
@@ -30,7 +31,7 @@ pub enum Kind {
     ReadFinaliseAnswer,
 }
 
-// What a record says besides the element's bytes.
+// What a record says besides the element's bytes. The length is that of the board which the element is of, 0 where none is present.
 pub struct Header {
     pub kind: Kind,
     pub client: Client,
@@ -38,6 +39,7 @@ pub struct Header {
     pub operation: u32,
     pub tag: Tag,
     pub present: bool,
+    pub length: u16,
 }
 
 pub enum Reading {
@@ -134,6 +136,10 @@ fn parse(cfg: Config, buf: &[u8]) -> Reading
     if !tag.allowed(cfg.c) {
         return Reading::No(Refusal::IllFormed);
     }
+    let length = layout::length(buf[13], buf[14]);
+    if !rules::length_fits(cfg, present, length) {
+        return Reading::No(Refusal::IllFormed);
+    }
     let h = Header {
         kind,
         client,
@@ -141,6 +147,7 @@ fn parse(cfg: Config, buf: &[u8]) -> Reading
         operation,
         tag,
         present,
+        length,
     };
     if !rules::sound(h) {
         return Reading::No(Refusal::IllFormed);
@@ -166,13 +173,16 @@ pub fn write(cfg: Config, h: Header, buf: &mut [u8]) -> Verdict
     if !rules::sound(h) {
         return Verdict::No(Refusal::IllFormed);
     }
+    if !rules::length_fits(cfg, h.present, h.length) {
+        return Verdict::No(Refusal::IllFormed);
+    }
     put(cfg, h, buf);
     Verdict::Accepted
 }
 
 // Writes the first 16 bytes, and zeros past the element.
 fn put(cfg: Config, h: Header, buf: &mut [u8])
-    requires { ⌜ RecordPre cfg (now buf) ⌝ }
+    requires { ⌜ (RecordPre cfg (now buf)) × (lengthFits cfg (h .present) (h .length) ≡ true) ⌝ }
     ensures { λ _. ⌜ now (buf .exit) ≡ recordOf cfg (withElement cfg h (now (buf .entry))) ⌝ }
 {
     let kind = h.kind;
@@ -185,6 +195,7 @@ fn put(cfg: Config, h: Header, buf: &mut [u8])
     let p = layout::flag(h.present);
     let o = layout::four_bytes(h.operation);
     let t = layout::four_bytes(tag.number);
+    let n = h.length;
     let head = [
         k,
         c,
@@ -199,8 +210,8 @@ fn put(cfg: Config, h: Header, buf: &mut [u8])
         t[2],
         t[3],
         tag.client,
-        0,
-        0,
+        (n % 256) as u8,
+        (n / 256) as u8,
         0,
     ];
     bytes::copy(&head, buf);

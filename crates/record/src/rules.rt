@@ -3,8 +3,9 @@ use crate::Header;
 use config::Config;
 use tag::Tag;
 ghost use mathlib.Core.Path.{_≡_};
+ghost use Rattle.config.specs.Config.{Valid};
 ghost use Rattle.record.specs.Calls.{isSound, limits as inLimits};
-ghost use Rattle.record.specs.Record.{ownTag, presence as presentIn, queryTag};
+ghost use Rattle.record.specs.Record.{lengthFits, ownTag, presence as presentIn, queryTag};
 
 // "Kind 1 has tag (0, 0)."
 fn query_tag(kind: u8, t: Tag) -> bool
@@ -63,6 +64,17 @@ pub(crate) fn sound(h: Header) -> bool
         return false;
     }
     presence(number, h.present)
+}
+
+// With an element the length is at most V; without one it is zero.
+pub(crate) fn length_fits(cfg: Config, present: bool, length: u16) -> bool
+    requires { ⌜ Valid cfg ⌝ }
+    ensures { λ r. ⌜ r ≡ lengthFits cfg present length ⌝ }
+{
+    if present {
+        return length as usize <= cfg.k * cfg.e;
+    }
+    length == 0
 }
 
 // The client, the server and the tag are within their limits.

@@ -56,12 +56,27 @@ fn phases(a: Phase, b: Phase) -> bool {
         & t.same(y.tag)
 }
 
+// The lengths that a client has received.
+fn received(a: [u16; 16], b: [u16; 16]) -> bool {
+    let mut all = true;
+    for i in 0..16usize {
+        all = all & (a[i] == b[i]);
+    }
+    all
+}
+
 fn clients(a: client::State, b: client::State) -> bool {
     let me = a.me;
     let other = b.me;
     let x = a.phase;
     let y = b.phase;
-    (me.number() == other.number()) & (a.operation == b.operation) & phases(x, y)
+    let xs = a.lengths;
+    let ys = b.lengths;
+    (me.number() == other.number())
+        & (a.operation == b.operation)
+        & (a.length == b.length)
+        & phases(x, y)
+        & received(xs, ys)
 }
 
 fn floors(a: Floor, b: Floor) -> bool {
@@ -83,6 +98,15 @@ fn tags(a: [Tag; 8], b: [Tag; 8]) -> bool {
     all
 }
 
+// The lengths that a server stores.
+fn stored(a: [u16; 8], b: [u16; 8]) -> bool {
+    let mut all = true;
+    for i in 0..8usize {
+        all = all & (a[i] == b[i]);
+    }
+    all
+}
+
 fn nodes(a: Node, b: Node) -> bool {
     let s = a.state;
     let t = b.state;
@@ -93,12 +117,15 @@ fn nodes(a: Node, b: Node) -> bool {
     let y = t.floor;
     let xs = s.tags;
     let ys = t.tags;
+    let long = s.lengths;
+    let others = t.lengths;
     (a.up == b.up)
         & (me.number() == other.number())
         & (s.count == t.count)
         & highest.same(t.highest)
         & floors(x, y)
         & tags(xs, ys)
+        & stored(long, others)
 }
 
 // Whether an event has left this rig.

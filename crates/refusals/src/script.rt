@@ -18,8 +18,8 @@ pub(crate) struct Given {
 }
 
 // A field: the code of its character less that of 0.
-pub(crate) fn field(line: [u8; 80], j: usize) -> u8
-    requires { ⌜ j < 80 ⌝ }
+pub(crate) fn field(line: [u8; 96], j: usize) -> u8
+    requires { ⌜ j < 96 ⌝ }
 {
     let c = line[j];
     if c < 48 {
@@ -28,9 +28,9 @@ pub(crate) fn field(line: [u8; 80], j: usize) -> u8
     c - 48
 }
 
-// N, k, D, E and C; M; code, party, position and the board's byte; and of six lengths 0 for one too short, 1 for the right one, 2 for one
-// too long.
-pub(crate) fn handed(line: [u8; 80]) -> Given
+// N, k, D, E and C; M; code, party, position, the board's byte and its length in two bytes, the lowest first; and of the lengths of six
+// buffers 0 for one too short, 1 for the right one, 2 for one too long.
+pub(crate) fn handed(line: [u8; 96]) -> Given
     ensures { λ r. ⌜ (r .board ≤ 2) × (r .read ≤ 2) × (r .messages ≤ 5121) × (r .stores ≤ 4) × (r .boards ≤ 3) × (r .elements ≤ 7) ⌝ }
 {
     let cfg = Config {
@@ -44,17 +44,18 @@ pub(crate) fn handed(line: [u8; 80]) -> Given
         code: field(line, 10),
         party: field(line, 11),
         position: field(line, 12) as usize,
+        length: field(line, 14) as u16 + field(line, 15) as u16 * 256,
     };
     Given {
         cfg,
         m: field(line, 7) as usize * 64 + field(line, 8) as usize,
         call,
         byte: field(line, 13),
-        board: field(line, 15) as usize % 3,
-        read: field(line, 16) as usize % 3,
-        messages: 5119 + field(line, 17) as usize % 3,
-        stores: 2 + field(line, 18) as usize % 3,
-        boards: 1 + field(line, 19) as usize % 3,
-        elements: 5 + field(line, 20) as usize % 3,
+        board: field(line, 17) as usize % 3,
+        read: field(line, 18) as usize % 3,
+        messages: 5119 + field(line, 19) as usize % 3,
+        stores: 2 + field(line, 20) as usize % 3,
+        boards: 1 + field(line, 21) as usize % 3,
+        elements: 5 + field(line, 22) as usize % 3,
     }
 }

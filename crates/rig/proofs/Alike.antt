@@ -15,8 +15,8 @@ use Rattle.laws.specs.Parts.{part}
 use Rattle.laws.proofs.Bools.{and-left, and-right}
 use Rattle.config.specs.declared.Config.{Config}
 use Rattle.config.specs.Config.{Valid, boardLength, rigQuestions, storeLength}
-use Rattle.config.specs.Number.{serverNumber}
-use Rattle.config.specs.Questions.{ask, firstNo, within}
+use Rattle.config.specs.Number.{clientNumber, serverNumber}
+use Rattle.config.specs.Questions.{Question, ask, firstNo, within}
 use Rattle.config.specs.Refusal.{verdictNumber}
 use Rattle.config.proofs.Questions.{firstNo-behind, none-first, none-rest, rigQuestions-numbered, within-high, within-low, yes-next}
 use Rattle.config.proofs.Valid.{rig-valid}
@@ -31,13 +31,14 @@ use Rattle.server.proofs.Laws.{server-within}
 use Rattle.protocol.specs.Alike as protocol
 use Rattle.protocol.specs.Alike.{AlikeRigs, StoredOnce, OnceEach}
 use Rattle.protocol.specs.Board.{nothingEnded, readBy, refused, spentBy, writtenBy}
-use Rattle.protocol.specs.Boards.{Board, BoardAnswer, BoardCall, BoardEvent, decode, encode, freshRig, order, questions}
+use Rattle.protocol.specs.Boards.{BoardAnswer, BoardCall, BoardEvent, decode, encode, freshRig, order, questions, startingBoard, writeFits}
 use Rattle.protocol.specs.Rig as model
 use Rattle.protocol.specs.Rig.{codeOf}
 use Rattle.protocol.specs.Server.{noServer}
 use Rattle.protocol.proofs.Basics.{some-injective}
 use Rattle.protocol.proofs.Alike.{alike-self, move-alike, questions-alike, unless-alike}
 use Rattle.client.specs.declared.State as client
+use Rattle.client.proofs.Seen as states
 use Rattle.parties.specs.declared.Answer.{Answer}
 use Rattle.parties.specs.declared.Node.{Node}
 use Rattle.parties.specs.Acts.{answerOf, isRead}
@@ -47,7 +48,7 @@ use Rattle.rig.specs.declared.Made.{Made}
 use Rattle.events.specs.declared.Places.{Places}
 use Rattle.events.specs.declared.Rig.{Rig}
 use Rattle.events.specs.declared.Turn.{Turn}
-use Rattle.rig.specs.Alike.{Alike, AlikeNodes, AlikePlaces, AlikeTurns, SameCalls}
+use Rattle.rig.specs.Alike.{Alike, AlikeClients, AlikeNodes, AlikePlaces, AlikeTurns, SameCalls}
 use Rattle.events.specs.View.{Lent, flight, partiesOf, place, serverOf, serverSeen, view}
 use Rattle.parties.specs.Within.{clientInPlace, serverInPlace}
 use Rattle.rig.specs.Calls.{makeQuestions}
@@ -56,7 +57,7 @@ use Rattle.events.specs.Calls.{ChangePost, EventPost, eventNo, outcome, partAt,
 use Rattle.rig.specs.Calls.{MakePost, makeNo}
 use Rattle.rig.specs.Runs.{Runs, event, made}
 use Rattle.rig.proofs.Making.{make-sized}
-use Rattle.events.proofs.Below.{below-at, below-same}
+use Rattle.laws.proofs.Below.{below-at, below-same}
 use Rattle.events.proofs.Entry.{changed}
 use Rattle.events.proofs.RigWithin.{servers-within}
 
@@ -94,6 +95,15 @@ node-alike cfg i (some x) none storeX storeY alike = absurd alike
 node-alike cfg i none (some y) storeX storeY alike = absurd alike
 node-alike cfg i none none storeX storeY alike = refl
 
+client-alike : (cfg : Config) (i : ℕ) (x y : Option client.State) (keptX elementsX keptY elementsY : List ℕ) → AlikeClients cfg x keptX elementsX y keptY elementsY
+    → clientInPlace cfg i x ≡ clientInPlace cfg i y
+unfolding AlikeClients clientInPlace
+client-alike cfg i (some x) (some y) keptX elementsX keptY elementsY alike =
+    ap₂ (λ n b. eqb (clientNumber n) (i + 1) && b) (alike .0) (states.within-alike cfg x y keptX keptY elementsX elementsY (alike .0) (alike .1))
+client-alike cfg i (some x) none keptX elementsX keptY elementsY alike = absurd alike
+client-alike cfg i none (some y) keptX elementsX keptY elementsY alike = absurd alike
+client-alike cfg i none none keptX elementsX keptY elementsY alike = refl
+
 pub within-alike : {cfg : Config} {r z : Rig} {l lentZ : Lent} → AlikePlaces cfg r l z lentZ → (m : ℕ) → rigWithin cfg m r ≡ rigWithin cfg m z
 unfolding rigWithin
 within-alike {cfg} {r} {z} alike m =
@@ -102,7 +112,7 @@ within-alike {cfg} {r} {z} alike m =
     (below-same (cfg .n) (λ i. serverInPlace cfg i (getElem? (r .servers) i)) (λ i. serverInPlace cfg i (getElem? (z .servers) i))
     (λ i h. node-alike cfg i (getElem? (r .servers) i) (getElem? (z .servers) i) _ _ (alike .servers i h)))
     (below-same (cfg .c) (λ i. clientInPlace cfg i (getElem? (r .clients) i)) (λ i. clientInPlace cfg i (getElem? (z .clients) i))
-    (λ i h. ap (clientInPlace cfg i) (alike .clients i h))))
+    (λ i h. client-alike cfg i (getElem? (r .clients) i) (getElem? (z .clients) i) _ _ _ _ (alike .clients i h))))
 
 -- ---- the buffer lent for a read, by the answer
 
@@ -111,14 +121,14 @@ abbrev shown : BoardAnswer → List ℕ → List ℕ
 shown nothingEnded read = read
 shown (writtenBy c t) read = read
 shown (spentBy c) read = read
-shown (readBy c t v) read = v
+shown (readBy c t v) read = v .bytes
 shown (refused n) read = read
 
 read-is : (x : Answer) (read read′ : List ℕ) → (isRead x ≡ false → read′ ≡ read) → read′ ≡ shown (answerOf x read′) read
 read-is Answer.Nothing read read′ h = h refl
 read-is (Answer.Written c t) read read′ h = h refl
 read-is (Answer.Spent c) read read′ h = h refl
-read-is (Answer.Read c t) read read′ h = refl
+read-is (Answer.Read c t length) read read′ h = refl
 read-is (Answer.No why) read read′ h = h refl
 
 -- ---- an event
@@ -128,7 +138,7 @@ module _ (cfg : Config) (m : ℕ) (r z : Rig) (l k : Lent) (alike : Alike cfg m 
   where
     -- the lengths of the board handed in and of the buffer lent for a read
     abbrev lengths : ℕ → Bool
-    lengths n = eqb (length (a .board)) (boardLength cfg) && eqb n (boardLength cfg)
+    lengths n = eqb (length (a .board .bytes)) (boardLength cfg) && eqb n (boardLength cfg)
 
     -- question 6
     abbrev six : Bool
@@ -146,12 +156,17 @@ module _ (cfg : Config) (m : ℕ) (r z : Rig) (l k : Lent) (alike : Alike cfg m 
         (formedFor cfg (flight r l) (a .position) code) code
         ∙ ap (λ rs. questions cfg m (view cfg z k) a (formedFor cfg rs (a .position) code) code) (alike .records)
 
+    -- 19, which asks of the call alone, and they
+    abbrev after : Rig → Lent → List Question
+    after x k = ask 19 (writeFits cfg a (codeOf (a .code))) ∷ laterQuestions cfg m x a k
+
     -- an event is refused alike
     pub refused-alike : eventNo cfg m r a read l ≡ eventNo cfg m z a readZ k
     unfolding eventQuestions
     refused-alike =
-        firstNo-behind (rigQuestions cfg m) 6 six (laterQuestions cfg m r a l) (laterQuestions cfg m z a k) (λ five h. ap firstNo (later-one five h))
-        ∙ (λ i. firstNo (rigQuestions cfg m ++ ask 6 (lengths (long i) && alike .lengths i && alike .within i) ∷ laterQuestions cfg m z a k))
+        firstNo-behind (rigQuestions cfg m) 6 six (after r l) (after z k)
+        (λ five h. ap (λ qs. firstNo (ask 19 (writeFits cfg a (codeOf (a .code))) ∷ qs)) (later-one five h))
+        ∙ (λ i. firstNo (rigQuestions cfg m ++ ask 6 (lengths (long i) && alike .lengths i && alike .within i) ∷ after z k))
 
     -- where it is not refused
     module _ (e : eventNo cfg m r a read l ≡ 0) where
@@ -276,7 +291,7 @@ nothing-mapped : {A B : Type 0} (f : A → B) (xs : List A) → map f xs ≡ [] 
 nothing-mapped f [] e = refl
 nothing-mapped f (x ∷ xs) e = cc
 
-module _ (cfg : Config) (m : ℕ) (start : Board) where
+module _ (cfg : Config) (m : ℕ) (start : List ℕ) where
   made-empty : (l : Lent) {r : Made} {l′ : Lent} → MakePost cfg m start l r l′ → makeNo cfg m start l ≡ 0 → flight (r .rig) l′ ≡ []
   unfolding view model.freshRig
   made-empty l {r} {l′} post e = nothing-mapped (messageOf cfg) (flight (r .rig) l′) (ap (λ v. v .inFlight) (post .seen e))
@@ -293,7 +308,7 @@ module _ (cfg : Config) (m : ℕ) (start : Board) where
             let e : makeNo cfg m start l ≡ 0 = sym (postR .number) ∙ none-no in
             let f : makeNo cfg m start k ≡ 0 = sym one ∙ e in
             record {
-              seen = subst₂ AlikeRigs (sym (postR .seen e)) (sym (postZ .seen f)) (alike-self (freshRig cfg start));
+              seen = subst₂ AlikeRigs (sym (postR .seen e)) (sym (postZ .seen f)) (alike-self (freshRig cfg (startingBoard cfg start)));
               records = made-empty l postR e ∙ sym (made-empty k postZ f);
               within = postR .within e ∙ sym (postZ .within f);
               lengths = postR .lengths ∙ long ∙ sym (postZ .lengths);

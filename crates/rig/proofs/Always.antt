@@ -1,10 +1,10 @@
 -- A fresh rig passes every question about a state and its buffers, and every event keeps that: along a list of events 1 to 5 are never
--- refused, and 6 only for the length of the board handed in or of the buffer lent for a read. Assumes nothing.
+-- refused, and 6 only for how many bytes the board handed in or the buffer lent for a read has. Assumes nothing.
 use Prim.Native.Nat.{ℕ}
 use mathlib.Core.Path.{_≡_, refl, sym, ap, _∙_}
 use mathlib.Core.Bool.{Bool, true, false, cond, _&&_}
 use mathlib.Core.Option.{Option, none, some}
-use mathlib.Core.List.{List, [], append-nil}
+use mathlib.Core.List.{List, [], _∷_, append-nil}
 use native.Mathlib.Omega.{arith}
 use native.Mathlib.Decide.{ℕ-discrete}
 use borrow.Author.Tests.{eq-eqb}
@@ -12,8 +12,8 @@ use lib.Dec.{eqb}
 use lib.ListN.{length}
 use Rattle.config.specs.declared.Config.{Config}
 use Rattle.config.specs.Config.{boardLength, rigQuestions}
-use Rattle.config.specs.Questions.{firstNo}
-use Rattle.protocol.specs.Boards.{Board, BoardCall, BoardEvent, BoardRig, questions}
+use Rattle.config.specs.Questions.{Question, ask, firstNo}
+use Rattle.protocol.specs.Boards.{BoardCall, BoardEvent, BoardRig, questions, writeFits}
 use Rattle.protocol.specs.Client.{beginQuestions}
 use Rattle.protocol.specs.Parties.{questionsToBegin, questionsToCrashClient, questionsToCrashServer}
 use Rattle.protocol.specs.Rig as protocol
@@ -26,7 +26,7 @@ use Rattle.rig.specs.Runs.{Runs, made, event}
 use Rattle.rig.proofs.Making.{make-five, make-sized}
 use Rattle.events.proofs.Asked.{asked-six, lacks, skip}
 
-module _ (cfg : Config) (m : ℕ) (start : Board) where
+module _ (cfg : Config) (m : ℕ) (start : List ℕ) where
   pub always-five : {r : Rig} {l : Lent} {events : List BoardEvent} → Runs cfg m start r l events → firstNo (rigQuestions cfg m) ≡ 0
   always-five (made {l = l} b p e) = make-five cfg m start l (sym (p .number) ∙ e)
   always-five (event runs a b read read′ p) = always-five runs
@@ -48,15 +48,19 @@ module _ (cfg : Config) (m : ℕ) (start : Board) where
   module _ {r : Rig} {l : Lent} {events : List BoardEvent} (runs : Runs cfg m start r l events) (a : BoardCall) (read : List ℕ) where
     -- the board handed in and the buffer lent for a read have V bytes
     abbrev lengths : Bool
-    lengths = eqb (length (a .board)) (boardLength cfg) && eqb (length read) (boardLength cfg)
+    lengths = eqb (length (a .board .bytes)) (boardLength cfg) && eqb (length read) (boardLength cfg)
 
-    -- an event is refused with 6 where one of the two has not, and else by 7 to 13
-    pub always-asks : eventNo cfg m r a read l ≡ cond lengths (firstNo (laterQuestions cfg m r a l)) 6
+    -- 19, and 7 to 13
+    abbrev after : List Question
+    after = ask 19 (writeFits cfg a (codeOf (a .code))) ∷ laterQuestions cfg m r a l
+
+    -- an event is refused with 6 where one of the two has not, and else by 19 or 7 to 13
+    pub always-asks : eventNo cfg m r a read l ≡ cond lengths (firstNo after) 6
     always-asks =
         asked-six cfg m r a read l (always-five runs)
         ∙ rw (always-sized runs, always-within runs) (by lengths)
       where
-        by : (b : Bool) → cond (b && true && true) (firstNo (laterQuestions cfg m r a l)) 6 ≡ cond b (firstNo (laterQuestions cfg m r a l)) 6
+        by : (b : Bool) → cond (b && true && true) (firstNo after) 6 ≡ cond b (firstNo after) 6
         by true = refl
         by false = refl
 
@@ -74,14 +78,16 @@ module _ (cfg : Config) (m : ℕ) (start : Board) where
 
   -- "6. Has each buffer its length (V for boards, ..": along a list of events no other length, and nothing in the state, is a ground for 6
   pub six-only : {r : Rig} {l : Lent} {events : List BoardEvent} → Runs cfg m start r l events → (a : BoardCall) (read : List ℕ)
-      → length (a .board) ≡ boardLength cfg → length read ≡ boardLength cfg → eventNo cfg m r a read l ≡ 6 → ⊥
-  unfolding firstNo
+      → length (a .board .bytes) ≡ boardLength cfg → length read ≡ boardLength cfg → eventNo cfg m r a read l ≡ 6 → ⊥
+  unfolding firstNo lacks
   six-only {r = r} {l = l} runs a read board long e =
-      let number : eventNo cfg m r a read l ≡ firstNo (laterQuestions cfg m r a l) =
-      always-asks runs a read ∙ rw (eq-eqb (length (a .board)) (boardLength cfg) board, eq-eqb (length read) (boardLength cfg) long) in
+      let later = laterQuestions cfg m r a l in
+      let more = ask 19 (writeFits cfg a (codeOf (a .code))) ∷ later in
+      let number : eventNo cfg m r a read l ≡ firstNo more =
+      always-asks runs a read ∙ rw (eq-eqb (length (a .board .bytes)) (boardLength cfg) board, eq-eqb (length read) (boardLength cfg) long) in
       omega (
         arith,
-        skip 6 (laterQuestions cfg m r a l) []
+        skip 6 later []
             (later-others (view cfg r l) a (formedFor cfg (flight r l) (a .position) (codeOf (a .code))) (codeOf (a .code)))
-            (ap firstNo (append-nil (laterQuestions cfg m r a l)) ∙ sym number ∙ e),
+            (ap firstNo (append-nil later) ∙ skip 6 (ask 19 (writeFits cfg a (codeOf (a .code))) ∷ []) later refl (sym number ∙ e)),
       )

@@ -7,12 +7,15 @@ use lib.ListN.{length, getElem?, set}
 use Rattle.laws.specs.Bytes.{Bytes}
 use Rattle.config.specs.declared.Config.{Config}
 use Rattle.config.specs.Config.{boardLength}
-use Rattle.protocol.specs.Boards.{Board, BoardEvent}
+use Rattle.protocol.specs.Boards.{BoardEvent}
+use Rattle.protocol.proofs.Cut.{filled, length-cut}
+use Rattle.parties.specs.Acts.{answerOf}
 use Rattle.events.specs.declared.Call.{Call}
 use Rattle.events.specs.declared.Change.{Change}
 use Rattle.events.specs.declared.Part.{Part}
 use Rattle.events.specs.declared.Places.{Places}
 use Rattle.events.specs.declared.Rig.{Rig}
+use Rattle.events.specs.declared.Turn.{Turn}
 use Rattle.events.specs.View.{Lent}
 use Rattle.events.specs.Questions.{placesOf}
 use Rattle.events.specs.Calls.{ChangePost, EventPost, called, partAt, turned, withPart}
@@ -20,6 +23,13 @@ use Rattle.rig.specs.InPlace.{InPlace, Turned, eventBy, next, none}
 use Rattle.rig.specs.Runs.{Runs, Whole, WholeRuns, event}
 use Rattle.rig.proofs.InPlace.{in-place}
 pub use Rattle.rig.proofs.Owned.{client-places, server-places}
+
+-- A host that calls the rig's event with any call, board and buffer goes on with its list: a board of bytes and a length is one of those that
+-- `Runs` asks for.
+pub event-on : {cfg : Config} {m : ℕ} {start : List ℕ} {r : Rig} {l : Lent} {events : List BoardEvent} → Runs cfg m start r l events
+    → (a : Call) (board : List ℕ) → Bytes board → {read read′ : List ℕ} {t : Turn} {l′ : Lent} → EventPost cfg m r (called a board) read l t read′ l′
+    → Runs cfg m start (t .rig) l′ (events ++ (record { call = called a board; answer = answerOf (t .answer) read′ } ∷ []))
+event-on runs a board bytes {read} {read′} post = event runs (called a board) (filled (a .length) board bytes) read read′ post
 
 module _ {cfg : Config} {m : ℕ} {r : Rig} {l : Lent} {a : Call} {board read : List ℕ} {x : Change} {read′ : List ℕ} {l′ : Lent} {r′ : Rig}
     (t : Turned cfg m r l a board read x read′ l′ r′)
@@ -42,25 +52,27 @@ module _ {cfg : Config} {m : ℕ} {r : Rig} {l : Lent} {a : Call} {board read : 
         })
         ∙ sym (t .put)
 
-    event-there : {start : Board} {events : List BoardEvent} → Runs cfg m start r l events → EventPost cfg m r (called a board) read l (turned r x) read′ l′
+    event-there : {start : List ℕ} {events : List BoardEvent} → Runs cfg m start r l events → EventPost cfg m r (called a board) read l (turned r x) read′ l′
     event-there runs =
         in-place runs a (ap (λ (z : Places). getElem? (r .servers) (z .server)) (sym (t .named)) ∙ t .node-is)
         (ap (λ (z : Places). getElem? (r .clients) (z .client)) (sym (t .named)) ∙ t .state-is) changed-there
 
-    goes-on : {start : Board} {events : List BoardEvent} → Runs cfg m start r l events → Bytes board
+    goes-on : {start : List ℕ} {events : List BoardEvent} → Runs cfg m start r l events → Bytes board
         → Runs cfg m start r′ l′ (events ++ (eventBy a board x read′ ∷ []))
     goes-on {start} {events} runs bytes =
         subst (λ (z : Rig). Runs cfg m start z l′ (events ++ (eventBy a board x read′ ∷ []))) put-there
-        (event runs (called a board) bytes read read′ (event-there runs))
+        (event-on runs a board bytes (event-there runs))
 
-    goes-on-whole : {start : Board} {events : List BoardEvent} → WholeRuns cfg m start r l events → Bytes board → length board ≡ boardLength cfg
+    goes-on-whole : {start : List ℕ} {events : List BoardEvent} → WholeRuns cfg m start r l events → Bytes board → length board ≡ boardLength cfg
         → length read ≡ boardLength cfg → WholeRuns cfg m start r′ l′ (events ++ (eventBy a board x read′ ∷ []))
     unfolding Whole
     goes-on-whole {start} {events} w bytes long lent =
-        subst (λ (z : Rig). WholeRuns cfg m start z l′ (events ++ (eventBy a board x read′ ∷ []))) put-there
-        (event (w .0) (called a board) bytes read read′ (event-there (w .0)), (w .1, long, lent))
+        subst (λ (z : Rig). WholeRuns cfg m start z l′ (events ++ (eventBy a board x read′ ∷ []))) put-there (
+          event (w .0) (called a board) (filled (a .length) board bytes) read read′ (event-there (w .0)),
+          (w .1, length-cut (a .length) board ∙ long, lent),
+        )
 
-module _ {cfg : Config} {m : ℕ} {start : Board} {r : Rig} {l : Lent} {before : List BoardEvent} where
+module _ {cfg : Config} {m : ℕ} {start : List ℕ} {r : Rig} {l : Lent} {before : List BoardEvent} where
   -- a list of events that came to a rig goes on by those that are run on it in place
   pub runs-on : {events : List BoardEvent} {r′ : Rig} {l′ : Lent} → InPlace cfg m r l events r′ l′ → Runs cfg m start r l before
       → Runs cfg m start r′ l′ (before ++ events)

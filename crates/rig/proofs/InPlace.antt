@@ -12,7 +12,7 @@ use Rattle.config.specs.declared.Config.{Config}
 use Rattle.config.specs.Config.{rigQuestions}
 use Rattle.config.proofs.Questions.{last-yes, rigQuestions-numbered}
 use Rattle.client.specs.declared.State as client
-use Rattle.protocol.specs.Boards.{Board, BoardEvent}
+use Rattle.protocol.specs.Boards.{BoardEvent}
 use Rattle.parties.specs.declared.Node.{Node}
 use Rattle.events.specs.declared.Call.{Call}
 use Rattle.events.specs.declared.Change.{Change}
@@ -25,7 +25,7 @@ use Rattle.rig.specs.Runs.{Runs}
 use Rattle.rig.proofs.Always.{always-five, always-within}
 use Rattle.events.proofs.Entry.{rig-changed}
 
-module _ {cfg : Config} {m : ℕ} {start : Board} {r : Rig} {l : Lent} {events : List BoardEvent} (runs : Runs cfg m start r l events) (a : Call) where
+module _ {cfg : Config} {m : ℕ} {start : List ℕ} {r : Rig} {l : Lent} {events : List BoardEvent} (runs : Runs cfg m start r l events) (a : Call) where
   abbrev named : Places
   named = placesOf cfg (r .count) a (l .messages)
 

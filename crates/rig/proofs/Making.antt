@@ -19,14 +19,12 @@ use Rattle.config.specs.Config.{Valid, boardLength, rigQuestions, storeLength}
 use Rattle.config.specs.Questions.{firstNo, lastQuestion, numbered, within}
 use Rattle.config.specs.Refusal.{verdictNumber}
 use Rattle.config.proofs.Questions.{firstNo-high, none-first, within-high, within-low, within-true}
-use Rattle.code.specs.Element.{element}
 use Rattle.server.specs.Calls as server
-use Rattle.server.specs.View as serverView
 use Rattle.client.specs.declared.State as client
 use Rattle.client.specs.State as clientView
 use Rattle.client.specs.State.{phaseOf}
 use Rattle.flight.specs.Flight.{records}
-use Rattle.protocol.specs.Boards.{Board, freshParties, freshRig}
+use Rattle.protocol.specs.Boards.{encode, freshParties, freshRig, startingBoard}
 use Rattle.protocol.specs.Client.{freshClient}
 use Rattle.protocol.specs.Parties as parties
 use Rattle.protocol.specs.Rig as rig
@@ -40,15 +38,15 @@ use Rattle.parties.specs.Within.{clientInPlace, serverInPlace}
 use Rattle.parties.proofs.Making.{client-within, node-within}
 use Rattle.events.specs.Questions.{rigWithin, sized, sizedBy}
 use Rattle.rig.specs.Calls.{MakePost, leastRig, makeNo, makeQuestions}
-use Rattle.rig.specs.inner.Fresh.{FreshClients, FreshServer, FreshServers, RigPost, RigPre}
-use Rattle.events.proofs.Below.{below-all}
+use Rattle.rig.specs.inner.Fresh.{FreshClients, FreshServer, FreshServers, FreshStore, RigPost, RigPre}
+use Rattle.laws.proofs.Below.{below-all}
 use Rattle.events.proofs.Asked.{is-valid, six}
 use Rattle.events.proofs.Lengths.{stores-are}
 
 -- ---- no question is answered no
 
 -- a making that got no number
-module _ (cfg : Config) (m : ℕ) (start : Board) (l : Lent) (h : firstNo (makeQuestions cfg m start l) ≡ 0) where
+module _ (cfg : Config) (m : ℕ) (start : List ℕ) (l : Lent) (h : firstNo (makeQuestions cfg m start l) ≡ 0) where
   abbrev startIs : Bool
   startIs = eqb (length start) (boardLength cfg)
 
@@ -72,10 +70,11 @@ module _ (cfg : Config) (m : ℕ) (start : Board) (l : Lent) (h : firstNo (makeQ
 
 -- ---- one party
 
--- server 1 is made where it can be, and is given where none can
-pub least-node : {cfg : Config} {start before after : List ℕ} {r : NewNode} → FreshServerPost cfg 1 start before after r → r .node ≡ freshNode 1
-least-node {cfg} {start} {before} {after} {r} post = elim (ℕ-discrete (serverNo cfg 1 start before) 0) as (λ _. r .node ≡ freshNode 1) [
-  | yes z ↦ post .made z
+-- server 1 of a board of one byte is made where it can be, and is given where none can
+pub least-node : {cfg : Config} → boardLength cfg ≡ 1 → {start before after : List ℕ} {r : NewNode} → FreshServerPost cfg 1 start before after r
+    → r .node ≡ freshNode 1 1
+least-node {cfg} one {start} {before} {after} {r} post = elim (ℕ-discrete (serverNo cfg 1 start before) 0) as (λ _. r .node ≡ freshNode 1 1) [
+  | yes z ↦ post .made z ∙ ap (λ n. freshNode n 1) one
   | no n ↦ post .refused n .0
 ]
 
@@ -113,7 +112,7 @@ module _ (cfg : Config) (start : List ℕ) (i : ℕ) (nodes : List Node) (x : No
 
 -- ---- the rig
 
-module _ (cfg : Config) (m : ℕ) (start : Board) (l : Lent) (got : ℕ) (asked : got ≡ makeNo cfg m start l) where
+module _ (cfg : Config) (m : ℕ) (start : List ℕ) (l : Lent) (got : ℕ) (asked : got ≡ makeNo cfg m start l) where
   number-high : makeNo cfg m start l ≤ lastQuestion
   unfolding makeQuestions rigQuestions numbered
   number-high = firstNo-high (makeQuestions cfg m start l) refl
@@ -154,22 +153,23 @@ module _ (cfg : Config) (m : ℕ) (start : Board) (l : Lent) (got : ℕ) (asked 
       inside p n h = (omega (arith, within-low 1 n p h, within-high 1 n p h), omega (arith, within-low 1 n p h))
 
       server-at : (s : ℕ) (b : Bool) → within 1 (cfg .n) s ≡ b
-          → (serverOf cfg r l′ s ≡ cond b (freshServer (element cfg start s)) noServer) × (upOf cfg r s ≡ true)
+          → (serverOf cfg r l′ s ≡ cond b (freshServer (encode cfg (startingBoard cfg start) s)) noServer) × (upOf cfg r s ≡ true)
       unfolding serverOf upOf place serverSeen upSeen
       server-at s false h = rw h (refl, refl)
       server-at s true h =
           let i = inside s (cfg .n) h in
           let fresh = post .servers .fresh (s - 1) (i .0) in
-          let stood : getElem? (r .servers) (s - 1) ≡ some (freshNode s) = fresh .is ∙ ap (λ p. some (freshNode p)) (i .1) in
+          let stood : getElem? (r .servers) (s - 1) ≡ some (freshNode (boardLength cfg) s) =
+          fresh .is ∙ ap (λ p. some (freshNode (boardLength cfg) p)) (i .1) in
           rw (h, stood)
-          (subst (λ p. serverView.view cfg (freshNode p .state) (part (storeLength cfg) (s - 1) stores′) ≡ freshServer (element cfg start p)) (i .1) (fresh .seen), refl)
+          (subst (λ p. FreshStore cfg p start (part (storeLength cfg) (s - 1) stores′)) (i .1) (fresh .seen), refl)
 
       client-at : (c : ℕ) (b : Bool) → within 1 (cfg .c) c ≡ b → clientOf cfg r l′ c ≡ freshClient
       unfolding clientOf place clientSeen clientView.view phaseOf freshClient
       client-at c false h = rw h
       client-at c true h = rw (h, post .clients (c - 1) (inside c (cfg .c) h .0))
 
-      parties-seen : partiesOf cfg r l′ ≡ freshParties cfg start
+      parties-seen : partiesOf cfg r l′ ≡ freshParties cfg (startingBoard cfg start)
       unfolding partiesOf parties.freshParties
       parties-seen =
           let servers = fun-ext (λ s. server-at s (within 1 (cfg .n) s) refl .0) in
@@ -177,7 +177,7 @@ module _ (cfg : Config) (m : ℕ) (start : Board) (l : Lent) (got : ℕ) (asked 
           let clients = fun-ext (λ c. client-at c (within 1 (cfg .c) c) refl) in
           λ j. record { servers = servers j; up = up j; clients = clients j }
 
-      sees : view cfg r l′ ≡ freshRig cfg start
+      sees : view cfg r l′ ≡ freshRig cfg (startingBoard cfg start)
       unfolding view rig.freshRig records
       sees =
           ap₂ (λ p n. record { parties = p; inFlight = messagesOf cfg (records n (l .messages)) }) parties-seen (post .nothing)
@@ -188,7 +188,7 @@ module _ (cfg : Config) (m : ℕ) (start : Board) (l : Lent) (got : ℕ) (asked 
           let fresh = post .servers .fresh i h in
           ap (serverInPlace cfg i) (fresh .is)
           ∙ ap₂ _&&_ (eq-eqb (i + 1) (i + 1) refl)
-          (node-within cfg (i + 1) _ _ (within-true 1 (cfg .n) (i + 1) (omega arith) (omega (arith, h))) (fresh .seen))
+          (node-within cfg (i + 1) _ _ (omega arith) (within-true 1 (cfg .n) (i + 1) (omega arith) (omega (arith, h))) (fresh .seen))
 
       client-stands : (i : ℕ) → i < cfg .c → clientInPlace cfg i (getElem? (r .clients) i) ≡ true
       unfolding clientInPlace

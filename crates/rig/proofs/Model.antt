@@ -8,7 +8,7 @@ use lib.ListN.{length}
 use Rattle.config.specs.declared.Config.{Config}
 use Rattle.config.specs.Config.{boardLength}
 use Rattle.config.specs.Questions.{firstNo}
-use Rattle.protocol.specs.Boards.{Board, BoardCall, BoardEvent, BoardRig, event as protocolEvent, freshRig, moveOf, questions, run}
+use Rattle.protocol.specs.Boards.{BoardCall, BoardEvent, BoardRig, event as protocolEvent, freshRig, moveOf, questionsAfter6, run, startingBoard}
 use Rattle.protocol.specs.Rig as protocol
 use Rattle.protocol.specs.Rig.{codeOf, unlessNo}
 use Rattle.events.specs.declared.Rig.{Rig}
@@ -38,20 +38,20 @@ module _ (cfg : Config) (m : ℕ) where
       let t = protocolEvent cfg m v x in
       ap (λ rest. record { call = x; answer = t .answer } ∷ rest) (run-more (t .rig) calls a)
 
-  module _ (start : Board) where
+  module _ (start : List ℕ) where
     abbrev begun : BoardRig
-    begun = freshRig cfg start
+    begun = freshRig cfg (startingBoard cfg start)
 
     -- an event is the protocol's
     as-event : {r : Rig} {l : Lent} {events : List BoardEvent} → Runs cfg m start r l events → (a : BoardCall) (read : List ℕ)
-        → length (a .board) ≡ boardLength cfg → length read ≡ boardLength cfg → outcome cfg m r a read l ≡ protocolEvent cfg m (view cfg r l) a
+        → length (a .board .bytes) ≡ boardLength cfg → length read ≡ boardLength cfg → outcome cfg m r a read l ≡ protocolEvent cfg m (view cfg r l) a
     unfolding protocol.event
     as-event {r = r} {l = l} runs a read board long =
         let code = codeOf (a .code) in
         ap (unlessNo (view cfg r l) (moveOf cfg (view cfg r l) a code))
         (always-asks cfg m start runs a read
-        ∙ rw (eq-eqb (length (a .board)) (boardLength cfg) board, eq-eqb (length read) (boardLength cfg) long)
-        (ap (λ b. firstNo (questions cfg m (view cfg r l) a b code)) (always-twelve cfg m start runs (a .position) code)))
+        ∙ rw (eq-eqb (length (a .board .bytes)) (boardLength cfg) board, eq-eqb (length read) (boardLength cfg) long)
+        (ap (λ b. firstNo (questionsAfter6 cfg m (view cfg r l) a b code)) (always-twelve cfg m start runs (a .position) code)))
 
     -- the rig is what the calls leave, and the events are those of the calls
     as-both : {r : Rig} {l : Lent} {events : List BoardEvent} (runs : Runs cfg m start r l events) → Whole runs
@@ -71,5 +71,5 @@ module _ (cfg : Config) (m : ℕ) where
 
     -- "Each event gets the rig as the one before left it": the events are the protocol's run of the calls from a fresh rig.
     pub as-run : {r : Rig} {l : Lent} {events : List BoardEvent} (runs : Runs cfg m start r l events) → Whole runs
-        → events ≡ run cfg m (freshRig cfg start) (callsOf events)
+        → events ≡ run cfg m (freshRig cfg (startingBoard cfg start)) (callsOf events)
     as-run runs w = as-both runs w .1

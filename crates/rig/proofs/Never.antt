@@ -18,7 +18,7 @@ use Rattle.config.specs.Questions.{ask, firstNo, within}
 use Rattle.config.proofs.Questions.{yes-next}
 use Rattle.record.specs.Record.{highestNumber, recordOf}
 use Rattle.record.proofs.Laws.{written-well-formed}
-use Rattle.protocol.specs.Boards.{Board, BoardActed, BoardCall, BoardEvent, BoardExecution, BoardMessage, BoardRig, decode, encode, move, moveOf, order, questions}
+use Rattle.protocol.specs.Boards.{Board, BoardActed, BoardCall, BoardEvent, BoardExecution, BoardMessage, BoardRig, IsBoard, decode, encode, move, moveOf, order, questions, startingBoard}
 use Rattle.protocol.specs.Client.{beginQuestions, isIdle, isUp}
 use Rattle.protocol.specs.Number.{toList}
 use Rattle.protocol.specs.Parties as parties
@@ -26,7 +26,7 @@ use Rattle.protocol.specs.Parties.{questionsToBegin, questionsToCrashClient, qu
 use Rattle.protocol.specs.Rig as protocol
 use Rattle.protocol.specs.Rig.{Code, beginWrite, beginRead, handOver, lose, double, crashServer, crashClient, codeOf, deliverAt, doubled, fresh, hasRoom, leaves, moves, positionQuestions, questionsTo11, refuses, unlessNo, without}
 use Rattle.parties.specs.Sound.{Sound}
-use Rattle.parties.proofs.Formed.{ActedFits, PartiesFit, begin-fits, crash-client-fits, crash-server-fits, deliver-fits, fresh-fits, quiet-fits}
+use Rattle.parties.proofs.Formed.{ActedFits, BoardFits, PartiesFit, begin-fits, crash-client-fits, crash-server-fits, deliver-fits, fresh-fits, quiet-fits}
 use Rattle.parties.proofs.Sound.{sound-append, sound-at, sound-doubled, sound-first, sound-none, sound-rest, sound-without}
 use Rattle.events.specs.declared.Rig.{Rig}
 use Rattle.events.specs.View.{Lent, flight, messagesOf, view}
@@ -49,17 +49,17 @@ leaves-fits ms x h k = record { parties = k .parties; inFlight = sound-append h 
 
 module _ (cfg : Config) (valid : Valid cfg) (v : BoardRig) (fits : Fits cfg v) where
   -- a client that begins
-  begins : (c : ℕ) (board : Option Board) → firstNo (questionsToBegin cfg (v .parties) c) ≡ 0
+  begins : (c : ℕ) (board : Option Board) → BoardFits cfg board → firstNo (questionsToBegin cfg (v .parties) c) ≡ 0
       → Fits cfg (leaves (v .inFlight) (parties.begin cfg (v .parties) c board) .rig)
   unfolding questionsToBegin beginQuestions
-  begins c board h =
+  begins c board short h =
       let x = v .parties .clients c in
       let eight = yes-next 8 (within 1 (cfg .c) c) _ (omega arith) h in
       let nine = yes-next 9 (isUp (x .phase)) _ (omega arith) (eight .1) in
       let ten = yes-next 10 (isIdle (x .phase)) _ (omega arith) (nine .1) in
       let eleven = yes-next 11 (ltb (x .operation) highestNumber) [] (omega arith) (ten .1) in
       leaves-fits (v .inFlight) _ (fits .inFlight)
-      (begin-fits cfg (v .parties) (fits .parties) c (eight .0) (ltb-true (x .operation) highestNumber (eleven .0)) board)
+      (begin-fits cfg (v .parties) (fits .parties) c (eight .0) (ltb-true (x .operation) highestNumber (eleven .0)) board short)
 
   -- a message that is handed over
   delivers : (i : ℕ) (o : Option BoardMessage) → getElem? (v .inFlight) i ≡ o → ActedFits cfg (deliverAt (order cfg) (encode cfg) (decode cfg) cfg (v .parties) o)
@@ -67,23 +67,25 @@ module _ (cfg : Config) (valid : Valid cfg) (v : BoardRig) (fits : Fits cfg v) w
   delivers i none e = quiet-fits cfg (v .parties) (fits .parties)
   delivers i (some m) e = deliver-fits cfg (v .parties) (fits .parties) valid m (sound-at (fits .inFlight) i m e)
 
-  move-fits : (a : BoardCall) (w : Code) → firstNo (questionsTo11 cfg v a w) ≡ 0 → Fits cfg (move cfg v a w .rig)
+  move-fits : (a : BoardCall) (w : Code) → firstNo (questionsTo11 cfg v a w) ≡ 0 → (w ≡ beginWrite → IsBoard cfg (a .board)) → Fits cfg (move cfg v a w .rig)
   unfolding protocol.move questionsTo11
-  move-fits a beginWrite h = begins (a .party) (some (a .board)) h
-  move-fits a beginRead h = begins (a .party) none h
-  move-fits a handOver h =
+  move-fits a beginWrite h board = begins (a .party) (some (a .board)) (board refl .fits) h
+  move-fits a beginRead h board = begins (a .party) none tt h
+  move-fits a handOver h board =
       leaves-fits _ _ (sound-without (fits .inFlight) (a .position)) (delivers (a .position) (getElem? (v .inFlight) (a .position)) refl)
-  move-fits a lose h = leaves-fits _ _ (sound-without (fits .inFlight) (a .position)) (quiet-fits cfg (v .parties) (fits .parties))
-  move-fits a double h = leaves-fits _ _ (sound-doubled (fits .inFlight) (a .position)) (quiet-fits cfg (v .parties) (fits .parties))
-  move-fits a crashServer h = leaves-fits _ _ (fits .inFlight) (crash-server-fits cfg (v .parties) (fits .parties) (a .party))
-  move-fits a crashClient h = leaves-fits _ _ (fits .inFlight) (crash-client-fits cfg (v .parties) (fits .parties) (a .party))
+  move-fits a lose h board = leaves-fits _ _ (sound-without (fits .inFlight) (a .position)) (quiet-fits cfg (v .parties) (fits .parties))
+  move-fits a double h board = leaves-fits _ _ (sound-doubled (fits .inFlight) (a .position)) (quiet-fits cfg (v .parties) (fits .parties))
+  move-fits a crashServer h board = leaves-fits _ _ (fits .inFlight) (crash-server-fits cfg (v .parties) (fits .parties) (a .party))
+  move-fits a crashClient h board = leaves-fits _ _ (fits .inFlight) (crash-client-fits cfg (v .parties) (fits .parties) (a .party))
 
 -- along every execution of the protocol
-pub execution-fits : (cfg : Config) → Valid cfg → (start : Board) {v : BoardRig} {events : List BoardEvent} → BoardExecution cfg start v events → Fits cfg v
+pub execution-fits : (cfg : Config) → Valid cfg → (start : Board) → IsBoard cfg start → {v : BoardRig} {events : List BoardEvent}
+    → BoardExecution cfg start v events → Fits cfg v
 unfolding protocol.freshRig
-execution-fits cfg valid start fresh = record { parties = fresh-fits cfg start; inFlight = sound-none }
-execution-fits cfg valid start (refuses runs a number) = execution-fits cfg valid start runs
-execution-fits cfg valid start (moves {r = v} runs a w code h board) = move-fits cfg valid v (execution-fits cfg valid start runs) a w h
+execution-fits cfg valid start board fresh = record { parties = fresh-fits cfg start (board .fits); inFlight = sound-none }
+execution-fits cfg valid start board (refuses runs a number) = execution-fits cfg valid start board runs
+execution-fits cfg valid start board (moves {r = v} runs a w code h handed) =
+    move-fits cfg valid v (execution-fits cfg valid start board runs) a w h handed
 
 -- ---- the records in flight are those of the messages in flight
 
@@ -143,7 +145,7 @@ module _ (cfg : Config) (m : ℕ) where
   event-written v rs h a well none z = absurd (no-code cfg m v a well z)
   event-written v rs h a well (some w) z = move-written cfg v rs h a w (to-11 cfg m v a well w z)
 
-  module _ (start : Board) where
+  module _ (start : List ℕ) where
     -- along every list of events
     pub always-written : {r : Rig} {l : Lent} {events : List BoardEvent} → Runs cfg m start r l events
         → flight r l ≡ map (recordOf cfg) (view cfg r l .inFlight)
@@ -172,16 +174,16 @@ module _ (cfg : Config) (m : ℕ) where
 
     -- what every party keeps along a list of events, and every message in flight says, is within a record's limits
     pub always-fits : {r : Rig} {l : Lent} {events : List BoardEvent} → Runs cfg m start r l events → Fits cfg (view cfg r l)
-    always-fits runs = execution-fits cfg (origin cfg m start runs .0) start (execution cfg m start runs)
+    always-fits runs = execution-fits cfg (origin cfg m start runs .0) (startingBoard cfg start) (origin cfg m start runs .1) (execution cfg m start runs)
 
 -- ---- so each is well formed
 
 -- the records of messages of the configuration are
-formed-at : {cfg : Config} → cfg .e ≤ 64 → (ms : List BoardMessage) → Sound cfg ms → (i : ℕ) → formed cfg (getElem? (map (recordOf cfg) ms) i) ≡ true
+formed-at : {cfg : Config} → Valid cfg → (ms : List BoardMessage) → Sound cfg ms → (i : ℕ) → formed cfg (getElem? (map (recordOf cfg) ms) i) ≡ true
 unfolding formed
-formed-at high [] h i = refl
-formed-at {cfg} high (x ∷ ms) h zero = written-well-formed cfg high x (sound-first h)
-formed-at high (x ∷ ms) h (suc i) = formed-at high ms (sound-rest h) i
+formed-at valid [] h i = refl
+formed-at {cfg} valid (x ∷ ms) h zero = written-well-formed cfg valid x (sound-first h)
+formed-at valid (x ∷ ms) h (suc i) = formed-at valid ms (sound-rest h) i
 
 -- question 12 asks of event 3 alone
 formed-for : (cfg : Config) (rs : List (List ℕ)) (i : ℕ) → formed cfg (getElem? rs i) ≡ true → (w : Option Code) → formedFor cfg rs i w ≡ true
@@ -195,13 +197,13 @@ formed-for cfg rs i well (some double) = refl
 formed-for cfg rs i well (some crashServer) = refl
 formed-for cfg rs i well (some crashClient) = refl
 
-module _ (cfg : Config) (m : ℕ) (start : Board) where
+module _ (cfg : Config) (m : ℕ) (start : List ℕ) where
   -- every record in flight is well formed
   pub always-formed : {r : Rig} {l : Lent} {events : List BoardEvent} → Runs cfg m start r l events
       → (i : ℕ) → formed cfg (getElem? (flight r l) i) ≡ true
   always-formed {r = r} {l = l} runs i =
       ap (λ rs. formed cfg (getElem? rs i)) (always-written cfg m start runs)
-      ∙ formed-at (origin cfg m start runs .0 .e-high) (view cfg r l .inFlight) (always-fits cfg m start runs .inFlight) i
+      ∙ formed-at (origin cfg m start runs .0) (view cfg r l .inFlight) (always-fits cfg m start runs .inFlight) i
 
   -- 12 is answered yes
   pub always-twelve : {r : Rig} {l : Lent} {events : List BoardEvent} → Runs cfg m start r l events
@@ -232,9 +234,9 @@ module _ (cfg : Config) (m : ℕ) (v : BoardRig) (a : BoardCall) where
   later-twelve well h (some w) e = last-two well (hasRoom m (move cfg v a w)) h (skip 12 (questionsTo11 cfg v a w) _ (others w) e)
 
 -- "12. Is the record handed over well formed?" In a list of events that starts from a fresh rig, it always is.
-pub never-twelve : {cfg : Config} {m : ℕ} {start : Board} {r : Rig} {l : Lent} {events : List BoardEvent} → Runs cfg m start r l events
+pub never-twelve : {cfg : Config} {m : ℕ} {start : List ℕ} {r : Rig} {l : Lent} {events : List BoardEvent} → Runs cfg m start r l events
     → (a : BoardCall) (read : List ℕ) → eventNo cfg m r a read l ≡ 12 → ⊥
 unfolding eventQuestions lacks rigQuestions
 never-twelve {cfg = cfg} {m = m} {start = start} {r = r} {l = l} runs a read e =
     later-twelve cfg m (view cfg r l) a _ (always-twelve cfg m start runs (a .position) (codeOf (a .code))) (codeOf (a .code))
-    (skip 12 (ask 6 _ ∷ []) _ refl (skip 12 (rigQuestions cfg m) _ refl e))
+    (skip 12 (ask 6 _ ∷ ask 19 _ ∷ []) _ refl (skip 12 (rigQuestions cfg m) _ refl e))

@@ -12,8 +12,9 @@ use lib.ListN.{length, getElem?}
 use Rattle.laws.proofs.Bools.{and-left, and-right}
 use Rattle.laws.proofs.Lists.{at-set}
 use Rattle.config.specs.declared.Config.{Config}
-use Rattle.config.specs.Config.{Valid, rigQuestions}
+use Rattle.config.specs.Config.{Valid, boardLength, rigQuestions}
 use Rattle.config.proofs.Questions.{last-all, last-yes, rigQuestions-numbered, within-true}
+use Rattle.record.specs.Element.{elementWith}
 use Rattle.server.specs.Calls as server
 use Rattle.server.specs.View as serverView
 use Rattle.server.specs.View.{each}
@@ -26,7 +27,7 @@ use Rattle.parties.specs.Within.{clientInPlace, serverInPlace}
 use Rattle.events.specs.Questions.{allSized, hasPlaces, partQuestions, partWithin, placesOf, rigWithin}
 use Rattle.events.specs.Calls.{PartOf, partNo, withPart}
 use Rattle.parties.specs.Fresh.{freshNode, freshState}
-use Rattle.events.proofs.Below.{below-all}
+use Rattle.laws.proofs.Below.{below-all}
 use Rattle.events.proofs.Entry.{client-low, lent-valid, server-low}
 use Rattle.parties.proofs.Making.{client-within, node-within}
 use Rattle.events.proofs.RigWithin.{part-within}
@@ -45,20 +46,20 @@ each-length f i zero = refl
 each-length f i (suc n) = ap suc (each-length f (suc i) n)
 
 -- fresh parties in all places
-abbrev pub others : Rig
-others = record { servers = each (λ i. freshNode (i + 1)) 0 16; clients = each (λ i. freshState (i + 1)) 0 16; count = 0 }
+abbrev pub others : Config → Rig
+others cfg = record { servers = each (λ i. freshNode (boardLength cfg) (i + 1)) 0 16; clients = each (λ i. freshState (i + 1)) 0 16; count = 0 }
 
 module _ (cfg : Config) (valid : Valid cfg) where
-  server-at : (i : ℕ) → i < cfg .n → serverInPlace cfg i (getElem? (others .servers) i) ≡ true
+  server-at : (i : ℕ) → i < cfg .n → serverInPlace cfg i (getElem? (others cfg .servers) i) ≡ true
   unfolding serverInPlace serverView.view each freshServer server.freshState
   server-at i h =
       let e : 0 + i ≡ i = omega arith in
-      ap (serverInPlace cfg i) (each-at (λ j. freshNode (j + 1)) 0 16 i (omega (arith, h, valid .n-high)))
-      ∙ ap (λ k. serverInPlace cfg i (some (freshNode (k + 1)))) e
+      ap (serverInPlace cfg i) (each-at (λ j. freshNode (boardLength cfg) (j + 1)) 0 16 i (omega (arith, h, valid .n-high)))
+      ∙ ap (λ k. serverInPlace cfg i (some (freshNode (boardLength cfg) (k + 1)))) e
       ∙ ap₂ _&&_ (eq-eqb (i + 1) (i + 1) refl)
-      (node-within cfg (i + 1) [] (serverView.elementAt cfg [] 0) (within-true 1 (cfg .n) (i + 1) (omega arith) (omega (arith, h))) refl)
+      (node-within cfg (i + 1) [] (elementWith (boardLength cfg) (serverView.elementAt cfg [] 0)) (omega arith) (within-true 1 (cfg .n) (i + 1) (omega arith) (omega (arith, h))) refl)
 
-  client-at : (i : ℕ) → i < cfg .c → clientInPlace cfg i (getElem? (others .clients) i) ≡ true
+  client-at : (i : ℕ) → i < cfg .c → clientInPlace cfg i (getElem? (others cfg .clients) i) ≡ true
   unfolding clientInPlace
   client-at i h =
       let e : 0 + i ≡ i = omega arith in
@@ -66,15 +67,15 @@ module _ (cfg : Config) (valid : Valid cfg) where
       ∙ ap (λ k. clientInPlace cfg i (some (freshState (k + 1)))) e
       ∙ ap₂ _&&_ (eq-eqb (i + 1) (i + 1) refl) (client-within cfg (i + 1) valid (within-true 1 (cfg .c) (i + 1) (omega arith) (omega (arith, h))))
 
-  others-within : (m : ℕ) → rigWithin cfg m others ≡ true
+  others-within : (m : ℕ) → rigWithin cfg m (others cfg) ≡ true
   unfolding rigWithin
   others-within m =
       ap₂ _&&_ (le-leb 0 m (omega arith))
-      (ap₂ _&&_ (below-all (cfg .n) (λ i. serverInPlace cfg i (getElem? (others .servers) i)) server-at)
-      (below-all (cfg .c) (λ i. clientInPlace cfg i (getElem? (others .clients) i)) client-at))
+      (ap₂ _&&_ (below-all (cfg .n) (λ i. serverInPlace cfg i (getElem? (others cfg .servers) i)) server-at)
+      (below-all (cfg .c) (λ i. clientInPlace cfg i (getElem? (others cfg .clients) i)) client-at))
 
 pub some-rig : (cfg : Config) (m : ℕ) (p : Part) (a : Call) (board read : List ℕ) (l : Lent) → partNo cfg m p a board read l ≡ 0
-    → PartOf (withPart others p) p × (rigWithin cfg m (withPart others p) ≡ true)
+    → PartOf (withPart (others cfg) p) p × (rigWithin cfg m (withPart (others cfg) p) ≡ true)
 unfolding partQuestions partWithin
 some-rig cfg m p a board read l e =
     let long = allSized cfg m board read l in
@@ -90,14 +91,14 @@ some-rig cfg m p a board read l e =
     let valid = lent-valid cfg m p a board read l passed in
     let server = server-low cfg m p a board read l passed own in
     let client = client-low cfg m p a board read l passed own in
-    let nodes = each-length (λ i. freshNode (i + 1)) 0 16 in
+    let nodes = each-length (λ i. freshNode (boardLength cfg) (i + 1)) 0 16 in
     let states = each-length (λ i. freshState (i + 1)) 0 16 in (
       record {
-        node = at-set (others .servers) (p .server) (p .pair .node) (omega (arith, server, valid .n-high, nodes));
-        client = at-set (others .clients) (p .client) (p .pair .client) (omega (arith, client, valid .c-high, states));
+        node = at-set (others cfg .servers) (p .server) (p .pair .node) (omega (arith, server, valid .n-high, nodes));
+        client = at-set (others cfg .clients) (p .client) (p .pair .client) (omega (arith, client, valid .c-high, states));
         count = refl;
       },
-      part-within cfg m others (others-within cfg valid m) p (leb-true (p .count) m (and-right long few two)) server client
+      part-within cfg m (others cfg) (others-within cfg valid m) p (leb-true (p .count) m (and-right long few two)) server client
           (and-left (serverInPlace cfg (p .server) (some (p .pair .node))) (clientInPlace cfg (p .client) (some (p .pair .client))) pair)
           (and-right (serverInPlace cfg (p .server) (some (p .pair .node))) (clientInPlace cfg (p .client) (some (p .pair .client))) pair),
     )

@@ -9,30 +9,30 @@ use Rattle.config.specs.declared.Config.{Config}
 use Rattle.config.specs.Config.{boardLength, rigQuestions}
 use Rattle.config.specs.Questions.{Question, ask, firstNo}
 use Rattle.config.specs.Refusal.{verdictNumber}
-use Rattle.protocol.specs.Boards.{Board, freshRig}
+use Rattle.protocol.specs.Boards.{freshRig, startingBoard}
 use Rattle.parties.specs.Fresh.{freshNode, freshState}
 use Rattle.events.specs.declared.Rig.{Rig}
 use Rattle.events.specs.View.{Lent, view}
 use Rattle.events.specs.Questions.{rigWithin, sized}
 use Rattle.rig.specs.declared.Made.{Made}
 
--- the rig that a refused making gives: nothing is in flight, and every place has a fresh party of number 1
+-- the rig that a refused making gives: nothing is in flight, and every place has a fresh party of number 1, with a starting board of one byte
 abbrev pub leastRig : Rig
-leastRig = record { servers = replicate 16 (freshNode 1); clients = replicate 16 (freshState 1); count = 0 }
+leastRig = record { servers = replicate 16 (freshNode 1 1); clients = replicate 16 (freshState 1); count = 0 }
 
 -- Making: questions 1 to 5; 6, of the starting board and of the buffers lent.
 unfoldable pub makeQuestions : Config → ℕ → List ℕ → Lent → List Question
 makeQuestions cfg m start l = rigQuestions cfg m ++ ask 6 (eqb (length start) (boardLength cfg) && sized cfg m l) ∷ []
 
 -- the number of the first question that is answered no, or 0
-abbrev pub makeNo : Config → ℕ → Board → Lent → ℕ
+abbrev pub makeNo : Config → ℕ → List ℕ → Lent → ℕ
 makeNo cfg m start l = firstNo (makeQuestions cfg m start l)
 
 -- Making a rig of a starting board, with the buffers as they were and as they are left.
-pub record MakePost (cfg : Config) (m : ℕ) (start : Board) (l : Lent) (r : Made) (l′ : Lent) : Type 0 where
+pub record MakePost (cfg : Config) (m : ℕ) (start : List ℕ) (l : Lent) (r : Made) (l′ : Lent) : Type 0 where
   pub number : verdictNumber (r .verdict) ≡ makeNo cfg m start l
-  -- "It holds fresh servers and clients, a starting board, and the messages in flight": there are none
-  pub seen : makeNo cfg m start l ≡ 0 → view cfg (r .rig) l′ ≡ freshRig cfg start
+  -- "It holds fresh servers and clients, a starting board, and the messages in flight": there are none. "the starting board has length V".
+  pub seen : makeNo cfg m start l ≡ 0 → view cfg (r .rig) l′ ≡ freshRig cfg (startingBoard cfg start)
   -- the rig passes every question about a state
   pub within : makeNo cfg m start l ≡ 0 → rigWithin cfg m (r .rig) ≡ true
   pub lengths : sized cfg m l′ ≡ sized cfg m l

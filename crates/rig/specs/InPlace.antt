@@ -8,7 +8,7 @@ use Rattle.laws.specs.Bytes.{Bytes}
 use Rattle.config.specs.declared.Config.{Config}
 use Rattle.config.specs.Config.{boardLength}
 use Rattle.client.specs.declared.State as client
-use Rattle.protocol.specs.Boards.{Board, BoardEvent}
+use Rattle.protocol.specs.Boards.{BoardEvent}
 use Rattle.parties.specs.declared.Node.{Node}
 use Rattle.parties.specs.Acts.{answerOf}
 use Rattle.events.specs.declared.Call.{Call}
@@ -30,7 +30,7 @@ putBack r x p =
     }
 
 -- the event of a call and a change
-abbrev pub eventBy : Call → Board → Change → List ℕ → BoardEvent
+abbrev pub eventBy : Call → List ℕ → Change → List ℕ → BoardEvent
 eventBy a board x read′ = record { call = called a board; answer = answerOf (x .answer) read′ }
 
 -- What a host does in an event: it takes the part of the places that the event names, hands it to `changes`, and puts back what it gets.

@@ -1,5 +1,4 @@
 // A fresh rig.
-use client::NewState;
 use config::Config;
 use events::Rig;
 use parties::Node;
@@ -11,15 +10,13 @@ ghost use Rattle.parties.specs.Fresh.{freshState};
 ghost use Rattle.rig.specs.Calls.{leastRig};
 ghost use Rattle.rig.specs.inner.Fresh.{ClientsPost, RigPost, RigPre, ServersPost};
 
-// The client of a number, fresh. There is one, so the other branch is never taken.
+// The client of a number, fresh.
 fn client(cfg: Config, c: u8) -> client::State
     requires { ⌜ (Valid cfg) × (within 1 (cfg .c) c ≡ true) ⌝ }
     ensures { λ r. ⌜ r ≡ freshState c ⌝ }
 {
-    let NewState::Made(x) = parties::fresh::client(cfg, c) else {
-        loop {}
-    };
-    x
+    let made = parties::fresh::client(cfg, c);
+    made.state
 }
 
 // A fresh server in each place.

@@ -56,8 +56,8 @@ pub fn make(
     }
 }
 
-// An event of the rig: questions 1 to 13. `board` is the board handed in, `read` the buffer lent for a read; each has V bytes,
-// whatever the event.
+// An event of the rig: questions 1 to 13, and 19 after 6. `board` is the board handed in, of which the call has the length, `read` the buffer lent
+// for a read; each has V bytes, whatever the event.
 pub fn event(
     cfg: Config,
     m: usize,

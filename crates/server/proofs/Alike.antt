@@ -8,10 +8,10 @@ use Prim.Native.Nat.{ℕ, _+_, _≤_}
 use native.Mathlib.Decide.{ℕ-discrete}
 use native.Mathlib.Omega.{arith}
 use borrow.Author.Tests.{eqb-true, not-true}
-use lib.Dec.{eqb}
+use lib.Dec.{eqb, leb}
 use lib.ListN.{length}
 use Rattle.config.specs.declared.Config.{Config}
-use Rattle.config.specs.Config.{questions, recordLength, storeLength}
+use Rattle.config.specs.Config.{boardLength, questions, recordLength, storeLength}
 use Rattle.config.specs.Number.{serverNumber}
 use Rattle.config.specs.Questions.{Question, ask, firstNo, within}
 use Rattle.config.proofs.Questions.{firstNo-behind, none-first, none-rest, questions-numbered, yes-next}
@@ -19,6 +19,7 @@ use Rattle.config.proofs.Valid.{valid}
 use Rattle.laws.proofs.Bools.{and-left, and-right}
 use Rattle.tag.specs.declared.Tag.{Tag}
 use Rattle.tag.specs.Tag.{above, allowed, key, same}
+use Rattle.record.specs.Element.{Element}
 use Rattle.record.specs.Message.{Message}
 use Rattle.record.specs.Record.{messageOf, wellFormed}
 use Rattle.protocol.specs.Alike.{StoredOnce, Reordered, SameButOrder, next, swap, then}
@@ -29,11 +30,11 @@ use Rattle.server.specs.declared.Stepped.{Stepped}
 use Rattle.server.specs.Alike.{AlikeStates, AlikeSteps}
 use Rattle.server.specs.Calls.{LendPost, StepPost, answerBytes, answers, forServer, lentBytes, outcome, raised, stateQuestions, stepQuestions}
 use Rattle.server.specs.View.{view}
-use Rattle.server.specs.Within.{among, every, floorWithin, once, serverWithin, stateWithin, tagsOf, tagsWithin}
+use Rattle.server.specs.Within.{among, every, floorWithin, storedLengths, lengthsWithin, once, serverWithin, stateWithin, tagsOf, tagsWithin}
 use Rattle.server.proofs.Asked.{state-valid}
-use Rattle.server.proofs.Invariant.{tags-stored}
+use Rattle.server.proofs.Invariant.{tags-of, tags-stored}
 use Rattle.server.proofs.Keys.{small}
-use Rattle.server.proofs.Laws.{raised-view, server-within, view-within}
+use Rattle.server.proofs.Laws.{raised-view, server-within, state-view}
 use Rattle.server.proofs.Limits.{within-allowed, within-once}
 use Rattle.server.proofs.Tags.{same-turned}
 
@@ -60,13 +61,20 @@ same-same x y = go (same x y) (same y x) refl refl
     go false true e f = sym (sym f ∙ same-turned x y e)
     go false false e f = refl
 
--- lists of tags
+-- lists of tags, and of lengths
 pub tags-reordered : {Element : Type 0} {xs ys : List (Stored Element)} → Reordered xs ys → Reordered (tagsOf xs) (tagsOf ys)
 unfolding tagsOf
 tags-reordered Reordered.none = Reordered.none
 tags-reordered (next r) = next (tags-reordered r)
 tags-reordered swap = swap
 tags-reordered (then r q) = then (tags-reordered r) (tags-reordered q)
+
+pub lengths-reordered : {xs ys : List (Stored Element)} → Reordered xs ys → Reordered (storedLengths xs) (storedLengths ys)
+unfolding storedLengths
+lengths-reordered Reordered.none = Reordered.none
+lengths-reordered (next r) = next (lengths-reordered r)
+lengths-reordered swap = swap
+lengths-reordered (then r q) = then (lengths-reordered r) (lengths-reordered q)
 
 pub among-reordered : (t : Tag) {ts us : List Tag} → Reordered ts us → among t ts ≡ among t us
 unfolding among
@@ -75,7 +83,7 @@ among-reordered t (next {x = x} r) = ap (λ (b : Bool). same x t || b) (among-re
 among-reordered t (swap {x = x} {y = y} {xs = zs}) = or-swap (same x t) (same y t) (among t zs)
 among-reordered t (then r q) = among-reordered t r ∙ among-reordered t q
 
-pub every-reordered : (test : Tag → Bool) {ts us : List Tag} → Reordered ts us → every test ts ≡ every test us
+pub every-reordered : {A : Type 0} (test : A → Bool) {ts us : List A} → Reordered ts us → every test ts ≡ every test us
 unfolding every
 every-reordered test Reordered.none = refl
 every-reordered test (next {x = x} r) = ap (λ (b : Bool). test x && b) (every-reordered test r)
@@ -103,13 +111,15 @@ within-reordered cfg h f r =
 
 -- ---- question 6 of a server
 
-module _ {Element : Type 0} (cfg : Config) where
-  pub within-alike : {v w : Server Element} → SameButOrder v w → serverWithin cfg v ≡ serverWithin cfg w
-  unfolding serverWithin
-  within-alike {v} {w} alike =
-      within-reordered cfg (v .highest) (v .floor) (tags-reordered (alike .stored))
-      ∙ ap₂ (λ h f. tagsWithin cfg h f (tagsOf (w .stored))) (alike .highest) (alike .floor)
+pub within-alike : (cfg : Config) {v w : Server Element} → SameButOrder v w → serverWithin cfg v ≡ serverWithin cfg w
+unfolding serverWithin lengthsWithin
+within-alike cfg {v} {w} alike =
+    ap₂ {A = Bool} (λ (a b : Bool). a && b)
+    (within-reordered cfg (v .highest) (v .floor) (tags-reordered (alike .stored))
+    ∙ ap₂ (λ h f. tagsWithin cfg h f (tagsOf (w .stored))) (alike .highest) (alike .floor))
+    (every-reordered (λ (n : ℕ). leb n (boardLength cfg)) (lengths-reordered (alike .stored)))
 
+module _ {Element : Type 0} (cfg : Config) where
   -- where its tags are allowed and there once, they are once by their keys
   once-by-key : cfg .c ≤ 16 → (xs : List (Stored Element)) → every (allowed (cfg .c)) (tagsOf xs) ≡ true → once (tagsOf xs) ≡ true → StoredOnce key xs
   unfolding every once tagsOf StoredOnce
@@ -122,27 +132,24 @@ module _ {Element : Type 0} (cfg : Config) where
         once-by-key high xs axs (and-right (not (among (x .tag) (tagsOf xs))) (once (tagsOf xs)) o),
       )
 
-  -- a server that passes question 6 has each stored tag once
-  pub server-once : cfg .c ≤ 16 → (v : Server Element) → serverWithin cfg v ≡ true → StoredOnce key (v .stored)
-  unfolding serverWithin
-  server-once high v h =
-      let ts = tagsOf (v .stored) in
-      once-by-key high (v .stored) (within-allowed cfg (v .highest) (v .floor) ts h) (within-once cfg (v .highest) (v .floor) ts h)
+-- a server that passes question 6 has each stored tag once
+pub server-once : (cfg : Config) → cfg .c ≤ 16 → (v : Server Element) → serverWithin cfg v ≡ true → StoredOnce key (v .stored)
+server-once cfg high v h =
+    let ts = tagsOf (v .stored) in
+    once-by-key cfg high (v .stored) (within-allowed cfg (v .highest) (v .floor) ts (tags-of cfg v h)) (within-once cfg (v .highest) (v .floor) ts (tags-of cfg v h))
 
 -- ---- the calls
 
 module _ (cfg : Config) (s z : State) (storeS storeZ : List ℕ) (alike : AlikeStates cfg s z storeS storeZ) where
-  abbrev v : Server (List ℕ)
+  abbrev v : Server Element
   v = view cfg s storeS
 
-  abbrev w : Server (List ℕ)
+  abbrev w : Server Element
   w = view cfg z storeZ
 
   pub state-alike : stateWithin cfg s ≡ stateWithin cfg z
-  unfolding stateWithin
   state-alike =
-      ap₂ (λ n b. within 1 (cfg .n) n && b) (alike .me)
-      (sym (view-within cfg s storeS) ∙ within-alike cfg (alike .seen) ∙ view-within cfg z storeZ)
+      state-view cfg s storeS ∙ ap₂ (λ n b. within 1 (cfg .n) n && b) (alike .me) (within-alike cfg (alike .seen)) ∙ sym (state-view cfg z storeZ)
 
   -- questions 1 to 6 of a state have the same answers
   pub ask-alike : stateQuestions cfg s (length storeS) ≡ stateQuestions cfg z (length storeZ)
@@ -176,7 +183,7 @@ module _ (cfg : Config) (s z : State) (storeS storeZ : List ℕ) (alike : AlikeS
   module _ (handed answer storeA storeB answerA answerB : List ℕ) (a b : Stepped) (postA : StepPost cfg s handed storeS answer storeA answerA a)
       (postB : StepPost cfg z handed storeZ answer storeB answerB b)
     where
-      abbrev got : Message (List ℕ)
+      abbrev got : Message Element
       got = messageOf cfg handed
 
       abbrev firstS : ℕ
@@ -190,7 +197,7 @@ module _ (cfg : Config) (s z : State) (storeS storeZ : List ℕ) (alike : AlikeS
       lengths n holds = eqb (length handed) recordLength && eqb n (storeLength cfg) && eqb (length answer) recordLength && holds
 
       -- 12, 16 and 15
-      abbrev later : ℕ → Option (Message (List ℕ)) → List Question
+      abbrev later : ℕ → Option (Message Element) → List Question
       later n x = ask 12 (wellFormed cfg handed) ∷ ask 16 (forServer n got) ∷ ask 15 (answers x) ∷ []
 
       -- once questions 1 to 6 are answered yes, the protocol's answers are one

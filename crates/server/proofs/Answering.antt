@@ -1,5 +1,5 @@
 -- A server's answers: they are messages of the configuration, and what a read finalise answers. Assumes nothing.
-use mathlib.Core.Path.{_≡_, refl, _∙_, ap}
+use mathlib.Core.Path.{_≡_, refl, sym, _∙_, ap, subst}
 use mathlib.Core.Bool.{true, false}
 use mathlib.Core.List.{List, [], _++_, append-nil}
 use mathlib.Core.Option.{Option, none, some}
@@ -11,6 +11,7 @@ use lib.Seq.{drop-at, length-take-le, take-at, take-length}
 use Rattle.config.specs.declared.Config.{Config}
 use Rattle.config.specs.declared.Refusal.the-variants.{Cleared}
 use Rattle.config.specs.declared.Server.{Server as ServerNumber}
+use Rattle.config.specs.Config.{Valid}
 use Rattle.config.specs.Number.{clientNumber, serverNumber}
 use Rattle.config.specs.Questions.{within}
 use Rattle.config.specs.Refusal.{verdictNumber}
@@ -19,16 +20,18 @@ use Rattle.tag.specs.Tag.{allowed, key}
 use Rattle.record.specs.declared.Header.{Header}
 use Rattle.record.specs.declared.Kind.{Kind}
 use Rattle.record.specs.declared.Kind.the-variants.{ReadFinaliseAnswer}
+use Rattle.record.specs.Element.{Element}
 use Rattle.record.specs.Record.{all, highestNumber, isPresent, kindNumber, messageClauses, ofConfig, ownTag, presence, queryTag, recordOf, sized}
 use Rattle.protocol.specs.Server.{answerTo, atOrBelowFloor, elementOf, readAnswer}
+use Rattle.server.specs.declared.serve.Reply.{Reply}
 use Rattle.server.specs.declared.State.{State}
 use Rattle.server.specs.declared.Stepped.{Stepped}
 use Rattle.server.specs.Calls.{raised}
-use Rattle.server.specs.inner.Serve.{ReadFinalisePost, ReadFinalisePre, RespondPost, readAnswered, reply, unchanged}
+use Rattle.server.specs.inner.Serve.{ReadFinalisePost, ReadFinalisePre, RespondPost, RespondPre, bareOf, readAnswered, reply, replyOf, unchanged}
 use Rattle.server.specs.View.{floorOf, view}
 use Rattle.server.proofs.Limits.{state-me}
 
-pub reply-of-config : (cfg : Config) (me : ServerNumber) (h : Header) (kind : Kind) (t : Tag) (o : Option (List ℕ))
+pub reply-of-config : (cfg : Config) (me : ServerNumber) (h : Header) (kind : Kind) (t : Tag) (o : Option Element)
     → within 1 highestNumber (h .operation) ≡ true → leb (t .number) highestNumber ≡ true → sized cfg o ≡ true
     → queryTag (kindNumber kind) t ≡ true → ownTag (kindNumber kind) (clientNumber (h .client)) t ≡ true
     → presence (kindNumber kind) (isPresent o) ≡ true → within 1 (cfg .c) (clientNumber (h .client)) ≡ true
@@ -37,9 +40,18 @@ unfolding ofConfig messageClauses all reply
 reply-of-config cfg me h kind t o operation number e q own p client server tag =
     rw (operation, number, e, q, own, p, client, server, tag)
 
+-- an answer without an element
+module _ (cfg : Config) (me : ServerNumber) (h : Header) (kind : Kind) (t : Tag) (r : Reply) (is : r ≡ bareOf kind t) (bs : List ℕ) where
+  pub bare-respond : Valid cfg → length bs ≡ 80 → ofConfig cfg (reply me h kind t none) ≡ true → RespondPre cfg r (replyOf cfg me h r bs) bs
+  bare-respond v e ok =
+      subst (λ (x : Reply). RespondPre cfg x (replyOf cfg me h x bs) bs) (sym is) (record { valid = v; eighty = e; ofConfig = ok; fits = refl })
+
+  pub bare-post : (s : State) (after : List ℕ) (x : Stepped) → RespondPost cfg s (replyOf cfg me h r bs) after x → RespondPost cfg s (reply me h kind t none) after x
+  bare-post s after x p = subst (λ (y : Reply). RespondPost cfg s (replyOf cfg me h y bs) after x) is p
+
 -- the answer to a read finalise
 pub read-reply : (cfg : Config) (s : State) (h : Header) (store answer : List ℕ) → ReadFinalisePre cfg s h store answer → (me : ServerNumber) → me ≡ s .me
-    → (o : Option (List ℕ)) → sized cfg o ≡ true → ofConfig cfg (reply me h ReadFinaliseAnswer (h .tag) o) ≡ true
+    → (o : Option Element) → sized cfg o ≡ true → ofConfig cfg (reply me h ReadFinaliseAnswer (h .tag) o) ≡ true
 read-reply cfg s h store answer f me is o e =
     reply-of-config cfg me h ReadFinaliseAnswer (h .tag) o (f .operation) (f .number) e refl refl refl (f .client)
     (ap (λ (x : ServerNumber). within 1 (cfg .n) (serverNumber x)) is ∙ state-me cfg s (f .held .within)) (f .allowed)
@@ -85,7 +97,7 @@ module _ (cfg : Config) (s after : State) (h : Header) (store answer : List ℕ)
   unfolding raised
   me-is = ap (λ (x : State). x .me) is
 
-  replied : (o : Option (List ℕ)) → readAnswered s h store cfg ≡ some (reply (s .me) h ReadFinaliseAnswer (h .tag) o) → (bs : List ℕ) (r : Stepped)
+  replied : (o : Option Element) → readAnswered s h store cfg ≡ some (reply (s .me) h ReadFinaliseAnswer (h .tag) o) → (bs : List ℕ) (r : Stepped)
       → RespondPost cfg after (reply (after .me) h ReadFinaliseAnswer (h .tag) o) bs r → ReadFinalisePost cfg s h store answer bs r
   replied o e bs r p =
       record {
@@ -94,7 +106,7 @@ module _ (cfg : Config) (s after : State) (h : Header) (store answer : List ℕ)
         answer = p .answer ∙ ap (λ (x : ServerNumber). recordOf cfg (reply x h ReadFinaliseAnswer (h .tag) o)) me-is ∙ rw e;
       }
 
-  pub finalised-element : (element : List ℕ) → elementOf key (h .tag) (view cfg s store .stored) ≡ some element → (bs : List ℕ) (r : Stepped)
+  pub finalised-element : (element : Element) → elementOf key (h .tag) (view cfg s store .stored) ≡ some element → (bs : List ℕ) (r : Stepped)
       → RespondPost cfg after (reply (after .me) h ReadFinaliseAnswer (h .tag) (some element)) bs r → ReadFinalisePost cfg s h store answer bs r
   unfolding readAnswer answerTo reply
   finalised-element element e bs r p = replied (some element) (rw e) bs r p

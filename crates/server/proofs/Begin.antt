@@ -11,24 +11,27 @@ use lib.Seq.{take-length}
 use Rattle.config.specs.declared.Config.{Config}
 use Rattle.config.specs.declared.Refusal.{Refusal}
 use Rattle.config.specs.declared.Server.{Server as ServerNumber}
-use Rattle.config.specs.Config.{questions, storeLength}
+use Rattle.config.specs.Config.{boardLength, questions, storeLength}
 use Rattle.config.specs.Number.{serverNumber}
 use Rattle.config.specs.Questions.{ask, firstNo, within}
 use Rattle.config.specs.Refusal.{refusalNumber, verdictNumber}
 use Rattle.config.proofs.Refusals.{refusal-low}
+use Rattle.server.specs.declared.State.{State}
 use Rattle.server.specs.declared.Stepped.{Stepped}
 use Rattle.server.specs.Calls.{FreshPost, freshQuestions, freshState}
 use Rattle.server.specs.inner.Serve.{unchanged}
 use Rattle.server.proofs.Asked.{six}
 
 module _ (cfg : Config) (me : ServerNumber) (element before : List ℕ) where
-  pub not-fresh : (r : Stepped) (why : Refusal) → r ≡ unchanged (freshState me) why → refusalNumber why ≡ firstNo (freshQuestions cfg me element before)
+  pub not-fresh : (s : State) → s ≡ freshState me 0 → (r : Stepped) (why : Refusal) → r ≡ unchanged s why → refusalNumber why ≡ firstNo (freshQuestions cfg me element before)
       → FreshPost cfg me element before before r
-  not-fresh r why is v =
+  not-fresh s first r why is v =
+      let some-number : eqb (firstNo (freshQuestions cfg me element before)) 0 ≡ false =
+      ne-eqb (firstNo (freshQuestions cfg me element before)) 0 (λ z. omega (arith, refusal-low why)) in
       record {
         number = ap (λ (x : Stepped). verdictNumber (x .verdict)) is ∙ v;
-        state = ap (λ (x : Stepped). x .state) is;
-        store = rw (ne-eqb (firstNo (freshQuestions cfg me element before)) 0 (λ z. omega (arith, refusal-low why)));
+        state = ap (λ (x : Stepped). x .state) is ∙ first ∙ ap (λ (b : Bool). freshState me (cond b (boardLength cfg) 0)) (sym some-number);
+        store = rw some-number;
       }
 
   -- both lengths are right
@@ -56,16 +59,17 @@ module _ (cfg : Config) (me : ServerNumber) (element before : List ℕ) where
         fresh-number h = by-six ∙ rw (eq-eqb (length element) (cfg .e) sized, eq-eqb (length before) (storeLength cfg) long, h)
 
         pub made-fresh : within 1 (cfg .n) (serverNumber me) ≡ true → (after : List ℕ) (r : Stepped)
-            → after ≡ take (length element) element ++ drop (length element) before → verdictNumber (r .verdict) ≡ 0 → r .state ≡ freshState me
+            → after ≡ take (length element) element ++ drop (length element) before → verdictNumber (r .verdict) ≡ 0 → r .state ≡ freshState me (boardLength cfg)
             → FreshPost cfg me element before after r
         made-fresh h after r e v s =
             let none : firstNo (freshQuestions cfg me element before) ≡ 0 =
             by-six ∙ rw (eq-eqb (length element) (cfg .e) sized, eq-eqb (length before) (storeLength cfg) long, h) in
+            let yes : eqb (firstNo (freshQuestions cfg me element before)) 0 ≡ true = eq-eqb (firstNo (freshQuestions cfg me element before)) 0 none in
             record {
               number = v ∙ sym none;
-              state = s;
+              state = s ∙ ap (λ (b : Bool). freshState me (cond b (boardLength cfg) 0)) (sym yes);
               store =
                   e ∙ ap (λ (l : List ℕ). l ++ drop (length element) before) (take-length element)
                   ∙ ap (λ (n : ℕ). element ++ drop n before) sized
-                  ∙ rw (eq-eqb (firstNo (freshQuestions cfg me element before)) 0 none);
+                  ∙ rw yes;
             }

@@ -55,21 +55,21 @@ module _ {A : Type 0} where
       ap (λ (m : ℕ). each f i m) (add-one (suc n))
       ∙ ap {B = List A} (λ xs. f i ∷ xs) (ap (λ (m : ℕ). each f (suc i) m) (sym (add-one n)) ∙ each-last f (suc i) n ∙ ap (λ (j : ℕ). each f (suc i) n ++ f j ∷ []) e)
 
+-- a test of every one
+module _ {A : Type 0} (f : ℕ → A) (i n : ℕ) (test : A → Bool) where
+  pub every-no : i < n → test (f i) ≡ false → every test (each f i (n - i)) ≡ false
+  unfolding every
+  every-no h e = rw (each-step f i n h, e)
+
+  pub every-yes : i < n → test (f i) ≡ true → every test (each f i (n - i)) ≡ every test (each f (i + 1) (n - (i + 1)))
+  unfolding every
+  every-yes h e = rw (each-step f i n h, e)
+
+  pub every-end : n ≤ i → every test (each f i (n - i)) ≡ true
+  unfolding every
+  every-end h = rw (each-end f i n h)
+
 module _ (f : ℕ → Tag) (i n : ℕ) where
-  -- a test of every tag
-  module _ (test : Tag → Bool) where
-    pub every-no : i < n → test (f i) ≡ false → every test (each f i (n - i)) ≡ false
-    unfolding every
-    every-no h e = rw (each-step f i n h, e)
-
-    pub every-yes : i < n → test (f i) ≡ true → every test (each f i (n - i)) ≡ every test (each f (i + 1) (n - (i + 1)))
-    unfolding every
-    every-yes h e = rw (each-step f i n h, e)
-
-    pub every-end : n ≤ i → every test (each f i (n - i)) ≡ true
-    unfolding every
-    every-end h = rw (each-end f i n h)
-
   -- the place of a tag
   module _ (t : Tag) where
     pub place-hit : i < n → same (f i) t ≡ true → placeIn t (each f i (n - i)) ≡ 0
@@ -130,16 +130,17 @@ unfolding placeIn among
 place-not-among t [] h = refl
 place-not-among t (x ∷ xs) h = past-by (same x t) (placeIn t xs) (length xs) (among t xs) (place-not-among t xs) h
 
--- a test of all, at one place; a tag that is not there, at one place
-module _ (f : ℕ → Tag) where
-  pub every-at : (test : Tag → Bool) (i n p : ℕ) → every test (each f i n) ≡ true → i ≤ p → p < i + n → test (f p) ≡ true
-  unfolding every each
-  every-at test i zero p h lo hi = absurd (omega arith)
-  every-at test i (suc n) p h lo hi = elim (ℕ-discrete i p) as (λ _. test (f p) ≡ true) [
-    | yes e ↦ ap (λ (j : ℕ). test (f j)) (sym e) ∙ and-left (test (f i)) (every test (each f (suc i) n)) h
-    | no ne ↦ every-at test (suc i) n p (and-right (test (f i)) (every test (each f (suc i) n)) h) (omega arith) (omega arith)
-  ]
+-- a test of all, at one place
+pub every-at : {A : Type 0} (f : ℕ → A) (test : A → Bool) (i n p : ℕ) → every test (each f i n) ≡ true → i ≤ p → p < i + n → test (f p) ≡ true
+unfolding every each
+every-at f test i zero p h lo hi = absurd (omega arith)
+every-at f test i (suc n) p h lo hi = elim (ℕ-discrete i p) as (λ _. test (f p) ≡ true) [
+  | yes e ↦ ap (λ (j : ℕ). test (f j)) (sym e) ∙ and-left (test (f i)) (every test (each f (suc i) n)) h
+  | no ne ↦ every-at f test (suc i) n p (and-right (test (f i)) (every test (each f (suc i) n)) h) (omega arith) (omega arith)
+]
 
+-- a tag that is not there, at one place
+module _ (f : ℕ → Tag) where
   pub among-at : (t : Tag) (i n p : ℕ) → among t (each f i n) ≡ false → i ≤ p → p < i + n → same (f p) t ≡ false
   unfolding among each
   among-at t i zero p h lo hi = absurd (omega arith)

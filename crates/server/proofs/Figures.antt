@@ -14,6 +14,7 @@ use Rattle.tag.specs.declared.Tag.{Tag}
 use Rattle.tag.specs.Tag.{key, start}
 use Rattle.record.specs.declared.Kind.{Kind}
 use Rattle.record.specs.declared.Kind.the-variants.{PreWrite, PreWriteAnswer, ReadFinalise, ReadFinaliseAnswer}
+use Rattle.record.specs.Element.{Element, elementWith}
 use Rattle.record.specs.Message.{Message}
 use Rattle.record.specs.Record.{all, messageClauses, ofConfig, recordOf}
 use Rattle.protocol.specs.Server.{Served, Server, answerTo, atOrBelowFloor, dropSmallest, elementOf, finalised, freshServer, inPlaceOf, isStored, others, preWrite, readAnswer, readFinalise, serverStep, serverStepOf, smallest, store, storeElement}
@@ -32,45 +33,49 @@ cfg = record { n = 1; k = 1; d = 0; e = 1; c = 2 }
 abbrev pub tag : ℕ → ℕ → Tag
 tag z c = record { number = z; client = c }
 
+-- an element of one byte, of a board of length V
+abbrev pub full : ℕ → Element
+full e = elementWith 1 (e ∷ [])
+
 -- a message of client c to server 1 in its operation 1
-abbrev pub message : Kind → ℕ → ℕ → Option (List ℕ) → Message (List ℕ)
+abbrev pub message : Kind → ℕ → ℕ → Option Element → Message Element
 message kind z c e = record { kind = kind; client = c; server = 1; operation = 1; tag = tag z c; element = e }
 
 -- one tag is stored, with one byte, and there is a floor
-abbrev pub holding : Tag → Tag → ℕ → Tag → Server (List ℕ)
-holding h t e floor = record { highest = h; floor = some floor; stored = record { tag = t; element = e ∷ [] } ∷ [] }
+abbrev pub holding : Tag → Tag → ℕ → Tag → Server Element
+holding h t e floor = record { highest = h; floor = some floor; stored = record { tag = t; element = full e } ∷ [] }
 
 -- one step from a known view
-record Known (s : State) (store : List ℕ) (v : Server (List ℕ)) : Type 0 where
+record Known (s : State) (store : List ℕ) (v : Server Element) : Type 0 where
   held : ValidState cfg s store
   me : serverNumber (s .me) ≡ 1
   seen : view cfg s store ≡ v
 
-record After (v : Server (List ℕ)) (m : Message (List ℕ)) (before after storeAfter : List ℕ) (r : Stepped) : Type 0 where
+record After (v : Server Element) (m : Message Element) (before after storeAfter : List ℕ) (r : Stepped) : Type 0 where
   number : verdictNumber (r .verdict) ≡ cond (answers (serverStep key 0 1 v m .answer)) 0 15
   answer : after ≡ answerBytes cfg (serverStep key 0 1 v m .answer) before
   known : Known (r .state) storeAfter (serverStep key 0 1 v m .server)
 
-step-known : (s : State) (store : List ℕ) (v : Server (List ℕ)) → Known s store v → (m : Message (List ℕ)) → ofConfig cfg m ≡ true → forServer 1 m ≡ true
+step-known : (s : State) (store : List ℕ) (v : Server Element) → Known s store v → (m : Message Element) → ofConfig cfg m ≡ true → forServer 1 m ≡ true
     → (answer storeAfter answerAfter : List ℕ) (r : Stepped) → length answer ≡ 80 → StepPost cfg s (recordOf cfg m) store answer storeAfter answerAfter r
     → After v m answer answerAfter storeAfter r
 step-known s store v k m ok mine answer storeAfter answerAfter r eighty post =
     let p = on-message cfg s m store answer storeAfter answerAfter r (k .held) ok (ap (λ (n : ℕ). forServer n m) (k .me) ∙ mine) eighty post in
     let o : serverStep key 0 (serverNumber (s .me)) (view cfg s store) m ≡ serverStep key 0 1 v m =
-    ap₂ {A = ℕ} (λ (n : ℕ) (w : Server (List ℕ)). serverStep key 0 n w m) (k .me) (k .seen) in
+    ap₂ {A = ℕ} (λ (n : ℕ) (w : Server Element). serverStep key 0 n w m) (k .me) (k .seen) in
     record {
-      number = p .number ∙ ap (λ (x : Served (List ℕ)). cond (answers (x .answer)) 0 15) o;
-      answer = p .answer ∙ ap (λ (x : Served (List ℕ)). answerBytes cfg (x .answer) answer) o;
+      number = p .number ∙ ap (λ (x : Served Element). cond (answers (x .answer)) 0 15) o;
+      answer = p .answer ∙ ap (λ (x : Served Element). answerBytes cfg (x .answer) answer) o;
       known =
           record {
             held = p .held;
             me = ap serverNumber (p .me) ∙ k .me;
-            seen = p .seen ∙ ap (λ (x : Served (List ℕ)). x .server) o;
+            seen = p .seen ∙ ap (λ (x : Served Element). x .server) o;
           };
     }
 
 fresh-known : (me : ServerNumber) (element before after : List ℕ) (r : Stepped) → serverNumber me ≡ 1 → FreshPost cfg me element before after r
-    → verdictNumber (r .verdict) ≡ 0 → Known (r .state) after (freshServer element)
+    → verdictNumber (r .verdict) ≡ 0 → Known (r .state) after (freshServer (elementWith 1 element))
 unfolding freshState
 fresh-known me element before after r is post accepted =
     record {
@@ -80,22 +85,22 @@ fresh-known me element before after r is post accepted =
     }
 
 -- the messages are of the configuration
-of-config : (ofConfig cfg (message PreWrite 1 1 (some (8 ∷ []))) ≡ true) × (ofConfig cfg (message PreWrite 2 1 (some (9 ∷ []))) ≡ true)
-    × (ofConfig cfg (message PreWrite 1 2 (some (5 ∷ []))) ≡ true) × (ofConfig cfg (message ReadFinalise 1 1 none) ≡ true)
+of-config : (ofConfig cfg (message PreWrite 1 1 (some (full 8))) ≡ true) × (ofConfig cfg (message PreWrite 2 1 (some (full 9))) ≡ true)
+    × (ofConfig cfg (message PreWrite 1 2 (some (full 5))) ≡ true) × (ofConfig cfg (message ReadFinalise 1 1 none) ≡ true)
     × (ofConfig cfg (message ReadFinalise 3 1 none) ≡ true)
 unfolding ofConfig messageClauses all
 of-config = (refl, refl, refl, refl, refl)
 
 -- what the protocol makes of them
-one : serverStep key 0 1 (freshServer (7 ∷ [])) (message PreWrite 1 1 (some (8 ∷ []))) .server ≡ holding start (tag 1 1) 8 (tag 0 0)
+one : serverStep key 0 1 (freshServer (full 7)) (message PreWrite 1 1 (some (full 8))) .server ≡ holding start (tag 1 1) 8 (tag 0 0)
 unfolding serverStep serverStepOf preWrite storeElement store isStored atOrBelowFloor dropSmallest others smallest inPlaceOf lower freshServer key
 one = refl
 
-two : serverStep key 0 1 (holding start (tag 1 1) 8 (tag 0 0)) (message PreWrite 2 1 (some (9 ∷ []))) .server ≡ holding start (tag 2 1) 9 (tag 1 1)
+two : serverStep key 0 1 (holding start (tag 1 1) 8 (tag 0 0)) (message PreWrite 2 1 (some (full 9))) .server ≡ holding start (tag 2 1) 9 (tag 1 1)
 unfolding serverStep serverStepOf preWrite storeElement store isStored atOrBelowFloor dropSmallest others smallest inPlaceOf lower key
 two = refl
 
-three : serverStep key 0 1 (holding start (tag 2 1) 9 (tag 1 1)) (message PreWrite 1 2 (some (5 ∷ [])))
+three : serverStep key 0 1 (holding start (tag 2 1) 9 (tag 1 1)) (message PreWrite 1 2 (some (full 5)))
     ≡ record { server = holding start (tag 2 1) 9 (tag 1 2); answer = some (message PreWriteAnswer 1 2 none) }
 unfolding serverStep serverStepOf preWrite storeElement store isStored atOrBelowFloor dropSmallest others smallest inPlaceOf lower answerTo key
 three = refl
@@ -121,28 +126,28 @@ pub record Table (r1 r2 r3 r4 r5 : Stepped) (store1 store2 store3 answer3 answer
 
 pub table : (me : ServerNumber) → serverNumber me ≡ 1 → (before store0 store1 store2 store3 store4 store5 answer answer1 answer2 answer3 answer4 answer5 : List ℕ)
     → length answer ≡ 80 → (r0 r1 r2 r3 r4 r5 : Stepped) → FreshPost cfg me (7 ∷ []) before store0 r0 → verdictNumber (r0 .verdict) ≡ 0
-    → StepPost cfg (r0 .state) (recordOf cfg (message PreWrite 1 1 (some (8 ∷ [])))) store0 answer store1 answer1 r1
-    → StepPost cfg (r1 .state) (recordOf cfg (message PreWrite 2 1 (some (9 ∷ [])))) store1 answer store2 answer2 r2
-    → StepPost cfg (r2 .state) (recordOf cfg (message PreWrite 1 2 (some (5 ∷ [])))) store2 answer store3 answer3 r3
+    → StepPost cfg (r0 .state) (recordOf cfg (message PreWrite 1 1 (some (full 8)))) store0 answer store1 answer1 r1
+    → StepPost cfg (r1 .state) (recordOf cfg (message PreWrite 2 1 (some (full 9)))) store1 answer store2 answer2 r2
+    → StepPost cfg (r2 .state) (recordOf cfg (message PreWrite 1 2 (some (full 5)))) store2 answer store3 answer3 r3
     → StepPost cfg (r3 .state) (recordOf cfg (message ReadFinalise 1 1 none)) store3 answer store4 answer4 r4
     → StepPost cfg (r4 .state) (recordOf cfg (message ReadFinalise 3 1 none)) store4 answer store5 answer5 r5
     → Table r1 r2 r3 r4 r5 store1 store2 store3 answer3 answer5
 table me is before store0 store1 store2 store3 store4 store5 answer answer1 answer2 answer3 answer4 answer5 eighty r0 r1 r2 r3 r4 r5 fresh accepted p1 p2 p3 p4 p5 =
     let k0 = fresh-known me (7 ∷ []) before store0 r0 is fresh accepted in
-    let a1 = step-known (r0 .state) store0 _ k0 (message PreWrite 1 1 (some (8 ∷ []))) (of-config .0) refl answer store1 answer1 r1 eighty p1 in
+    let a1 = step-known (r0 .state) store0 _ k0 (message PreWrite 1 1 (some (full 8))) (of-config .0) refl answer store1 answer1 r1 eighty p1 in
     let k1 = subst (Known (r1 .state) store1) one (a1 .known) in
-    let a2 = step-known (r1 .state) store1 _ k1 (message PreWrite 2 1 (some (9 ∷ []))) (of-config .1) refl answer store2 answer2 r2 eighty p2 in
+    let a2 = step-known (r1 .state) store1 _ k1 (message PreWrite 2 1 (some (full 9))) (of-config .1) refl answer store2 answer2 r2 eighty p2 in
     let k2 = subst (Known (r2 .state) store2) two (a2 .known) in
-    let a3 = step-known (r2 .state) store2 _ k2 (message PreWrite 1 2 (some (5 ∷ []))) (of-config .2) refl answer store3 answer3 r3 eighty p3 in
-    let k3 = subst (Known (r3 .state) store3) (ap (λ (x : Served (List ℕ)). x .server) three) (a3 .known) in
+    let a3 = step-known (r2 .state) store2 _ k2 (message PreWrite 1 2 (some (full 5))) (of-config .2) refl answer store3 answer3 r3 eighty p3 in
+    let k3 = subst (Known (r3 .state) store3) (ap (λ (x : Served Element). x .server) three) (a3 .known) in
     let a4 = step-known (r3 .state) store3 _ k3 (message ReadFinalise 1 1 none) (of-config .3) refl answer store4 answer4 r4 eighty p4 in
-    let k4 = subst (Known (r4 .state) store4) (ap (λ (x : Served (List ℕ)). x .server) four) (a4 .known) in
+    let k4 = subst (Known (r4 .state) store4) (ap (λ (x : Served Element). x .server) four) (a4 .known) in
     let a5 = step-known (r4 .state) store4 _ k4 (message ReadFinalise 3 1 none) (of-config .4) refl answer store5 answer5 r5 eighty p5 in
     record {
       first = k1 .seen;
       second = k2 .seen;
       third = k3 .seen;
-      acknowledged = a3 .answer ∙ ap (λ (x : Served (List ℕ)). answerBytes cfg (x .answer) answer) three;
-      cleared = a4 .number ∙ ap (λ (x : Served (List ℕ)). cond (answers (x .answer)) 0 15) four;
-      answered = a5 .answer ∙ ap (λ (x : Served (List ℕ)). answerBytes cfg (x .answer) answer) five;
+      acknowledged = a3 .answer ∙ ap (λ (x : Served Element). answerBytes cfg (x .answer) answer) three;
+      cleared = a4 .number ∙ ap (λ (x : Served Element). cond (answers (x .answer)) 0 15) four;
+      answered = a5 .answer ∙ ap (λ (x : Served Element). answerBytes cfg (x .answer) answer) five;
     }

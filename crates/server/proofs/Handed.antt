@@ -14,6 +14,7 @@ use Rattle.config.specs.Refusal.{refusalNumber}
 use Rattle.record.specs.declared.Header.{Header}
 use Rattle.record.specs.declared.Reading.{Reading}
 use Rattle.record.specs.Calls.{ReadPost, withElement}
+use Rattle.record.specs.Element.{Element}
 use Rattle.record.specs.Message.{Message}
 use Rattle.record.specs.Record.{messageOf, ofConfig, wellFormed}
 use Rattle.record.proofs.Callers.{its-message, read-12, read-well-formed, was-read, was-refused}
@@ -54,7 +55,7 @@ module _ (cfg : Config) (s : State) (handed store answer : List ℕ) (held : Val
 
     server-is : messageOf cfg handed .server ≡ serverNumber (h .server)
     unfolding withElement
-    server-is = ap (λ (m : Message (List ℕ)). m .server) (sym its)
+    server-is = ap (λ (m : Message Element). m .server) (sym its)
 
     pub step-elsewhere : (serverNumber (h .server) ≡ serverNumber (s .me) → ⊥) → firstNo (stepQuestions cfg s handed store answer) ≡ 16
     step-elsewhere ne = later ∙ rw (well, ne-eqb (messageOf cfg handed .server) (serverNumber (s .me)) (λ z. ne (sym server-is ∙ z)))
@@ -62,7 +63,7 @@ module _ (cfg : Config) (s : State) (handed store answer : List ℕ) (held : Val
     pub step-here : serverNumber (h .server) ≡ serverNumber (s .me)
         → requestNumber cfg s store (withElement cfg h handed) ≡ firstNo (stepQuestions cfg s handed store answer)
     step-here is =
-        ap (λ (m : Message (List ℕ)). requestNumber cfg s store m) its
+        ap (λ (m : Message Element). requestNumber cfg s store m) its
         ∙ sym (later ∙ rw (well, eq-eqb (messageOf cfg handed .server) (serverNumber (s .me)) (server-is ∙ is)))
 
     pub step-request : Bytes handed → RequestPre cfg s h handed store answer
@@ -71,5 +72,5 @@ module _ (cfg : Config) (s : State) (handed store answer : List ℕ) (held : Val
           held = held;
           eighty = eighty;
           answer-eighty = answer-eighty;
-          ofConfig = subst (λ (m : Message (List ℕ)). ofConfig cfg m ≡ true) (sym its) (message-of-config cfg (held .valid .e-high) handed bytes well);
+          ofConfig = subst (λ (m : Message Element). ofConfig cfg m ≡ true) (sym its) (message-of-config cfg (held .valid .e-high) handed bytes well);
         }

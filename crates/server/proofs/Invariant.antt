@@ -10,21 +10,23 @@ use borrow.Author.Tests.{eq-eqb, eqb-false, eqb-true, le-leb, leb-true, ltb-fals
 use lib.Dec.{eqb, leb, ltb}
 use lib.ListN.{length, length-append}
 use Rattle.config.specs.declared.Config.{Config}
+use Rattle.config.specs.Config.{boardLength}
 use Rattle.laws.proofs.Bools.{and-left, and-right}
 use Rattle.tag.specs.declared.Tag.{Tag}
 use Rattle.tag.specs.Tag.{above, allowed, key, start}
 use Rattle.tag.proofs.Order.{Small, key-above, key-one}
 use Rattle.record.specs.declared.Kind.{Kind}
 use Rattle.record.specs.declared.Kind.the-variants.{Query, QueryAnswer, PreWrite, PreWriteAnswer, WriteFinalise, WriteFinaliseAnswer, ReadFinalise, ReadFinaliseAnswer}
+use Rattle.record.specs.Element.{Element}
 use Rattle.record.specs.Message.{Message}
-use Rattle.record.specs.Record.{all}
+use Rattle.record.specs.Record.{all, lengthOf}
 use Rattle.protocol.specs.Server.{Server, Stored, addLast, atOrBelowFloor, dropSmallest, finalised, freshServer, inPlaceOf, isStored, others, preWrite, query, readFinalise, serverStep, serverStepOf, smallest, store, storeElement, writeFinalise}
 use Rattle.protocol.specs.Tags.{higher, lower}
 use Rattle.protocol.proofs.Basics.{or-left, or-right}
-use Rattle.server.specs.Within.{among, every, floorWithin, tagsWithin, once, serverWithin, tagsOf}
+use Rattle.server.specs.Within.{among, every, floorWithin, storedLengths, lengthsWithin, once, serverWithin, tagsOf, tagsWithin}
 use Rattle.server.proofs.Limits.{within-allowed, within-count, within-floor, within-highest, within-once}
 use Rattle.server.proofs.Keys.{same-eqb, small}
-use Rattle.server.proofs.Tags.{every-in, every-last, in-every, lowest-all, lowest-first, lowest-in, lowestOf, once-last, once-replaced, replaced, replaced-gone, replaced-in, replaced-long}
+use Rattle.server.proofs.Tags.{both, every-in, every-last, in-every, lowest-all, lowest-first, lowest-in, lowestOf, once-last, once-replaced, replaced, replaced-gone, replaced-in, replaced-long}
 
 -- the clauses together
 pub make-within : (cfg : Config) (highest : Tag) (floor : Option Tag) (ts : List Tag) → allowed (cfg .c) highest ≡ true → length ts ≤ cfg .d + 1
@@ -33,6 +35,10 @@ unfolding tagsWithin all
 make-within cfg highest floor ts h c a o f = rw (h, le-leb (length ts) (cfg .d + 1) c, a, o, f)
 
 module _ {Element : Type 0} where
+  -- the tags that the protocol's server keeps are within their limits
+  abbrev pub serverTags : Config → Server Element → Bool
+  serverTags cfg v = tagsWithin cfg (v .highest) (v .floor) (tagsOf (v .stored))
+
   -- the tags of the protocol's lists
   pub tags-last : (xs : List (Stored Element)) (y : Stored Element) → tagsOf (xs ++ y ∷ []) ≡ tagsOf xs ++ y .tag ∷ []
   unfolding tagsOf
@@ -148,7 +154,7 @@ module _ (cfg : Config) (high : cfg .c ≤ 16) (highest : Tag) (floor : Option T
         key-above x u (small (cfg .c) x high (of x i .0)) su (omega arith)))
 
 -- Storing, by cases: nothing changes, there is room, t itself is the lowest, another is.
-module _ {Element : Type 0} (cfg : Config) (high : cfg .c ≤ 16) (v : Server Element) (k : serverWithin cfg v ≡ true) (y : Stored Element)
+module _ {Element : Type 0} (cfg : Config) (high : cfg .c ≤ 16) (v : Server Element) (k : serverTags cfg v ≡ true) (y : Stored Element)
     (ok : allowed (cfg .c) (y .tag) ≡ true) where
   abbrev ts : List Tag
   ts = tagsOf (v .stored)
@@ -156,13 +162,9 @@ module _ {Element : Type 0} (cfg : Config) (high : cfg .c ≤ 16) (v : Server El
   abbrev t : Tag
   t = y .tag
 
-  its-within : tagsWithin cfg (v .highest) (v .floor) ts ≡ true
-  unfolding serverWithin
-  its-within = k
-
   stored-test : isStored key t (v .stored) ≡ among t ts
   stored-test =
-      tags-stored (cfg .c) high t (small (cfg .c) t high ok) (v .stored) (within-allowed cfg (v .highest) (v .floor) ts its-within)
+      tags-stored (cfg .c) high t (small (cfg .c) t high ok) (v .stored) (within-allowed cfg (v .highest) (v .floor) ts k)
 
   count-test : length (v .stored) ≡ length ts
   count-test = sym (tags-long (v .stored))
@@ -188,7 +190,7 @@ module _ {Element : Type 0} (cfg : Config) (high : cfg .c ≤ 16) (v : Server El
     by-room false e a f =
         rw (tags-smallest t (v .stored))
         (by-others (eqb (key (lowestOf t ts)) (key t)) refl a f
-        (omega (arith, ltb-false (length ts) (cfg .d + 1) e, within-count cfg (v .highest) (v .floor) ts its-within)))
+        (omega (arith, ltb-false (length ts) (cfg .d + 1) e, within-count cfg (v .highest) (v .floor) ts k)))
 
     by-test : (b : Bool) → (among t ts || atOrBelowFloor key t (v .floor)) ≡ b → P (cond b v (cond (ltb (length ts) (cfg .d + 1)) (addLast v y) (dropSmallest key v y)))
     by-test true e = unchanged e
@@ -200,65 +202,158 @@ module _ {Element : Type 0} (cfg : Config) (high : cfg .c ≤ 16) (v : Server El
     unfolding store
     store-cases = rw (stored-test, count-test) (by-test (among t ts || atOrBelowFloor key t (v .floor)) refl)
 
-  within-addLast : tagsWithin cfg (v .highest) (v .floor) (ts ++ t ∷ []) ≡ true → serverWithin cfg (addLast v y) ≡ true
-  unfolding serverWithin addLast
-  within-addLast h = rw (tags-last (v .stored) y) h
+  tags-addLast : tagsWithin cfg (v .highest) (v .floor) (ts ++ t ∷ []) ≡ true → serverTags cfg (addLast v y) ≡ true
+  unfolding addLast
+  tags-addLast h = rw (tags-last (v .stored) y) h
 
-  within-floored : (xs : List (Stored Element)) → tagsWithin cfg (v .highest) (some (lowestOf t ts)) (tagsOf xs) ≡ true → serverWithin cfg (floored (lowestOf t ts) xs) ≡ true
-  unfolding serverWithin
-  within-floored xs h = h
-
-  pub store-within : serverWithin cfg (store key (cfg .d) v y) ≡ true
-  store-within =
-      store-cases (λ w. serverWithin cfg w ≡ true) (λ _. k) with-room with-itself with-another
+  pub store-tags : serverTags cfg (store key (cfg .d) v y) ≡ true
+  store-tags =
+      store-cases (λ w. serverTags cfg w ≡ true) (λ _. k) with-room with-itself with-another
     where
-      with-room : among t ts ≡ false → atOrBelowFloor key t (v .floor) ≡ false → length ts < cfg .d + 1 → serverWithin cfg (addLast v y) ≡ true
-      with-room a f lt = within-addLast (within-last cfg high (v .highest) (v .floor) ts its-within t ok a lt)
+      with-room : among t ts ≡ false → atOrBelowFloor key t (v .floor) ≡ false → length ts < cfg .d + 1 → serverTags cfg (addLast v y) ≡ true
+      with-room a f lt = tags-addLast (within-last cfg high (v .highest) (v .floor) ts k t ok a lt)
 
       with-itself : among t ts ≡ false → atOrBelowFloor key t (v .floor) ≡ false → length ts ≡ cfg .d + 1 → key (lowestOf t ts) ≡ key t
-          → serverWithin cfg (floored (lowestOf t ts) (v .stored)) ≡ true
-      with-itself a f n e = within-floored (v .stored) (within-itself cfg high (v .highest) (v .floor) ts its-within t ok a n e)
+          → serverTags cfg (floored (lowestOf t ts) (v .stored)) ≡ true
+      with-itself a f n e = within-itself cfg high (v .highest) (v .floor) ts k t ok a n e
 
       with-another : among t ts ≡ false → atOrBelowFloor key t (v .floor) ≡ false → length ts ≡ cfg .d + 1 → (key (lowestOf t ts) ≡ key t → ⊥)
-          → serverWithin cfg (floored (lowestOf t ts) (inPlaceOf key (lowestOf t ts) y (v .stored))) ≡ true
+          → serverTags cfg (floored (lowestOf t ts) (inPlaceOf key (lowestOf t ts) y (v .stored))) ≡ true
       with-another a f n e =
-          within-floored (inPlaceOf key (lowestOf t ts) y (v .stored))
-          (rw (tags-replaced (lowestOf t ts) y (v .stored)) (within-replaced cfg high (v .highest) (v .floor) ts its-within t ok a n e))
+          rw (tags-replaced (lowestOf t ts) y (v .stored)) (within-replaced cfg high (v .highest) (v .floor) ts k t ok a n e)
 
--- a step keeps question 6
-module _ {Element : Type 0} (cfg : Config) (high : cfg .c ≤ 16) (s : ℕ) (v : Server Element) (k : serverWithin cfg v ≡ true) (m : Message Element)
+-- a step keeps the tags within their limits
+module _ {Element : Type 0} (cfg : Config) (high : cfg .c ≤ 16) (s : ℕ) (v : Server Element) (k : serverTags cfg v ≡ true) (m : Message Element)
     (ok : allowed (cfg .c) (m .tag) ≡ true) where
   higher-by : (b : Bool) (h t : Tag) → allowed (cfg .c) h ≡ true → allowed (cfg .c) t ≡ true → allowed (cfg .c) (cond b t h) ≡ true
   higher-by true h t p q = q
   higher-by false h t p q = p
 
-  pub finalised-within : serverWithin cfg (finalised key v (m .tag)) ≡ true
-  unfolding serverWithin finalised higher
-  finalised-within =
+  pub finalised-tags : serverTags cfg (finalised key v (m .tag)) ≡ true
+  unfolding finalised higher
+  finalised-tags =
       make-within cfg _ (v .floor) (tagsOf (v .stored))
       (higher-by (ltb (key (v .highest)) (key (m .tag))) (v .highest) (m .tag) (within-highest cfg (v .highest) (v .floor) (tagsOf (v .stored)) k) ok)
       (within-count cfg (v .highest) (v .floor) (tagsOf (v .stored)) k) (within-allowed cfg (v .highest) (v .floor) (tagsOf (v .stored)) k)
       (within-once cfg (v .highest) (v .floor) (tagsOf (v .stored)) k) (within-floor cfg (v .highest) (v .floor) (tagsOf (v .stored)) k)
 
-  pub element-within : (e : Option Element) → serverWithin cfg (storeElement key (cfg .d) v (m .tag) e) ≡ true
+  element-tags : (e : Option Element) → serverTags cfg (storeElement key (cfg .d) v (m .tag) e) ≡ true
   unfolding storeElement
-  element-within none = k
-  element-within (some e) = store-within cfg high v k (record { tag = m .tag; element = e }) ok
+  element-tags none = k
+  element-tags (some e) = store-tags cfg high v k (record { tag = m .tag; element = e }) ok
 
-  by-kind : (kind : Kind) → serverWithin cfg (serverStepOf kind key (cfg .d) s v m .server) ≡ true
+  tags-by-kind : (kind : Kind) → serverTags cfg (serverStepOf kind key (cfg .d) s v m .server) ≡ true
   unfolding serverStepOf query preWrite writeFinalise readFinalise
-  by-kind Query = k
-  by-kind QueryAnswer = k
-  by-kind PreWrite = element-within (m .element)
-  by-kind PreWriteAnswer = k
-  by-kind WriteFinalise = finalised-within
-  by-kind WriteFinaliseAnswer = k
-  by-kind ReadFinalise = finalised-within
-  by-kind ReadFinaliseAnswer = k
+  tags-by-kind Query = k
+  tags-by-kind QueryAnswer = k
+  tags-by-kind PreWrite = element-tags (m .element)
+  tags-by-kind PreWriteAnswer = k
+  tags-by-kind WriteFinalise = finalised-tags
+  tags-by-kind WriteFinaliseAnswer = k
+  tags-by-kind ReadFinalise = finalised-tags
+  tags-by-kind ReadFinaliseAnswer = k
 
-  pub step-within : serverWithin cfg (serverStep key (cfg .d) s v m .server) ≡ true
+  pub step-tags : serverTags cfg (serverStep key (cfg .d) s v m .server) ≡ true
   unfolding serverStep
-  step-within = by-kind (m .kind)
+  step-tags = tags-by-kind (m .kind)
+
+-- the lengths of the protocol's lists, each at most V
+module _ (cfg : Config) where
+  abbrev fits : ℕ → Bool
+  fits n = leb n (boardLength cfg)
+
+  abbrev serverLengths : List (Stored Element) → Bool
+  serverLengths xs = lengthsWithin cfg (storedLengths xs)
+
+  lengths-last : (xs : List (Stored Element)) (y : Stored Element) → storedLengths (xs ++ y ∷ []) ≡ storedLengths xs ++ y .element .length ∷ []
+  unfolding storedLengths
+  lengths-last [] y = refl
+  lengths-last (x ∷ xs) y = ap {B = List ℕ} (λ ns. x .element .length ∷ ns) (lengths-last xs y)
+
+  module _ (y : Stored Element) (ok : fits (y .element .length) ≡ true) where
+    -- one more at the end
+    lengths-added : (xs : List (Stored Element)) → serverLengths xs ≡ true → serverLengths (xs ++ y ∷ []) ≡ true
+    unfolding lengthsWithin
+    lengths-added xs h = rw (lengths-last xs y) (every-last fits (y .element .length) (storedLengths xs) h ok)
+
+    -- the place of u taken by y
+    replaced-by : (b : Bool) (x : Stored Element) (xs zs : List (Stored Element)) → serverLengths (x ∷ xs) ≡ true → (serverLengths xs ≡ true → serverLengths zs ≡ true)
+        → serverLengths (cond b (y ∷ xs) (x ∷ zs)) ≡ true
+    unfolding lengthsWithin storedLengths every
+    replaced-by true x xs zs h f =
+        both (fits (y .element .length)) (every fits (storedLengths xs)) ok (and-right (fits (x .element .length)) (every fits (storedLengths xs)) h)
+    replaced-by false x xs zs h f =
+        both (fits (x .element .length)) (every fits (storedLengths zs)) (and-left (fits (x .element .length)) (every fits (storedLengths xs)) h)
+        (f (and-right (fits (x .element .length)) (every fits (storedLengths xs)) h))
+
+    lengths-replaced : (u : Tag) (xs : List (Stored Element)) → serverLengths xs ≡ true → serverLengths (inPlaceOf key u y xs) ≡ true
+    unfolding inPlaceOf
+    lengths-replaced u [] h = h
+    lengths-replaced u (x ∷ xs) h = replaced-by (eqb (key (x .tag)) (key u)) x xs (inPlaceOf key u y xs) h (lengths-replaced u xs)
+
+    -- stored, whatever the case
+    module _ (v : Server Element) (k : serverLengths (v .stored) ≡ true) where
+      others-by : (b : Bool) (u : Tag) → serverLengths (cond b (v .stored) (inPlaceOf key u y (v .stored))) ≡ true
+      others-by true u = k
+      others-by false u = lengths-replaced u (v .stored) k
+
+      stored-by : (b c : Bool) → serverLengths (cond b v (cond c (addLast v y) (dropSmallest key v y)) .stored) ≡ true
+      unfolding addLast dropSmallest others
+      stored-by true c = k
+      stored-by false true = lengths-added (v .stored) k
+      stored-by false false = others-by (eqb (key (smallest key (y .tag) (v .stored))) (key (y .tag))) (smallest key (y .tag) (v .stored))
+
+      store-lengths : serverLengths (store key (cfg .d) v y .stored) ≡ true
+      unfolding store
+      store-lengths = stored-by (isStored key (y .tag) (v .stored) || atOrBelowFloor key (y .tag) (v .floor)) (ltb (length (v .stored)) (cfg .d + 1))
+
+  -- a step keeps the lengths within theirs, where that of its message is
+  module _ (s : ℕ) (v : Server Element) (k : serverLengths (v .stored) ≡ true) (m : Message Element) (ok : fits (lengthOf (m .element)) ≡ true) where
+    element-lengths : (e : Option Element) → fits (lengthOf e) ≡ true → serverLengths (storeElement key (cfg .d) v (m .tag) e .stored) ≡ true
+    unfolding storeElement
+    element-lengths none h = k
+    element-lengths (some e) h = store-lengths (record { tag = m .tag; element = e }) h v k
+
+    lengths-by-kind : (kind : Kind) → serverLengths (serverStepOf kind key (cfg .d) s v m .server .stored) ≡ true
+    unfolding serverStepOf query preWrite writeFinalise readFinalise finalised
+    lengths-by-kind Query = k
+    lengths-by-kind QueryAnswer = k
+    lengths-by-kind PreWrite = element-lengths (m .element) ok
+    lengths-by-kind PreWriteAnswer = k
+    lengths-by-kind WriteFinalise = k
+    lengths-by-kind WriteFinaliseAnswer = k
+    lengths-by-kind ReadFinalise = k
+    lengths-by-kind ReadFinaliseAnswer = k
+
+    step-lengths : serverLengths (serverStep key (cfg .d) s v m .server .stored) ≡ true
+    unfolding serverStep
+    step-lengths = lengths-by-kind (m .kind)
+
+-- the protocol's server is within question 6: its tags, and its lengths
+module _ (cfg : Config) (v : Server Element) where
+  pub both-within : serverTags cfg v ≡ true → lengthsWithin cfg (storedLengths (v .stored)) ≡ true → serverWithin cfg v ≡ true
+  unfolding serverWithin
+  both-within = both (serverTags cfg v) (lengthsWithin cfg (storedLengths (v .stored)))
+
+  module _ (h : serverWithin cfg v ≡ true) where
+    pub tags-of : serverTags cfg v ≡ true
+    unfolding serverWithin
+    tags-of = and-left (serverTags cfg v) (lengthsWithin cfg (storedLengths (v .stored))) h
+
+    pub lengths-of : lengthsWithin cfg (storedLengths (v .stored)) ≡ true
+    unfolding serverWithin
+    lengths-of = and-right (serverTags cfg v) (lengthsWithin cfg (storedLengths (v .stored))) h
+
+-- a step keeps question 6
+module _ (cfg : Config) (high : cfg .c ≤ 16) (s : ℕ) (v : Server Element) (k : serverWithin cfg v ≡ true) (m : Message Element)
+    (ok : allowed (cfg .c) (m .tag) ≡ true) where
+  pub finalised-within : serverWithin cfg (finalised key v (m .tag)) ≡ true
+  unfolding finalised
+  finalised-within = both-within cfg (finalised key v (m .tag)) (finalised-tags cfg high s v (tags-of cfg v k) m ok) (lengths-of cfg v k)
+
+  pub step-within : leb (lengthOf (m .element)) (boardLength cfg) ≡ true → serverWithin cfg (serverStep key (cfg .d) s v m .server) ≡ true
+  step-within fits =
+      both-within cfg (serverStep key (cfg .d) s v m .server) (step-tags cfg high s v (tags-of cfg v k) m ok) (step-lengths cfg s v (lengths-of cfg v k) m fits)
 
 -- H never falls
 pub rises-by : (b : Bool) (h t : Tag) → ltb (key h) (key t) ≡ b → key h ≤ key (cond b t h)
@@ -301,7 +396,12 @@ module _ {Element : Type 0} (d s : ℕ) (v : Server Element) (m : Message Elemen
   highest-rises = rises-of (m .kind)
 
 -- a fresh server is within question 6
-pub fresh-within : {Element : Type 0} (cfg : Config) (e : Element) → serverWithin cfg (freshServer e) ≡ true
-unfolding serverWithin freshServer tagsOf every once among floorWithin
-fresh-within cfg e =
+pub fresh-tags : {Element : Type 0} (cfg : Config) (e : Element) → serverTags cfg (freshServer e) ≡ true
+unfolding freshServer tagsOf every once among floorWithin
+fresh-tags cfg e =
     make-within cfg start none (start ∷ []) refl (omega arith) refl refl refl
+
+pub fresh-within : (cfg : Config) (e : Element) → e .length ≤ boardLength cfg → serverWithin cfg (freshServer e) ≡ true
+unfolding freshServer lengthsWithin storedLengths every
+fresh-within cfg e h =
+    both-within cfg (freshServer e) (fresh-tags cfg e) (rw (le-leb (e .length) (boardLength cfg) h))

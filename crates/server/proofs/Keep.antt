@@ -13,6 +13,7 @@ use Rattle.config.specs.declared.Config.{Config}
 use Rattle.tag.specs.declared.Tag.{Tag}
 use Rattle.tag.specs.Tag.{allowed, key}
 use Rattle.tag.proofs.Order.{Small}
+use Rattle.record.specs.Element.{Element, elementWith}
 use Rattle.protocol.specs.Server.{Stored, atOrBelowFloor, dropSmallest, isStored, store as stores}
 use Rattle.server.specs.declared.State.{State}
 use Rattle.server.specs.inner.Keep.{AppendPost, DropSmallestPost, KeepPre, KeepPost, appended, dropped, lowest}
@@ -30,9 +31,9 @@ use Rattle.server.proofs.Views.{another-view, append-view, itself-view}
 pub from-zero : (t : Tag) (f : ℕ → Tag) (n p : ℕ) → p ≡ 0 + placeIn t (each f 0 (n - 0)) → p ≡ placeIn t (each f 0 n)
 from-zero t f n p e = e ∙ zero-add (placeIn t (each f 0 (n - 0))) ∙ ap (λ (m : ℕ). placeIn t (each f 0 m)) (sub-zero n)
 
-module _ (cfg : Config) (s : State) (t : Tag) (element store : List ℕ) (k : KeepPre cfg s t element store) where
-  abbrev new : Stored (List ℕ)
-  new = record { tag = t; element = element }
+module _ (cfg : Config) (s : State) (t : Tag) (n : ℕ) (element store : List ℕ) (k : KeepPre cfg s t element store) where
+  abbrev new : Stored Element
+  new = record { tag = t; element = elementWith n element }
 
   tag-small : Small t
   tag-small = small (cfg .c) t (k .held .valid .c-high) (k .allowed)
@@ -42,11 +43,11 @@ module _ (cfg : Config) (s : State) (t : Tag) (element store : List ℕ) (k : Ke
 
   stored-is : isStored key t (view cfg s store .stored) ≡ among t (tagsUsed s)
   unfolding view
-  stored-is = stored-among (cfg .c) (k .held .valid .c-high) (placeAt cfg (s .tags) store) t tag-small 0 (s .count) all-allowed
+  stored-is = stored-among (cfg .c) (k .held .valid .c-high) (placeAt cfg (s .tags) (s .lengths) store) t tag-small 0 (s .count) all-allowed
 
   many : length (view cfg s store .stored) ≡ s .count
   unfolding view
-  many = length-each (placeAt cfg (s .tags) store) 0 (s .count)
+  many = length-each (placeAt cfg (s .tags) (s .lengths) store) 0 (s .count)
 
   -- the place of t: it is stored, or it is not
   there : (p : ℕ) → p ≡ placeIn t (tagsUsed s) → p < s .count → isStored key t (view cfg s store .stored) ≡ true
@@ -59,7 +60,7 @@ module _ (cfg : Config) (s : State) (t : Tag) (element store : List ℕ) (k : Ke
       let l : length (tagsUsed s) ≤ placeIn t (tagsUsed s) = omega (arith, length-each (tagAt (s .tags)) 0 (s .count)) in
       place-not-among t (tagsUsed s) l
 
-  pub keep-stored : (p : ℕ) → p ≡ placeIn t (tagsUsed s) → p < s .count → KeepPost cfg s t element store store s
+  pub keep-stored : (p : ℕ) → p ≡ placeIn t (tagsUsed s) → p < s .count → KeepPost cfg s t n element store store s
   unfolding stores
   keep-stored p e h = record { me = refl; seen = rw (there p e h); long = refl }
 
@@ -71,7 +72,7 @@ module _ (cfg : Config) (s : State) (t : Tag) (element store : List ℕ) (k : Ke
     unfolding view
     floor-is = refl
 
-    pub keep-below : atOrBelowFloor key t (floorOf (s .floor)) ≡ true → KeepPost cfg s t element store store s
+    pub keep-below : atOrBelowFloor key t (floorOf (s .floor)) ≡ true → KeepPost cfg s t n element store store s
     unfolding stores
     keep-below b = record { me = refl; seen = rw (not-stored, ap (atOrBelowFloor key t) floor-is ∙ b); long = refl }
 
@@ -89,7 +90,7 @@ module _ (cfg : Config) (s : State) (t : Tag) (element store : List ℕ) (k : Ke
             fits = omega (arith, k .held .long);
           }
 
-      pub keep-append : s .count ≤ cfg .d → (after : List ℕ) (r : State) → AppendPost cfg s t element store after r → KeepPost cfg s t element store after r
+      pub keep-append : s .count ≤ cfg .d → (after : List ℕ) (r : State) → AppendPost cfg s t n element store after r → KeepPost cfg s t n element store after r
       unfolding stores appended
       keep-append c after r a =
           let room = room-append c in
@@ -99,7 +100,7 @@ module _ (cfg : Config) (s : State) (t : Tag) (element store : List ℕ) (k : Ke
             me = ap (λ (x : State). x .me) (a .state);
             seen =
                 rw (a .state, a .store, not-stored, above-floor, many, lt-ltb (s .count) (cfg .d + 1) (omega arith))
-                (append-view cfg s store t element (k .sized) (a .eight) eights fits);
+                (append-view cfg s store t n element (k .sized) (a .eight) eights fits);
             long = ap length (a .store) ∙ put-long (s .count * cfg .e) (cfg .e) element store (k .sized) fits;
           }
 
@@ -113,23 +114,23 @@ module _ (cfg : Config) (s : State) (t : Tag) (element store : List ℕ) (k : Ke
             fits = omega (arith, k .held .long);
           }
 
-      drop-view : (after : List ℕ) (r : State) → DropSmallestPost cfg s t element store after r → view cfg r after ≡ dropSmallest key (view cfg s store) new
+      drop-view : (after : List ℕ) (r : State) → DropSmallestPost cfg s t n element store after r → view cfg r after ≡ dropSmallest key (view cfg s store) new
       drop-view after r d = elim (decLe (s .count) (lowest s t .place)) as (λ _. view cfg r after ≡ dropSmallest key (view cfg s store) new) [
         | yes le ↦
             let x : after ≡ store = d .store ∙ ap (λ (z : Bool). cond z store (putAt (lowest s t .place * cfg .e) element store)) (le-leb (s .count) (lowest s t .place) le) in
             rw (d .state, x)
-            (itself-view cfg s store t element (k .sized) (d .eight) (cfg .c) (k .held .valid .c-high) tag-small all-allowed
+            (itself-view cfg s store t n element (k .sized) (d .eight) (cfg .c) (k .held .valid .c-high) tag-small all-allowed
             (state-once cfg s (k .held .within)) (nowhere p e h) le)
         | no gt ↦
             let lt : lowest s t .place < s .count = omega arith in
             let x : after ≡ putAt (lowest s t .place * cfg .e) element store =
             d .store ∙ ap (λ (z : Bool). cond z store (putAt (lowest s t .place * cfg .e) element store)) (lt-leb (s .count) (lowest s t .place) lt) in
             rw (d .state, x)
-            (another-view cfg s store t element (k .sized) (d .eight) (cfg .c) (k .held .valid .c-high) tag-small all-allowed
+            (another-view cfg s store t n element (k .sized) (d .eight) (cfg .c) (k .held .valid .c-high) tag-small all-allowed
             (state-once cfg s (k .held .within)) (nowhere p e h) lt (room-drop .n-high) (room-drop .fits))
       ]
 
-      drop-long : (after : List ℕ) (r : State) → DropSmallestPost cfg s t element store after r → length after ≡ length store
+      drop-long : (after : List ℕ) (r : State) → DropSmallestPost cfg s t n element store after r → length after ≡ length store
       drop-long after r d = ap length (d .store) ∙ elim (decLe (s .count) (lowest s t .place)) as (λ _. length (cond (leb (s .count) (lowest s t .place)) store (putAt (lowest s t .place * cfg .e) element store)) ≡ length store) [
         | yes le ↦ rw (le-leb (s .count) (lowest s t .place) le)
         | no gt ↦
@@ -138,7 +139,7 @@ module _ (cfg : Config) (s : State) (t : Tag) (element store : List ℕ) (k : Ke
             rw (lt-leb (s .count) (lowest s t .place) lt) (put-long (lowest s t .place * cfg .e) (cfg .e) element store (k .sized) fits)
       ]
 
-      pub keep-drop : cfg .d < s .count → (after : List ℕ) (r : State) → DropSmallestPost cfg s t element store after r → KeepPost cfg s t element store after r
+      pub keep-drop : cfg .d < s .count → (after : List ℕ) (r : State) → DropSmallestPost cfg s t n element store after r → KeepPost cfg s t n element store after r
       unfolding stores dropped
       keep-drop c after r d =
           record {

@@ -10,13 +10,13 @@ use Prim.Native.Nat.{ℕ, zero, suc, _+_, _-_, _*_, _≤_}
 use native.Mathlib.Decide.{ℕ-discrete}
 use native.Mathlib.Nat.{mul-le-mul-right, zero-mul}
 use native.Mathlib.Omega.{arith}
-use borrow.Author.Tests.{eq-eqb, eqb-true, ne-eqb}
-use lib.Dec.{eqb, ltb}
+use borrow.Author.Tests.{eq-eqb, eqb-true, le-leb, ne-eqb}
+use lib.Dec.{eqb, leb, ltb}
 use lib.ListN.{length, drop, length-append, length-drop, take}
 use lib.Seq.{take-at}
 use Rattle.config.specs.declared.Config.{Config}
 use Rattle.config.specs.declared.Server.{Server as ServerNumber}
-use Rattle.config.specs.Config.{questions, storeLength}
+use Rattle.config.specs.Config.{boardLength, questions, storeLength}
 use Rattle.config.specs.Number.{serverNumber}
 use Rattle.config.specs.Questions.{Question, ask, firstNo, within}
 use Rattle.config.specs.Refusal.{verdictNumber}
@@ -27,38 +27,59 @@ use Rattle.tag.specs.declared.Tag.{Tag}
 use Rattle.tag.specs.Tag.{allowed, key, start}
 use Rattle.record.specs.declared.Kind.{Kind}
 use Rattle.record.specs.declared.Kind.the-variants.{Query, QueryAnswer, PreWrite, PreWriteAnswer, WriteFinalise, WriteFinaliseAnswer, ReadFinalise, ReadFinaliseAnswer}
+use Rattle.record.specs.Element.{Element, elementWith}
 use Rattle.record.specs.Kinds.{isForServer}
 use Rattle.record.specs.Message.{Message}
-use Rattle.record.specs.Record.{messageOf, ofConfig, recordOf, wellFormed}
-use Rattle.record.proofs.Clauses.{its-tag}
+use Rattle.record.specs.Record.{elementIn, lengthAt, lengthFits, lengthOf, messageOf, ofConfig, presentAt, recordOf, wellFormed}
+use Rattle.record.proofs.Clauses.{its-fit, its-tag}
 use Rattle.record.proofs.Laws.{reads-back, record-long, written-well-formed}
 use Rattle.protocol.specs.Server.{Served, Server, atOrBelowFloor, elementOf, finalised, freshServer, isStored, preWrite, query, readFinalise, serverStep, serverStepOf, store as stores, storeElement, writeFinalise}
 use Rattle.protocol.specs.Tags.{higher}
 use Rattle.server.specs.declared.State.{State}
 use Rattle.server.specs.declared.Stepped.{Stepped}
 use Rattle.server.specs.Calls.{FreshPost, StepPost, Steps, answerBytes, answers, forServer, freshQuestions, freshState, outcome, raised, stepQuestions}
-use Rattle.server.specs.Within.{ValidState}
-use Rattle.server.specs.Within.{tagsWithin, serverWithin, stateWithin, tagsOf}
-use Rattle.server.specs.View.{each, elementAt, floorOf, placeAt, tagAt, tagsUsed, view}
+use Rattle.server.specs.Within.{ValidState, storedLengths, lengthsWithin, numbersWithin, serverWithin, stateWithin, tagsOf, tagsWithin}
+use Rattle.server.specs.View.{each, elementAt, floorOf, lengthsUsed, placeAt, storedLength, tagAt, tagsUsed, view}
 use Rattle.server.proofs.Asked.{step-answer, step-handed, step-later}
-use Rattle.server.proofs.Limits.{state-within, state-me}
+use Rattle.server.proofs.Limits.{state-me}
 use Rattle.server.proofs.Invariant.{finalised-within, fresh-within, highest-rises, rises-by, step-within}
 use Rattle.server.proofs.Sent.{sent-stored}
 use Rattle.server.proofs.Stepping.{steps-same}
+use Rattle.server.proofs.Tags.{both}
 
--- the stored tags of the view are the state's
-tags-used : (cfg : Config) (tags : List Tag) (store : List ℕ) (i n : ℕ) → tagsOf (each (placeAt cfg tags store) i n) ≡ each (tagAt tags) i n
-unfolding tagsOf each
-tags-used cfg tags store i zero = refl
-tags-used cfg tags store i (suc n) = ap {B = List Tag} (λ ts. tagAt tags i ∷ ts) (tags-used cfg tags store (suc i) n)
+-- the stored tags of the view are the state's, and so are the lengths
+module _ (cfg : Config) (tags : List Tag) (lengths store : List ℕ) where
+  tags-used : (i n : ℕ) → tagsOf (each (placeAt cfg tags lengths store) i n) ≡ each (tagAt tags) i n
+  unfolding tagsOf each
+  tags-used i zero = refl
+  tags-used i (suc n) = ap {B = List Tag} (λ ts. tagAt tags i ∷ ts) (tags-used (suc i) n)
+
+  lengths-used : (i n : ℕ) → storedLengths (each (placeAt cfg tags lengths store) i n) ≡ each (storedLength lengths) i n
+  unfolding storedLengths each
+  lengths-used i zero = refl
+  lengths-used i (suc n) = ap {B = List ℕ} (λ ns. storedLength lengths i ∷ ns) (lengths-used (suc i) n)
 
 module _ (cfg : Config) (s : State) (store : List ℕ) where
-  pub view-within : serverWithin cfg (view cfg s store) ≡ tagsWithin cfg (s .highest) (floorOf (s .floor)) (tagsUsed s)
+  pub view-within : serverWithin cfg (view cfg s store)
+      ≡ tagsWithin cfg (s .highest) (floorOf (s .floor)) (tagsUsed s) && lengthsWithin cfg (lengthsUsed s)
   unfolding serverWithin view
-  view-within = ap (tagsWithin cfg (s .highest) (floorOf (s .floor))) (tags-used cfg (s .tags) store 0 (s .count))
+  view-within =
+      ap₂ {A = List Tag} (λ (ts : List Tag) (ns : List ℕ). tagsWithin cfg (s .highest) (floorOf (s .floor)) ts && lengthsWithin cfg ns)
+      (tags-used cfg (s .tags) (s .lengths) store 0 (s .count)) (lengths-used cfg (s .tags) (s .lengths) store 0 (s .count))
+
+  -- question 6 of a state: its number, and what is seen of it
+  pub state-view : stateWithin cfg s ≡ within 1 (cfg .n) (serverNumber (s .me)) && serverWithin cfg (view cfg s store)
+  unfolding stateWithin numbersWithin
+  state-view =
+      and-both (within 1 (cfg .n) (serverNumber (s .me))) (tagsWithin cfg (s .highest) (floorOf (s .floor)) (tagsUsed s)) (lengthsWithin cfg (lengthsUsed s))
+      ∙ ap (λ (b : Bool). within 1 (cfg .n) (serverNumber (s .me)) && b) (sym view-within)
+    where
+      and-both : (a b c : Bool) → (a && b) && c ≡ a && (b && c)
+      and-both true b c = refl
+      and-both false b c = refl
 
   pub server-within : stateWithin cfg s ≡ true → serverWithin cfg (view cfg s store) ≡ true
-  server-within h = view-within ∙ state-within cfg s h
+  server-within h = and-right (within 1 (cfg .n) (serverNumber (s .me))) (serverWithin cfg (view cfg s store)) (sym state-view ∙ h)
 
   -- H is raised
   pub raised-view : (t : Tag) → view cfg (raised s t) store ≡ finalised key (view cfg s store) t
@@ -66,8 +87,7 @@ module _ (cfg : Config) (s : State) (store : List ℕ) where
   raised-view t = refl
 
   pub within-state : within 1 (cfg .n) (serverNumber (s .me)) ≡ true → serverWithin cfg (view cfg s store) ≡ true → stateWithin cfg s ≡ true
-  unfolding stateWithin
-  within-state w h = rw (w, sym view-within ∙ h)
+  within-state w h = state-view ∙ both (within 1 (cfg .n) (serverNumber (s .me))) (serverWithin cfg (view cfg s store)) w h
 
 -- Fresh: an accepted call leaves the protocol's fresh server, and it passes questions 1 to 6.
 module _ (cfg : Config) (me : ServerNumber) (element before after : List ℕ) (r : Stepped) (post : FreshPost cfg me element before after r)
@@ -107,11 +127,18 @@ module _ (cfg : Config) (me : ServerNumber) (element before after : List ℕ) (r
       ap (λ (n : ℕ). take (cfg .e) (drop n after)) (zero-mul (cfg .e)) ∙ ap (take (cfg .e)) after-is
       ∙ take-at element (drop (cfg .e) before) (cfg .e) its-size
 
-  pub fresh-view : view cfg (r .state) after ≡ freshServer element
+  -- its length is V
+  state-is : r .state ≡ freshState me (boardLength cfg)
+  state-is =
+      post .state
+      ∙ ap (λ (b : Bool). freshState me (cond b (boardLength cfg) 0)) (eq-eqb (firstNo (freshQuestions cfg me element before)) 0 asked)
+
+  pub fresh-view : view cfg (r .state) after ≡ freshServer (elementWith (boardLength cfg) element)
   unfolding view freshState freshServer each
   fresh-view =
-      ap (λ (x : State). view cfg x after) (post .state)
-      ∙ ap (λ (e : List ℕ). record { highest = start; floor = none; stored = record { tag = start; element = e } ∷ [] }) first-element
+      ap (λ (x : State). view cfg x after) state-is
+      ∙ ap (λ (e : List ℕ). record { highest = start; floor = none; stored = record { tag = start; element = elementWith (boardLength cfg) e } ∷ [] })
+      first-element
 
   pub fresh-valid : ValidState cfg (r .state) after
   unfolding freshState
@@ -123,8 +150,8 @@ module _ (cfg : Config) (me : ServerNumber) (element before after : List ℕ) (r
         valid = v;
         within =
             within-state cfg (r .state) after
-            (ap (λ (x : State). within 1 (cfg .n) (serverNumber (x .me))) (post .state) ∙ yes-next 8 here [] (omega arith) (answered .1) .0)
-            (ap (serverWithin cfg) fresh-view ∙ fresh-within cfg element);
+            (ap (λ (x : State). within 1 (cfg .n) (serverNumber (x .me))) state-is ∙ yes-next 8 here [] (omega arith) (answered .1) .0)
+            (ap (serverWithin cfg) fresh-view ∙ fresh-within cfg (elementWith (boardLength cfg) element) (omega arith));
         long =
             ap length after-is ∙ length-append element (drop (cfg .e) before)
             ∙ omega (arith, its-size, length-drop (cfg .e) before, l);
@@ -136,10 +163,10 @@ module _ (cfg : Config) (s : State) (handed store answer storeAfter answerAfter 
   abbrev first : ℕ
   first = firstNo (stepQuestions cfg s handed store answer)
 
-  abbrev m : Message (List ℕ)
+  abbrev m : Message Element
   m = messageOf cfg handed
 
-  abbrev v : Server (List ℕ)
+  abbrev v : Server Element
   v = view cfg s store
 
   well-by : (b : Bool) (x n : ℕ) → n ≡ cond b x 12 → (n ≡ 12 → ⊥) → b ≡ true
@@ -160,6 +187,14 @@ module _ (cfg : Config) (s : State) (handed store answer storeAfter answerAfter 
   unfolding messageOf
   tag-ok six twelve = its-tag cfg handed (well six twelve)
 
+  fits-by : (b : Bool) (n : ℕ) (bs : List ℕ) → lengthFits cfg b n ≡ true → leb (lengthOf (cond b (some (elementWith n bs)) none)) (boardLength cfg) ≡ true
+  fits-by true n bs h = h
+  fits-by false n bs h = le-leb 0 (boardLength cfg) (omega arith)
+
+  length-ok : (first ≡ 6 → ⊥) → (first ≡ 12 → ⊥) → leb (lengthOf (m .element)) (boardLength cfg) ≡ true
+  unfolding messageOf
+  length-ok six twelve = fits-by (presentAt handed) (lengthAt handed) (elementIn cfg handed) (its-fit cfg handed (well six twelve))
+
   -- the protocol's server stays within question 6
   v-within : serverWithin cfg v ≡ true
   v-within = server-within cfg s store (held .within)
@@ -169,6 +204,7 @@ module _ (cfg : Config) (s : State) (handed store answer storeAfter answerAfter 
     | yes z ↦
         ap (serverWithin cfg) (post .seen z)
         ∙ step-within cfg (held .valid .c-high) (serverNumber (s .me)) v v-within m (tag-ok (λ x. omega arith) (λ x. omega arith))
+        (length-ok (λ x. omega arith) (λ x. omega arith))
     | no nz ↦ elim (ℕ-discrete first 15) as (λ _. serverWithin cfg (view cfg (r .state) storeAfter) ≡ true) [
       | yes f ↦
           let e : r .state ≡ raised s (m .tag) = post .state nz ∙ ap (λ (b : Bool). cond b (raised s (m .tag)) s) (eq-eqb first 15 f) in
@@ -201,7 +237,7 @@ module _ (cfg : Config) (s : State) (handed store answer storeAfter answerAfter 
   pub never-falls : key (s .highest) ≤ key (r .state .highest)
   never-falls = elim (ℕ-discrete first 0) as (λ _. key (s .highest) ≤ key (r .state .highest)) [
     | yes z ↦
-        let e : view cfg (r .state) storeAfter .highest ≡ outcome cfg s store m .server .highest = ap (λ (x : Server (List ℕ)). x .highest) (post .seen z) in
+        let e : view cfg (r .state) storeAfter .highest ≡ outcome cfg s store m .server .highest = ap (λ (x : Server Element). x .highest) (post .seen z) in
         omega (arith, highest-rises (cfg .d) (serverNumber (s .me)) v m, ap key e, ap key (view-highest (r .state) storeAfter), ap key (view-highest s store))
     | no nz ↦ elim (ℕ-discrete first 15) as (λ _. key (s .highest) ≤ key (r .state .highest)) [
       | yes f ↦
@@ -217,11 +253,11 @@ module _ (cfg : Config) (s : State) (handed store answer storeAfter answerAfter 
 -- below the floor, or is the smallest and becomes the floor.
 module _ (cfg : Config) (s : State) (handed store answer storeAfter answerAfter : List ℕ) (r : Stepped)
     (post : StepPost cfg s handed store answer storeAfter answerAfter r) (accepted : verdictNumber (r .verdict) ≡ 0)
-    (kind : messageOf cfg handed .kind ≡ PreWrite) (element : List ℕ) (carried : messageOf cfg handed .element ≡ some element) where
+    (kind : messageOf cfg handed .kind ≡ PreWrite) (element : Element) (carried : messageOf cfg handed .element ≡ some element) where
   abbrev written : Tag
   written = messageOf cfg handed .tag
 
-  abbrev later : Server (List ℕ)
+  abbrev later : Server Element
   later = view cfg (r .state) storeAfter
 
   stored-is : later ≡ stores key (cfg .d) (view cfg s store) (record { tag = written; element = element })
@@ -232,11 +268,11 @@ module _ (cfg : Config) (s : State) (handed store answer storeAfter answerAfter 
       → (later .floor ≡ some written → ⊥) → elementOf key written (later .stored) ≡ some element
   stores-what-is-sent new over other =
       ⊎-elim (λ f. absurd (other f)) (λ h. h)
-      (subst (λ (w : Server (List ℕ)). (w .floor ≡ some written) ⊎ (elementOf key written (w .stored) ≡ some element)) (sym stored-is)
+      (subst (λ (w : Server Element). (w .floor ≡ some written) ⊎ (elementOf key written (w .stored) ≡ some element)) (sym stored-is)
       (sent-stored written element (view cfg s store) new (cfg .d) over))
 
 -- A step on the record of a message of the configuration, for this server and of a kind that it receives: it is the protocol's.
-pub record OnMessage (cfg : Config) (s : State) (m : Message (List ℕ)) (storeBefore answerBefore storeAfter answerAfter : List ℕ) (r : Stepped) : Type 0 where
+pub record OnMessage (cfg : Config) (s : State) (m : Message Element) (storeBefore answerBefore storeAfter answerAfter : List ℕ) (r : Stepped) : Type 0 where
   pub number : verdictNumber (r .verdict) ≡ cond (answers (outcome cfg s storeBefore m .answer)) 0 15
   pub me : r .state .me ≡ s .me
   pub seen : view cfg (r .state) storeAfter ≡ outcome cfg s storeBefore m .server
@@ -260,21 +296,21 @@ module _ {Element : Type 0} (d s : ℕ) (v : Server Element) (m : Message Elemen
   unfolding serverStep
   silent-server = silent-by (m .kind)
 
-module _ (cfg : Config) (s : State) (m : Message (List ℕ)) (store answer storeAfter answerAfter : List ℕ) (r : Stepped) (held : ValidState cfg s store)
+module _ (cfg : Config) (s : State) (m : Message Element) (store answer storeAfter answerAfter : List ℕ) (r : Stepped) (held : ValidState cfg s store)
     (ok : ofConfig cfg m ≡ true) (mine : forServer (serverNumber (s .me)) m ≡ true) (eighty : length answer ≡ 80)
     (post : StepPost cfg s (recordOf cfg m) store answer storeAfter answerAfter r) where
-  abbrev o : Served (List ℕ)
+  abbrev o : Served Element
   o = outcome cfg s store m
 
   back : messageOf cfg (recordOf cfg m) ≡ m
-  back = reads-back cfg (held .valid .e-high) m ok
+  back = reads-back cfg (held .valid) m ok
 
   number-is : firstNo (stepQuestions cfg s (recordOf cfg m) store answer) ≡ cond (answers (o .answer)) 0 15
   number-is =
       step-later cfg s (recordOf cfg m) store answer held (record-long cfg (held .valid .e-high) m ok) eighty
       ∙ ap (λ (b : Bool). cond b (cond (forServer (serverNumber (s .me)) (messageOf cfg (recordOf cfg m))) (cond (answers (outcome cfg s store (messageOf cfg (recordOf cfg m)) .answer)) 0 15) 16) 12)
-      (written-well-formed cfg (held .valid .e-high) m ok)
-      ∙ ap (λ (x : Message (List ℕ)). cond (forServer (serverNumber (s .me)) x) (cond (answers (outcome cfg s store x .answer)) 0 15) 16) back
+      (written-well-formed cfg (held .valid) m ok)
+      ∙ ap (λ (x : Message Element). cond (forServer (serverNumber (s .me)) x) (cond (answers (outcome cfg s store x .answer)) 0 15) 16) back
       ∙ ap (λ (b : Bool). cond b (cond (answers (o .answer)) 0 15) 16) mine
 
   steps : Steps cfg s (cond (answers (o .answer)) 0 15) m store answer storeAfter answerAfter r
@@ -283,11 +319,11 @@ module _ (cfg : Config) (s : State) (m : Message (List ℕ)) (store answer store
       storeAfter answerAfter r number-is back post
 
   -- by whether there is an answer
-  by-answer : (x : Option (Message (List ℕ))) → o .answer ≡ x
+  by-answer : (x : Option (Message Element)) → o .answer ≡ x
       → (view cfg (r .state) storeAfter ≡ o .server) × (answerAfter ≡ answerBytes cfg x answer)
   by-answer none e =
       let p : Steps cfg s 15 m store answer storeAfter answerAfter r =
-      subst (λ (x : Option (Message (List ℕ))). Steps cfg s (cond (answers x) 0 15) m store answer storeAfter answerAfter r) e steps in
+      subst (λ (x : Option (Message Element)). Steps cfg s (cond (answers x) 0 15) m store answer storeAfter answerAfter r) e steps in
       let some-number : _≡_ {A = ℕ} 15 0 → ⊥ = λ z. omega arith in (
         ap₂ {A = State} (λ (x : State) (l : List ℕ). view cfg x l) (p .state some-number) (p .store some-number)
             ∙ raised-view cfg s store (m .tag)
@@ -296,8 +332,8 @@ module _ (cfg : Config) (s : State) (m : Message (List ℕ)) (store answer store
       )
   by-answer (some a) e =
       let p : Steps cfg s 0 m store answer storeAfter answerAfter r =
-      subst (λ (x : Option (Message (List ℕ))). Steps cfg s (cond (answers x) 0 15) m store answer storeAfter answerAfter r) e steps in
-      (p .seen refl, p .answer ∙ ap (λ (x : Option (Message (List ℕ))). answerBytes cfg x answer) e)
+      subst (λ (x : Option (Message Element)). Steps cfg s (cond (answers x) 0 15) m store answer storeAfter answerAfter r) e steps in
+      (p .seen refl, p .answer ∙ ap (λ (x : Option (Message Element)). answerBytes cfg x answer) e)
 
   pub on-message : OnMessage cfg s m store answer storeAfter answerAfter r
   on-message =

@@ -12,29 +12,31 @@ use Rattle.config.specs.Questions.{firstNo}
 use Rattle.tag.specs.declared.Tag.{Tag}
 use Rattle.tag.specs.Tag.{key}
 use Rattle.tag.proofs.Order.{Small}
+use Rattle.record.specs.Element.{Element, elementWith}
 use Rattle.protocol.specs.Server.{elementOf}
 use Rattle.server.specs.declared.State.{State}
 use Rattle.server.specs.Calls.{LendPost, lentBytes, stateQuestions}
 use Rattle.server.specs.Within.{ValidState}
 use Rattle.server.specs.inner.Places.{placeIn}
-use Rattle.server.specs.View.{elementAt, placeAt, tagsUsed, view}
+use Rattle.server.specs.View.{elementAt, placeAt, storedLength, tagsUsed, view}
 use Rattle.server.proofs.Limits.{state-allowed, state-count, state-eight}
 use Rattle.server.proofs.Lists.{element-found, element-missed}
 use Rattle.server.proofs.Put.{place-below}
 
 module _ (cfg : Config) (s : State) (t : Tag) (store : List ℕ) (held : ValidState cfg s store) (p : ℕ) where
-  pub element-there : Small t → p ≡ placeIn t (tagsUsed s) → p < s .count → elementOf key t (view cfg s store .stored) ≡ some (elementAt cfg store p)
+  pub element-there : Small t → p ≡ placeIn t (tagsUsed s) → p < s .count → elementOf key t (view cfg s store .stored)
+      ≡ some (elementWith (storedLength (s .lengths) p) (elementAt cfg store p))
   unfolding view
   element-there st e h =
       let l : placeIn t (tagsUsed s) < s .count = omega arith in
-      element-found (cfg .c) (held .valid .c-high) (placeAt cfg (s .tags) store) t st 0 (s .count) (state-allowed cfg s (held .within)) l
-      ∙ ap {B = Option (List ℕ)} (λ j. some (elementAt cfg store j)) (zero-add (placeIn t (tagsUsed s)) ∙ sym e)
+      element-found (cfg .c) (held .valid .c-high) (placeAt cfg (s .tags) (s .lengths) store) t st 0 (s .count) (state-allowed cfg s (held .within)) l
+      ∙ ap {B = Option Element} (λ j. some (elementWith (storedLength (s .lengths) j) (elementAt cfg store j))) (zero-add (placeIn t (tagsUsed s)) ∙ sym e)
 
   pub element-nowhere : Small t → p ≡ placeIn t (tagsUsed s) → s .count ≤ p → elementOf key t (view cfg s store .stored) ≡ none
   unfolding view
   element-nowhere st e h =
       let l : s .count ≤ placeIn t (tagsUsed s) = omega arith in
-      element-missed (cfg .c) (held .valid .c-high) (placeAt cfg (s .tags) store) t st 0 (s .count) (state-allowed cfg s (held .within)) l
+      element-missed (cfg .c) (held .valid .c-high) (placeAt cfg (s .tags) (s .lengths) store) t st 0 (s .count) (state-allowed cfg s (held .within)) l
 
   -- its part lies in the store, and its offset is small
   pub part-fits : p < s .count → p * cfg .e + cfg .e ≤ length store
@@ -65,7 +67,7 @@ module _ (cfg : Config) (s : State) (t : Tag) (store : List ℕ) (told : ℕ) (a
       }
 
   module _ (none-told : told ≡ 0) where
-    pub lent-part : (o : Option (List ℕ)) (part : List ℕ) → elementOf key t (view cfg s store .stored) ≡ o → part ≡ lentBytes o
+    pub lent-part : (o : Option Element) (part : List ℕ) → elementOf key t (view cfg s store .stored) ≡ o → part ≡ lentBytes o
         → LendPost cfg s t store part told
     lent-part o part e h =
         record {

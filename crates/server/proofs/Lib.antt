@@ -12,6 +12,7 @@ pub mod Laws
 mod Lending
 pub mod Limits
 mod Lists
+mod Owned
 mod Put
 mod Received
 mod Sent

@@ -27,7 +27,7 @@ least-by true c e l m sm t x p q = p ∙ ap (λ (z : Bool). sm (cond z x t)) e
 least-by false c e l m sm t x p q = q ∙ ap (λ (z : Bool). sm (cond z x t)) e
 
 -- places f, of which every tag is allowed, of at most 16 clients
-module _ (clients : ℕ) (high : clients ≤ 16) (f : ℕ → Stored (List ℕ)) where
+module _ {Element : Type 0} (clients : ℕ) (high : clients ≤ 16) (f : ℕ → Stored Element) where
   abbrev tag : ℕ → Tag
   tag i = f i .tag
 
@@ -48,14 +48,14 @@ module _ (clients : ℕ) (high : clients ≤ 16) (f : ℕ → Stored (List ℕ))
         ap₂ {A = Bool} (λ (a b : Bool). a || b) (sym (same-eqb (tag i) t (first-small i n h) st)) (stored-among (suc i) n (rest-allowed i n h))
 
     -- the element at the place, or none
-    found-by : (b : Bool) (e : List ℕ) (g : ℕ → List ℕ) (i p n : ℕ) (o : Option (List ℕ)) → (p < n → o ≡ some (g (suc i + p)))
+    found-by : (b : Bool) (e : Element) (g : ℕ → Element) (i p n : ℕ) (o : Option Element) → (p < n → o ≡ some (g (suc i + p)))
         → e ≡ g i → cond b 0 (suc p) < suc n → cond b (some e) o ≡ some (g (i + cond b 0 (suc p)))
     found-by true e g i p n o h k lt =
         let z : i ≡ i + 0 = omega arith in
-        ap {B = Option (List ℕ)} some (k ∙ ap g z)
+        ap {B = Option Element} some (k ∙ ap g z)
     found-by false e g i p n o h k lt =
         let z : suc i + p ≡ i + suc p = omega arith in
-        h (omega arith) ∙ ap {B = Option (List ℕ)} (λ j. some (g j)) z
+        h (omega arith) ∙ ap {B = Option Element} (λ j. some (g j)) z
 
     pub element-found : (i n : ℕ) → every (allowed clients) (each tag i n) ≡ true → placeIn t (each tag i n) < n
         → elementOf key t (each f i n) ≡ some (f (i + placeIn t (each tag i n)) .element)
@@ -66,7 +66,7 @@ module _ (clients : ℕ) (high : clients ≤ 16) (f : ℕ → Stored (List ℕ))
         ∙ found-by (same (tag i) t) (f i .element) (λ j. f j .element) i (placeIn t (each tag (suc i) n)) n (elementOf key t (each f (suc i) n))
         (element-found (suc i) n (rest-allowed i n h)) refl lt
 
-    missed-by : (b : Bool) (e : List ℕ) (p n : ℕ) (o : Option (List ℕ)) → (n ≤ p → o ≡ none) → suc n ≤ cond b 0 (suc p)
+    missed-by : (b : Bool) (e : Element) (p n : ℕ) (o : Option Element) → (n ≤ p → o ≡ none) → suc n ≤ cond b 0 (suc p)
         → cond b (some e) o ≡ none
     missed-by true e p n o h le = absurd (omega arith)
     missed-by false e p n o h le = h (omega arith)
@@ -91,7 +91,7 @@ module _ (clients : ℕ) (high : clients ≤ 16) (f : ℕ → Stored (List ℕ))
       (tag i) (least-smallest (tag i) (first-small i n h) i (suc i) n (rest-allowed i n h)) (least-smallest t st p (suc i) n (rest-allowed i n h))
 
   -- the place of u taken by y: one place is changed
-  module _ (u : Tag) (y : Stored (List ℕ)) (g : ℕ → Stored (List ℕ)) (p : ℕ) (is : tag p ≡ u) (here : g p ≡ y)
+  module _ (u : Tag) (y : Stored Element) (g : ℕ → Stored Element) (p : ℕ) (is : tag p ≡ u) (here : g p ≡ y)
       (elsewhere : (j : ℕ) → (j ≡ p → ⊥) → g j ≡ f j) where
     pub in-place : (i n : ℕ) → every (allowed clients) (each tag i n) ≡ true → once (each tag i n) ≡ true → i ≤ p → p < i + n
         → inPlaceOf key u y (each f i n) ≡ each g i n
@@ -101,7 +101,7 @@ module _ (clients : ℕ) (high : clients ≤ 16) (f : ℕ → Stored (List ℕ))
       | yes e ↦
           let k : key (tag i) ≡ key u = ap (λ (j : ℕ). key (tag j)) e ∙ ap key is in
           ap (λ (b : Bool). cond b (y ∷ each f (suc i) n) (f i ∷ inPlaceOf key u y (each f (suc i) n))) (eq-eqb (key (tag i)) (key u) k)
-          ∙ ap₂ {A = Stored (List ℕ)} (λ (x : Stored (List ℕ)) (xs : List (Stored (List ℕ))). x ∷ xs) (sym here ∙ ap g (sym e))
+          ∙ ap₂ {A = Stored Element} (λ (x : Stored Element) (xs : List (Stored Element)). x ∷ xs) (sym here ∙ ap g (sym e))
           (each-same f g (suc i) n (λ j l m. sym (elsewhere j (λ z. omega arith))))
       | no ne ↦
           let apart : among (tag i) (each tag (suc i) n) ≡ false = not-true (among (tag i) (each tag (suc i) n)) (and-left (not (among (tag i) (each tag (suc i) n))) (once (each tag (suc i) n)) o) in
@@ -110,6 +110,6 @@ module _ (clients : ℕ) (high : clients ≤ 16) (f : ℕ → Stored (List ℕ))
           let k : eqb (key (tag p)) (key (tag i)) ≡ false = sym (same-eqb (tag p) (tag i) sp (first-small i n a)) ∙ other in
           let m : key (tag i) ≡ key u → ⊥ = λ z. eqb-false (key (tag p)) (key (tag i)) k (ap key is ∙ sym z) in
           ap (λ (b : Bool). cond b (y ∷ each f (suc i) n) (f i ∷ inPlaceOf key u y (each f (suc i) n))) (ne-eqb (key (tag i)) (key u) m)
-          ∙ ap₂ {A = Stored (List ℕ)} (λ (x : Stored (List ℕ)) (xs : List (Stored (List ℕ))). x ∷ xs) (sym (elsewhere i ne))
+          ∙ ap₂ {A = Stored Element} (λ (x : Stored Element) (xs : List (Stored Element)). x ∷ xs) (sym (elsewhere i ne))
           (in-place (suc i) n (rest-allowed i n a) (and-right (not (among (tag i) (each tag (suc i) n))) (once (each tag (suc i) n)) o) (omega arith) (omega arith))
     ]

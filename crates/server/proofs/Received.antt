@@ -19,16 +19,16 @@ use Rattle.record.specs.declared.Kind.{Kind}
 use Rattle.record.specs.declared.Kind.the-variants.{Query, QueryAnswer, PreWrite, PreWriteAnswer, WriteFinalise, WriteFinaliseAnswer, ReadFinalise, ReadFinaliseAnswer}
 use Rattle.record.specs.Message.{Message}
 use Rattle.protocol.specs.Server.{Server, Stored, addLast, atOrBelowFloor, finalised, freshServer, inPlaceOf, preWrite, query, readFinalise, serverStep, serverStepOf, store, storeElement, writeFinalise}
-use Rattle.server.specs.Within.{among, every, floorWithin, tagsWithin, serverWithin, tagsOf}
+use Rattle.server.specs.Within.{among, every, floorWithin, tagsOf}
 use Rattle.server.specs.Received.{Highest, eachAllowed, holds, receive, receivedAfter, serverAfter, withTag}
 use Rattle.server.proofs.Limits.{within-allowed, within-count, within-floor, within-once}
-use Rattle.server.proofs.Invariant.{finalised-within, floored, fresh-within, store-cases, store-within, tags-last, tags-long, tags-replaced}
+use Rattle.server.proofs.Invariant.{finalised-tags, floored, fresh-tags, serverTags, store-cases, store-tags, tags-last, tags-long, tags-replaced}
 use Rattle.server.proofs.Keys.{small}
 use Rattle.server.proofs.Tags.{among-last, both, every-in, lowest-in, lowestOf, not-in, or-first, or-second, or-true, replaced, replaced-in, replaced-keeps, replaced-new}
 
 -- what holds along a run
 pub record Knows {Element : Type 0} (cfg : Config) (received : List Tag) (v : Server Element) : Type 0 where
-  pub within : serverWithin cfg v ≡ true
+  pub within : serverTags cfg v ≡ true
   pub allowed : every (allowed (cfg .c)) received ≡ true
   pub stored : (t : Tag) → holds v t ≡ true → among t received ≡ true
   pub known : (t : Tag) → among t received ≡ true → (holds v t || atOrBelowFloor key t (v .floor)) ≡ true
@@ -87,12 +87,8 @@ module _ {Element : Type 0} (cfg : Config) (high : cfg .c ≤ 16) (received : Li
   abbrev u : Tag
   u = lowestOf t ts
 
-  its-within : tagsWithin cfg (v .highest) (v .floor) ts ≡ true
-  unfolding serverWithin
-  its-within = k .within
-
   all-allowed : every (allowed (cfg .c)) ts ≡ true
-  all-allowed = within-allowed cfg (v .highest) (v .floor) ts its-within
+  all-allowed = within-allowed cfg (v .highest) (v .floor) ts (k .within)
 
   now-allowed : every (allowed (cfg .c)) (t ∷ received) ≡ true
   unfolding every
@@ -127,7 +123,7 @@ module _ {Element : Type 0} (cfg : Config) (high : cfg .c ≤ 16) (received : Li
   unfolding addLast
   last-floor = refl
 
-  with-room : serverWithin cfg (addLast v y) ≡ true → Knows cfg (t ∷ received) (addLast v y)
+  with-room : serverTags cfg (addLast v y) ≡ true → Knows cfg (t ∷ received) (addLast v y)
   with-room q =
       record {
         within = q;
@@ -161,7 +157,7 @@ module _ {Element : Type 0} (cfg : Config) (high : cfg .c ≤ 16) (received : Li
   unfolding atOrBelowFloor
   below-some x h = le-leb (key x) (key u) h
 
-  with-itself : among t ts ≡ false → atOrBelowFloor key t (v .floor) ≡ false → key u ≡ key t → serverWithin cfg (floored cfg high v (k .within) y ok u (v .stored)) ≡ true
+  with-itself : among t ts ≡ false → atOrBelowFloor key t (v .floor) ≡ false → key u ≡ key t → serverTags cfg (floored cfg high v (k .within) y ok u (v .stored)) ≡ true
       → Knows cfg (t ∷ received) (floored cfg high v (k .within) y ok u (v .stored))
   with-itself a f e q =
       record {
@@ -174,7 +170,7 @@ module _ {Element : Type 0} (cfg : Config) (high : cfg .c ≤ 16) (received : Li
             ⊎-elim (λ w. or-second (among x ts) b (below-some x (omega (arith, ap key w))))
             (λ w.
             ⊎-elim (λ i. or-first (among x ts) b i)
-            (λ i. or-second (among x ts) b (below-some x (below-low (v .floor) (within-floor cfg (v .highest) (v .floor) ts its-within) x i f)))
+            (λ i. or-second (among x ts) b (below-some x (below-low (v .floor) (within-floor cfg (v .highest) (v .floor) ts (k .within)) x i f)))
             (or-true (among x ts) (atOrBelowFloor key x (v .floor)) (k .known x w)))
             (at-front t x received h);
         floor = low-floor;
@@ -196,7 +192,7 @@ module _ {Element : Type 0} (cfg : Config) (high : cfg .c ≤ 16) (received : Li
       | no n ↦ or-first (among x (tagsOf xs)) (atOrBelowFloor key x (some u)) (taken-holds x ∙ replaced-keeps u t x ts n i)
     ]
 
-    with-another : atOrBelowFloor key t (v .floor) ≡ false → serverWithin cfg (floored cfg high v (k .within) y ok u xs) ≡ true
+    with-another : atOrBelowFloor key t (v .floor) ≡ false → serverTags cfg (floored cfg high v (k .within) y ok u xs) ≡ true
         → Knows cfg (t ∷ received) (floored cfg high v (k .within) y ok u xs)
     with-another f q =
         record {
@@ -213,7 +209,7 @@ module _ {Element : Type 0} (cfg : Config) (high : cfg .c ≤ 16) (received : Li
               (λ w. or-first (among x (tagsOf xs)) b (taken-holds x ∙ ap (λ (z : Tag). among z (replaced u t ts)) (sym w) ∙ replaced-new u t ts low-stored))
               (λ w.
               ⊎-elim (λ i. still x i)
-              (λ i. or-second (among x (tagsOf xs)) b (below-some x (below-low (v .floor) (within-floor cfg (v .highest) (v .floor) ts its-within) x i f)))
+              (λ i. or-second (among x (tagsOf xs)) b (below-some x (below-low (v .floor) (within-floor cfg (v .highest) (v .floor) ts (k .within)) x i f)))
               (or-true (among x ts) (atOrBelowFloor key x (v .floor)) (k .known x w)))
               (at-front t x received h);
           floor = low-floor;
@@ -221,13 +217,13 @@ module _ {Element : Type 0} (cfg : Config) (high : cfg .c ≤ 16) (received : Li
 
   pub store-knows : Knows cfg (t ∷ received) (store key (cfg .d) v y)
   store-knows =
-      store-cases cfg high v (k .within) y ok (λ w. serverWithin cfg w ≡ true → Knows cfg (t ∷ received) w) (λ e _. with-same e) (λ a f lt q. with-room q)
-      (λ a f n e q. with-itself a f e q) (λ a f n ne q. with-another ne f q) (store-within cfg high v (k .within) y ok)
+      store-cases cfg high v (k .within) y ok (λ w. serverTags cfg w ≡ true → Knows cfg (t ∷ received) w) (λ e _. with-same e) (λ a f lt q. with-room q)
+      (λ a f n e q. with-itself a f e q) (λ a f n ne q. with-another ne f q) (store-tags cfg high v (k .within) y ok)
 
 -- a step
 module _ {Element : Type 0} (cfg : Config) (high : cfg .c ≤ 16) (s : ℕ) (received : List Tag) (v : Server Element) (k : Knows cfg received v)
     (m : Message Element) (ok : allowed (cfg .c) (m .tag) ≡ true) where
-  finalised-knows : serverWithin cfg (finalised key v (m .tag)) ≡ true → Knows cfg received (finalised key v (m .tag))
+  finalised-knows : serverTags cfg (finalised key v (m .tag)) ≡ true → Knows cfg received (finalised key v (m .tag))
   unfolding finalised
   finalised-knows q = record { within = q; allowed = k .allowed; stored = k .stored; known = k .known; floor = k .floor }
 
@@ -242,9 +238,9 @@ module _ {Element : Type 0} (cfg : Config) (high : cfg .c ≤ 16) (s : ℕ) (rec
   by-kind QueryAnswer = k
   by-kind PreWrite = element-knows (m .element)
   by-kind PreWriteAnswer = k
-  by-kind WriteFinalise = finalised-knows (finalised-within cfg high s v (k .within) m ok)
+  by-kind WriteFinalise = finalised-knows (finalised-tags cfg high s v (k .within) m ok)
   by-kind WriteFinaliseAnswer = k
-  by-kind ReadFinalise = finalised-knows (finalised-within cfg high s v (k .within) m ok)
+  by-kind ReadFinalise = finalised-knows (finalised-tags cfg high s v (k .within) m ok)
   by-kind ReadFinaliseAnswer = k
 
   pub step-knows : Knows cfg (receive m received) (serverStep key (cfg .d) s v m .server)
@@ -266,7 +262,7 @@ pub fresh-knows : {Element : Type 0} (cfg : Config) (e : Element) → Knows cfg 
 unfolding freshServer tagsOf every
 fresh-knows cfg e =
     record {
-      within = fresh-within cfg e;
+      within = fresh-tags cfg e;
       allowed = refl;
       stored = λ t h. h;
       known = λ t h. or-first (among t (start ∷ [])) (atOrBelowFloor key t none) h;
@@ -278,15 +274,11 @@ module _ {Element : Type 0} (cfg : Config) (high : cfg .c ≤ 16) (received : Li
   abbrev held : List Tag
   held = tagsOf (v .stored)
 
-  within-of : tagsWithin cfg (v .highest) (v .floor) held ≡ true
-  unfolding serverWithin
-  within-of = k .within
-
   floor-of : (f : Tag) → v .floor ≡ some f → floorWithin cfg (some f) held ≡ true
-  floor-of f e = ap (λ (o : Option Tag). floorWithin cfg o held) (sym e) ∙ within-floor cfg (v .highest) (v .floor) held within-of
+  floor-of f e = ap (λ (o : Option Tag). floorWithin cfg o held) (sym e) ∙ within-floor cfg (v .highest) (v .floor) held (k .within)
 
   allowed-of : every (allowed (cfg .c)) held ≡ true
-  allowed-of = within-allowed cfg (v .highest) (v .floor) held within-of
+  allowed-of = within-allowed cfg (v .highest) (v .floor) held (k .within)
 
   small-of : (t : Tag) → among t received ≡ true → Small t
   small-of t h = small (cfg .c) t high (every-in (allowed (cfg .c)) received t (k .allowed) h)
@@ -314,8 +306,8 @@ module _ {Element : Type 0} (cfg : Config) (high : cfg .c ≤ 16) (received : Li
   pub highest-of : Highest (cfg .d) received v
   highest-of =
       record {
-        few = omega (arith, tags-long (v .stored), within-count cfg (v .highest) (v .floor) held within-of);
-        once = within-once cfg (v .highest) (v .floor) held within-of;
+        few = omega (arith, tags-long (v .stored), within-count cfg (v .highest) (v .floor) held (k .within));
+        once = within-once cfg (v .highest) (v .floor) held (k .within);
         stored = k .stored;
         above = above-by (v .floor) refl;
         all = all-by;

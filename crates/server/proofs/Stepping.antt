@@ -17,28 +17,31 @@ use Rattle.config.specs.Number.{clientNumber, serverNumber}
 use Rattle.config.specs.Questions.{firstNo, within}
 use Rattle.config.specs.Refusal.{refusalNumber, verdictNumber}
 use Rattle.config.proofs.Refusals.{refusal-low}
+use Rattle.tag.specs.declared.Tag.{Tag}
 use Rattle.tag.specs.Tag.{allowed, key}
 use Rattle.record.specs.declared.Header.{Header}
 use Rattle.record.specs.declared.Kind.{Kind}
 use Rattle.record.specs.declared.Kind.the-variants.{Query, QueryAnswer, PreWrite, PreWriteAnswer, WriteFinalise, WriteFinaliseAnswer, ReadFinalise}
 use Rattle.record.specs.Calls.{withElement}
+use Rattle.record.specs.Element.{Element, elementWith}
 use Rattle.record.specs.Kinds.{isForServer}
 use Rattle.record.specs.Message.{Message}
 use Rattle.record.specs.Record.{elementIn, highestNumber, isPresent, kindNumber, messageClauses, ofConfig, ownTag, presence, recordOf}
 use Rattle.record.proofs.Clauses.{all-at}
 use Rattle.protocol.specs.Server.{Served, answerTo, elementOf, finalised, preWrite, query, readAnswer, readFinalise, serverStep, serverStepOf, storeElement, writeFinalise}
+use Rattle.server.specs.declared.serve.Reply.{Reply}
 use Rattle.server.specs.declared.State.{State}
 use Rattle.server.specs.declared.Stepped.{Stepped}
 use Rattle.server.specs.Calls.{Steps, answerBytes, answers, outcome, raised, stateQuestions}
 use Rattle.server.specs.inner.Keep.{KeepPost}
-use Rattle.server.specs.inner.Serve.{ReadFinalisePost, ReadFinalisePre, RespondPost, RespondPre, RequestPre, readAnswered, reply, requestNumber, unchanged}
+use Rattle.server.specs.inner.Serve.{ReadFinalisePost, ReadFinalisePre, RespondPost, RespondPre, RequestPre, bareOf, readAnswered, reply, replyOf, requestNumber, unchanged}
 use Rattle.server.specs.Within.{stateWithin}
 use Rattle.server.specs.View.{view}
-use Rattle.server.proofs.Answering.{reply-of-config}
+use Rattle.server.proofs.Answering.{bare-respond, reply-of-config}
 use Rattle.server.proofs.Limits.{state-highest, state-me}
 
 -- refused, but not by 15: all holds
-pub steps-refused : (cfg : Config) (s : State) (n : ℕ) (m : Message (List ℕ)) (store answer : List ℕ) (r : Stepped) (why : Refusal)
+pub steps-refused : (cfg : Config) (s : State) (n : ℕ) (m : Message Element) (store answer : List ℕ) (r : Stepped) (why : Refusal)
     → r ≡ unchanged s why → refusalNumber why ≡ n → (n ≡ 15 → ⊥) → Steps cfg s n m store answer store answer r
 steps-refused cfg s n m store answer r why e v other =
     let refuses : n ≡ 0 → ⊥ = λ z. omega (arith, refusal-low why) in
@@ -53,10 +56,10 @@ steps-refused cfg s n m store answer r why e v other =
     }
 
 -- one number or message for an equal one
-pub steps-same : (cfg : Config) (s : State) (n k : ℕ) (m l : Message (List ℕ)) (store answer storeAfter answerAfter : List ℕ) (r : Stepped) → n ≡ k → m ≡ l
+pub steps-same : (cfg : Config) (s : State) (n k : ℕ) (m l : Message Element) (store answer storeAfter answerAfter : List ℕ) (r : Stepped) → n ≡ k → m ≡ l
     → Steps cfg s n m store answer storeAfter answerAfter r → Steps cfg s k l store answer storeAfter answerAfter r
 steps-same cfg s n k m l store answer storeAfter answerAfter r e f p =
-    subst₂ (λ (x : ℕ) (y : Message (List ℕ)). Steps cfg s x y store answer storeAfter answerAfter r) e f p
+    subst₂ (λ (x : ℕ) (y : Message Element). Steps cfg s x y store answer storeAfter answerAfter r) e f p
 
 -- questions 1 to 6 have other numbers than 15
 low-by : (b : Bool) (x n : ℕ) → x ≤ 6 → n ≤ 6 → cond b x n ≤ 6
@@ -77,11 +80,11 @@ state-low cfg s long =
     (omega arith)
 
 module _ (cfg : Config) (s : State) (h : Header) (handed store answer : List ℕ) where
-  abbrev m : Message (List ℕ)
+  abbrev m : Message Element
   m = withElement cfg h handed
 
   -- the protocol's step on a request of a known kind
-  abbrev stepOf : Kind → Served (List ℕ)
+  abbrev stepOf : Kind → Served Element
   stepOf k = serverStepOf k key (cfg .d) (serverNumber (s .me)) (view cfg s store) m
 
   outcome-of : (k : Kind) → h .kind ≡ k → outcome cfg s store m ≡ stepOf k
@@ -97,18 +100,18 @@ module _ (cfg : Config) (s : State) (h : Header) (handed store answer : List ℕ
   tag-of = refl
 
   module _ (k : Kind) (e : h .kind ≡ k) where
-    answer-of : (o : Option (Message (List ℕ))) → stepOf k .answer ≡ o → outcome cfg s store m .answer ≡ o
-    answer-of o a = ap (λ (x : Served (List ℕ)). x .answer) (outcome-of k e) ∙ a
+    answer-of : (o : Option (Message Element)) → stepOf k .answer ≡ o → outcome cfg s store m .answer ≡ o
+    answer-of o a = ap (λ (x : Served Element). x .answer) (outcome-of k e) ∙ a
 
-    number-of : (b : Bool) → isForServer k ≡ b → (o : Option (Message (List ℕ))) → stepOf k .answer ≡ o
+    number-of : (b : Bool) → isForServer k ≡ b → (o : Option (Message Element)) → stepOf k .answer ≡ o
         → requestNumber cfg s store m ≡ cond b (cond (answers o) 0 15) 16
     number-of b v o a =
         let said = outcome cfg s store m .answer in
         ap (λ (x : Kind). cond (isForServer x) (cond (answers said) 0 15) 16) (kind-of k e) ∙ ap (λ (x : Bool). cond x (cond (answers said) 0 15) 16) v
-        ∙ ap (λ (x : Option (Message (List ℕ))). cond b (cond (answers x) 0 15) 16) (answer-of o a)
+        ∙ ap (λ (x : Option (Message Element)). cond b (cond (answers x) 0 15) 16) (answer-of o a)
 
     -- answered
-    pub steps-answered : isForServer k ≡ true → (a : Message (List ℕ)) → stepOf k .answer ≡ some a → (storeAfter answerAfter : List ℕ) (r : Stepped)
+    pub steps-answered : isForServer k ≡ true → (a : Message Element) → stepOf k .answer ≡ some a → (storeAfter answerAfter : List ℕ) (r : Stepped)
         → verdictNumber (r .verdict) ≡ 0 → r .state .me ≡ s .me → view cfg (r .state) storeAfter ≡ stepOf k .server → length storeAfter ≡ length store
         → answerAfter ≡ recordOf cfg a → Steps cfg s (requestNumber cfg s store m) m store answer storeAfter answerAfter r
     steps-answered v a is storeAfter answerAfter r n me w l b =
@@ -116,7 +119,7 @@ module _ (cfg : Config) (s : State) (h : Header) (handed store answer : List ℕ
         record {
           number = n ∙ sym zero-is;
           me = me;
-          seen = λ _. w ∙ sym (ap (λ (x : Served (List ℕ)). x .server) (outcome-of k e));
+          seen = λ _. w ∙ sym (ap (λ (x : Served Element). x .server) (outcome-of k e));
           state = λ f. absurd (f zero-is);
           store = λ f. absurd (f zero-is);
           long = l;
@@ -181,36 +184,29 @@ module _ (cfg : Config) (s : State) (h : Header) (handed store answer : List ℕ
       within-me : within 1 (cfg .n) (serverNumber me) ≡ true
       within-me = ap (λ (x : ServerNumber). within 1 (cfg .n) (serverNumber x)) is ∙ me-in
 
-      pub query-reply : s .highest .number ≤ highestNumber → (after : List ℕ) → length after ≡ 80
-          → RespondPre cfg (reply me h QueryAnswer (s .highest) none) after
-      query-reply n after e =
-          record {
-            valid = q .held .valid;
-            eighty = e;
-            ofConfig =
-                reply-of-config cfg me h QueryAnswer (s .highest) none operation-in (le-leb (s .highest .number) highestNumber n) refl refl refl refl
-                client-in within-me (state-highest cfg s (q .held .within));
-          }
+      bare-reply : (k : Kind) (t : Tag) → ofConfig cfg (reply me h k t none) ≡ true → (r : Reply) → r ≡ bareOf k t → (after : List ℕ) → length after ≡ 80
+          → RespondPre cfg r (replyOf cfg me h r after) after
+      bare-reply k t ok r e after long = bare-respond cfg me h k t r e after (q .held .valid) long ok
 
-      pub pre-write-reply : h .kind ≡ PreWrite → (after : List ℕ) → length after ≡ 80 → RespondPre cfg (reply me h PreWriteAnswer (h .tag) none) after
-      pre-write-reply k after e =
-          record {
-            valid = q .held .valid;
-            eighty = e;
-            ofConfig =
-                reply-of-config cfg me h PreWriteAnswer (h .tag) none operation-in number-in refl refl (own-in PreWrite k) refl client-in within-me tag-in;
-          }
+      pub query-reply : s .highest .number ≤ highestNumber → (r : Reply) → r ≡ bareOf QueryAnswer (s .highest) → (after : List ℕ) → length after ≡ 80
+          → RespondPre cfg r (replyOf cfg me h r after) after
+      query-reply n =
+          bare-reply QueryAnswer (s .highest)
+          (reply-of-config cfg me h QueryAnswer (s .highest) none operation-in (le-leb (s .highest .number) highestNumber n) refl refl refl refl
+          client-in within-me (state-highest cfg s (q .held .within)))
 
-      pub write-reply : h .kind ≡ WriteFinalise → (after : List ℕ) → length after ≡ 80
-          → RespondPre cfg (reply me h WriteFinaliseAnswer (h .tag) none) after
-      write-reply k after e =
-          record {
-            valid = q .held .valid;
-            eighty = e;
-            ofConfig =
-                reply-of-config cfg me h WriteFinaliseAnswer (h .tag) none operation-in number-in refl refl (own-in WriteFinalise k) refl client-in within-me
-                tag-in;
-          }
+      pub pre-write-reply : h .kind ≡ PreWrite → (r : Reply) → r ≡ bareOf PreWriteAnswer (h .tag) → (after : List ℕ) → length after ≡ 80
+          → RespondPre cfg r (replyOf cfg me h r after) after
+      pre-write-reply k =
+          bare-reply PreWriteAnswer (h .tag)
+          (reply-of-config cfg me h PreWriteAnswer (h .tag) none operation-in number-in refl refl (own-in PreWrite k) refl client-in within-me tag-in)
+
+      pub write-reply : h .kind ≡ WriteFinalise → (r : Reply) → r ≡ bareOf WriteFinaliseAnswer (h .tag) → (after : List ℕ) → length after ≡ 80
+          → RespondPre cfg r (replyOf cfg me h r after) after
+      write-reply k =
+          bare-reply WriteFinaliseAnswer (h .tag)
+          (reply-of-config cfg me h WriteFinaliseAnswer (h .tag) none operation-in number-in refl refl (own-in WriteFinalise k) refl client-in within-me
+          tag-in)
 
     pub finalising : ReadFinalisePre cfg s h store answer
     finalising =
@@ -228,7 +224,7 @@ module _ (cfg : Config) (s : State) (h : Header) (handed store answer : List ℕ
     present-by true p = refl
     present-by false p = p
 
-    carried-by : (b : Bool) (x : List ℕ) → isPresent (cond b (some x) none) ≡ b
+    carried-by : (b : Bool) (x : Element) → isPresent (cond b (some x) none) ≡ b
     carried-by true x = refl
     carried-by false x = refl
 
@@ -236,8 +232,8 @@ module _ (cfg : Config) (s : State) (h : Header) (handed store answer : List ℕ
     unfolding messageClauses withElement
     present-in k =
         present-by (h .present)
-        (sym (ap (λ (b : Bool). presence 3 b) (carried-by (h .present) (elementIn cfg handed)))
-        ∙ ap (λ (x : Kind). presence (kindNumber x) (isPresent (cond (h .present) (some (elementIn cfg handed)) none))) (sym k) ∙ rule 5)
+        (sym (ap (λ (b : Bool). presence 3 b) (carried-by (h .present) (elementWith (h .length) (elementIn cfg handed))))
+        ∙ ap (λ (x : Kind). presence (kindNumber x) (isPresent (cond (h .present) (some (elementWith (h .length) (elementIn cfg handed))) none))) (sym k) ∙ rule 5)
 
     -- each kind of request, served
     pub serve-query : h .kind ≡ Query → (answerAfter : List ℕ) (r : Stepped) → RespondPost cfg s (reply (s .me) h QueryAnswer (s .highest) none) answerAfter r
@@ -257,7 +253,7 @@ module _ (cfg : Config) (s : State) (h : Header) (handed store answer : List ℕ
         (ap (λ (x : State). view cfg x store) (p .state ∙ is)) refl
         (p .answer ∙ ap (λ (x : ServerNumber). recordOf cfg (reply x h WriteFinaliseAnswer (h .tag) none)) me)
 
-    pub serve-pre-write : h .kind ≡ PreWrite → (after : State) (storeAfter : List ℕ) → KeepPost cfg s (h .tag) (elementIn cfg handed) store storeAfter after
+    pub serve-pre-write : h .kind ≡ PreWrite → (after : State) (storeAfter : List ℕ) → KeepPost cfg s (h .tag) (h .length) (elementIn cfg handed) store storeAfter after
         → (answerAfter : List ℕ) (r : Stepped) → RespondPost cfg after (reply (after .me) h PreWriteAnswer (h .tag) none) answerAfter r
         → Steps cfg s (requestNumber cfg s store m) m store answer storeAfter answerAfter r
     unfolding serverStepOf preWrite storeElement answerTo withElement reply
@@ -267,7 +263,7 @@ module _ (cfg : Config) (s : State) (h : Header) (handed store answer : List ℕ
         (p .answer ∙ ap (λ (x : ServerNumber). recordOf cfg (reply x h PreWriteAnswer (h .tag) none)) (post .me))
 
     -- the answer of a read finalise, by the header or by the record's message
-    same-answer : (o : Option (List ℕ)) → readAnswer key (serverNumber (s .me)) (view cfg s store .floor) m o
+    same-answer : (o : Option Element) → readAnswer key (serverNumber (s .me)) (view cfg s store .floor) m o
         ≡ readAnswer key (serverNumber (s .me)) (view cfg s store .floor) (reply (s .me) h (h .kind) (h .tag) none) o
     unfolding readAnswer answerTo withElement reply
     same-answer none = refl
@@ -289,11 +285,11 @@ module _ (cfg : Config) (s : State) (h : Header) (handed store answer : List ℕ
         → Steps cfg s (requestNumber cfg s store m) m store answer store answerAfter r
     serve-read k answerAfter r f = go (readAnswered s h store cfg) refl
       where
-        go : (o : Option (Message (List ℕ))) → readAnswered s h store cfg ≡ o → Steps cfg s (requestNumber cfg s store m) m store answer store answerAfter r
+        go : (o : Option (Message Element)) → readAnswered s h store cfg ≡ o → Steps cfg s (requestNumber cfg s store m) m store answer store answerAfter r
         go none e =
-            steps-silent ReadFinalise k refl (read-answer-of ∙ e) answerAfter r (f .number ∙ ap (λ (o : Option (Message (List ℕ))). cond (answers o) 0 15) e)
-            (f .state) (f .answer ∙ ap (λ (o : Option (Message (List ℕ))). answerBytes cfg o answer) e)
+            steps-silent ReadFinalise k refl (read-answer-of ∙ e) answerAfter r (f .number ∙ ap (λ (o : Option (Message Element)). cond (answers o) 0 15) e)
+            (f .state) (f .answer ∙ ap (λ (o : Option (Message Element)). answerBytes cfg o answer) e)
         go (some a) e =
             steps-answered ReadFinalise k refl a (read-answer-of ∙ e) store answerAfter r
-            (f .number ∙ ap (λ (o : Option (Message (List ℕ))). cond (answers o) 0 15) e) (me-of (f .state))
-            (ap (λ (x : State). view cfg x store) (f .state) ∙ read-server-of) refl (f .answer ∙ ap (λ (o : Option (Message (List ℕ))). answerBytes cfg o answer) e)
+            (f .number ∙ ap (λ (o : Option (Message Element)). cond (answers o) 0 15) e) (me-of (f .state))
+            (ap (λ (x : State). view cfg x store) (f .state) ∙ read-server-of) refl (f .answer ∙ ap (λ (o : Option (Message Element)). answerBytes cfg o answer) e)

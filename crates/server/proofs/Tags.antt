@@ -70,7 +70,7 @@ among-last t x (y ∷ ys) = rw (among-last t x ys) (go (same y t) (among t ys) (
     go true b c = refl
     go false b c = refl
 
-pub every-last : (test : Tag → Bool) (x : Tag) (ts : List Tag) → every test ts ≡ true → test x ≡ true → every test (ts ++ x ∷ []) ≡ true
+pub every-last : {A : Type 0} (test : A → Bool) (x : A) (ts : List A) → every test ts ≡ true → test x ≡ true → every test (ts ++ x ∷ []) ≡ true
 unfolding every
 every-last test x [] h e = rw e
 every-last test x (y ∷ ys) h e =

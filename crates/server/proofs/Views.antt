@@ -3,7 +3,6 @@ use mathlib.Core.Path.{_≡_, sym, _∙_, ap, ap₂}
 use mathlib.Core.Bool.{true, false}
 use mathlib.Core.List.{List, [], _∷_, _++_}
 use mathlib.Core.Logic.{inl, inr}
-use mathlib.Core.Option.{some}
 use Prim.Native.Nat.{ℕ, _+_, _-_, _*_, _≤_, _<_}
 use native.Mathlib.Decide.{decLt}
 use native.Mathlib.Nat.{zero-add}
@@ -16,7 +15,8 @@ use Rattle.config.specs.declared.Config.{Config}
 use Rattle.tag.specs.declared.Tag.{Tag}
 use Rattle.tag.specs.Tag.{allowed, key, start}
 use Rattle.tag.proofs.Order.{Small}
-use Rattle.protocol.specs.Server.{Server, Stored, addLast, dropSmallest, inPlaceOf, others, smallest}
+use Rattle.record.specs.Element.{Element, elementWith}
+use Rattle.protocol.specs.Server.{Stored, addLast, dropSmallest, inPlaceOf, others, smallest}
 use Rattle.server.specs.declared.State.{State}
 use Rattle.server.specs.inner.Keep.{appended, dropped, lowest}
 use Rattle.server.specs.inner.Places.{putAt}
@@ -27,18 +27,21 @@ use Rattle.server.proofs.Keys.{same-eqb, small}
 use Rattle.server.proofs.Lists.{in-place, least-smallest}
 use Rattle.server.proofs.Put.{place-below, put-above, put-below, put-here}
 
--- a tag and its element at place p
-module _ (cfg : Config) (tags : List Tag) (store : List ℕ) (p : ℕ) (t : Tag) (element : List ℕ) (sized : length element ≡ cfg .e)
-    (fits : p * cfg .e + cfg .e ≤ length store) (within : p < length tags) where
-  abbrev after : ℕ → Stored (List ℕ)
-  after = placeAt cfg (set tags p t) (putAt (p * cfg .e) element store)
+-- a tag and its element with a length at place p
+module _ (cfg : Config) (tags : List Tag) (lengths store : List ℕ) (p : ℕ) (t : Tag) (n : ℕ) (element : List ℕ) (sized : length element ≡ cfg .e)
+    (fits : p * cfg .e + cfg .e ≤ length store) (within : p < length tags) (beside : p < length lengths) where
+  abbrev after : ℕ → Stored Element
+  after = placeAt cfg (set tags p t) (set lengths p n) (putAt (p * cfg .e) element store)
 
-  pub put-place : after p ≡ record { tag = t; element = element }
+  pub put-place : after p ≡ record { tag = t; element = elementWith n element }
   put-place =
       λ i.
       record {
         tag = getD-set-same tags p t start within i;
-        element = put-here (p * cfg .e) (cfg .e) element store sized fits i;
+        element = record {
+          length = getD-set-same lengths p n 0 beside i;
+          bytes = put-here (p * cfg .e) (cfg .e) element store sized fits i;
+        };
       }
 
   other-element : (j : ℕ) → (j ≡ p → ⊥) → elementAt cfg (putAt (p * cfg .e) element store) j ≡ elementAt cfg store j
@@ -47,35 +50,43 @@ module _ (cfg : Config) (tags : List Tag) (store : List ℕ) (p : ℕ) (t : Tag)
     | no ge ↦ put-above (p * cfg .e) (cfg .e) element store sized fits (j * cfg .e) (place-below p j (cfg .e) (omega arith))
   ]
 
-  pub other-place : (j : ℕ) → (j ≡ p → ⊥) → after j ≡ placeAt cfg tags store j
-  other-place j ne = λ i. record { tag = getD-set-other tags p j t start ne i; element = other-element j ne i }
+  pub other-place : (j : ℕ) → (j ≡ p → ⊥) → after j ≡ placeAt cfg tags lengths store j
+  other-place j ne =
+      λ i.
+      record {
+        tag = getD-set-other tags p j t start ne i;
+        element = record { length = getD-set-other lengths p j n 0 ne i; bytes = other-element j ne i };
+      }
 
-module _ (cfg : Config) (s : State) (store : List ℕ) (t : Tag) (element : List ℕ) (sized : length element ≡ cfg .e) (eight : length (s .tags) ≡ 8) where
-  abbrev new : Stored (List ℕ)
-  new = record { tag = t; element = element }
+module _ (cfg : Config) (s : State) (store : List ℕ) (t : Tag) (n : ℕ) (element : List ℕ) (sized : length element ≡ cfg .e)
+    (eight : (length (s .tags) ≡ 8) × (length (s .lengths) ≡ 8)) where
+  abbrev new : Stored Element
+  new = record { tag = t; element = elementWith n element }
+
+  -- the places as they were
+  abbrev old : ℕ → Stored Element
+  old = placeAt cfg (s .tags) (s .lengths) store
 
   -- one more place
   pub append-view : s .count < 8 → s .count * cfg .e + cfg .e ≤ length store
-      → view cfg (appended s t) (putAt (s .count * cfg .e) element store) ≡ addLast (view cfg s store) new
+      → view cfg (appended s t n) (putAt (s .count * cfg .e) element store) ≡ addLast (view cfg s store) new
   unfolding view appended addLast
   append-view room fits =
-      let after = placeAt cfg (set (s .tags) (s .count) t) (putAt (s .count * cfg .e) element store) in
-      let within : s .count < length (s .tags) = omega arith in
-      let same-before : each after 0 (s .count) ≡ each (placeAt cfg (s .tags) store) 0 (s .count) =
-      each-same after (placeAt cfg (s .tags) store) 0 (s .count)
-      (λ j lo hi. other-place cfg (s .tags) store (s .count) t element sized fits within j (λ z. omega arith)) in
-      let stored : each after 0 (s .count + 1) ≡ each (placeAt cfg (s .tags) store) 0 (s .count) ++ new ∷ [] =
+      let after = placeAt cfg (set (s .tags) (s .count) t) (set (s .lengths) (s .count) n) (putAt (s .count * cfg .e) element store) in
+      let within : s .count < length (s .tags) = omega (arith, eight .0) in
+      let beside : s .count < length (s .lengths) = omega (arith, eight .1) in
+      let same-before : each after 0 (s .count) ≡ each old 0 (s .count) =
+      each-same after old 0 (s .count)
+      (λ j lo hi. other-place cfg (s .tags) (s .lengths) store (s .count) t n element sized fits within beside j (λ z. omega arith)) in
+      let stored : each after 0 (s .count + 1) ≡ each old 0 (s .count) ++ new ∷ [] =
       each-last after 0 (s .count) ∙ ap (λ (j : ℕ). each after 0 (s .count) ++ after j ∷ []) (zero-add (s .count))
-      ∙ ap₂ {A = List (Stored (List ℕ))} (λ (xs : List (Stored (List ℕ))) (x : Stored (List ℕ)). xs ++ x ∷ []) same-before
-      (put-place cfg (s .tags) store (s .count) t element sized fits within) in
+      ∙ ap₂ {A = List (Stored Element)} (λ (xs : List (Stored Element)) (x : Stored Element). xs ++ x ∷ []) same-before
+      (put-place cfg (s .tags) (s .lengths) store (s .count) t n element sized fits within beside) in
       λ i. record { highest = s .highest; floor = floorOf (s .floor); stored = stored i }
 
   -- the lowest dropped
   module _ (clients : ℕ) (high : clients ≤ 16) (st : Small t) (all : every (allowed clients) (tagsUsed s) ≡ true) (one : once (tagsUsed s) ≡ true)
       (apart : among t (tagsUsed s) ≡ false) where
-    abbrev old : ℕ → Stored (List ℕ)
-    old = placeAt cfg (s .tags) store
-
     abbrev u : Tag
     u = lowest s t .tag
 
@@ -88,15 +99,12 @@ module _ (cfg : Config) (s : State) (store : List ℕ) (t : Tag) (element : List
     place-is : Lowest (tagAt (s .tags)) t (s .count) 0 (s .count) (lowest s t)
     place-is = lowest-place (tagAt (s .tags)) t (s .count) 0 (s .count)
 
-    dropped-server : (floor : Tag) (xs : List (Stored (List ℕ))) → Server (List ℕ)
-    dropped-server floor xs = record { highest = s .highest; floor = some floor; stored = xs }
-
     -- t itself is the lowest: nothing is stored
     itself-by : Lowest (tagAt (s .tags)) t (s .count) 0 (s .count) (lowest s t) → s .count ≤ p → u ≡ t
     itself-by (inl w) h = w .1
     itself-by (inr w) h = absurd (omega (arith, w .1))
 
-    pub itself-view : s .count ≤ p → view cfg (dropped s t) store ≡ dropSmallest key (view cfg s store) new
+    pub itself-view : s .count ≤ p → view cfg (dropped s t n) store ≡ dropSmallest key (view cfg s store) new
     unfolding view dropped dropSmallest others
     itself-view h =
         let e : u ≡ t = itself-by place-is h in
@@ -109,18 +117,19 @@ module _ (cfg : Config) (s : State) (store : List ℕ) (t : Tag) (element : List
     place-by (inr w) h = w .2
 
     pub another-view : p < s .count → s .count ≤ 8 → s .count * cfg .e ≤ length store
-        → view cfg (dropped s t) (putAt (p * cfg .e) element store) ≡ dropSmallest key (view cfg s store) new
+        → view cfg (dropped s t n) (putAt (p * cfg .e) element store) ≡ dropSmallest key (view cfg s store) new
     unfolding view dropped dropSmallest others
     another-view h eights room =
         let is : tagAt (s .tags) p ≡ u = place-by place-is h in
         let fits : p * cfg .e + cfg .e ≤ length store = omega (arith, place-below p (s .count) (cfg .e) h) in
-        let within : p < length (s .tags) = omega arith in
+        let within : p < length (s .tags) = omega (arith, eight .0) in
+        let beside : p < length (s .lengths) = omega (arith, eight .1) in
         let top : p < 0 + s .count = omega arith in
         let sp : Small (tagAt (s .tags) p) = small clients (tagAt (s .tags) p) high (every-at (tagAt (s .tags)) (allowed clients) 0 (s .count) p all (omega arith) top) in
         let k : eqb (key u) (key t) ≡ false =
         ap (λ (x : Tag). eqb (key x) (key t)) (sym is) ∙ sym (same-eqb (tagAt (s .tags) p) t sp st) ∙ among-at (tagAt (s .tags)) t 0 (s .count) p apart (omega arith) top in
-        let after = placeAt cfg (set (s .tags) p t) (putAt (p * cfg .e) element store) in
+        let after = placeAt cfg (set (s .tags) p t) (set (s .lengths) p n) (putAt (p * cfg .e) element store) in
         let taken : inPlaceOf key u new (each old 0 (s .count)) ≡ each after 0 (s .count) =
-        in-place clients high old u new after p is (put-place cfg (s .tags) store p t element sized fits within)
-        (other-place cfg (s .tags) store p t element sized fits within) 0 (s .count) all one (omega arith) top in
+        in-place clients high old u new after p is (put-place cfg (s .tags) (s .lengths) store p t n element sized fits within beside)
+        (other-place cfg (s .tags) (s .lengths) store p t n element sized fits within beside) 0 (s .count) all one (omega arith) top in
         rw (lt-leb (s .count) p h, ← is-smallest, k, taken)

@@ -8,12 +8,13 @@ use lib.Dec.{eqb}
 use lib.ListN.{length, drop, replicate}
 use Rattle.config.specs.declared.Config.{Config}
 use Rattle.config.specs.declared.Server.{Server as ServerNumber}
-use Rattle.config.specs.Config.{questions, recordLength, storeLength}
+use Rattle.config.specs.Config.{boardLength, questions, recordLength, storeLength}
 use Rattle.config.specs.Number.{serverNumber}
 use Rattle.config.specs.Questions.{Question, ask, firstNo, within}
 use Rattle.config.specs.Refusal.{verdictNumber}
 use Rattle.tag.specs.declared.Tag.{Tag}
 use Rattle.tag.specs.Tag.{key, start}
+use Rattle.record.specs.Element.{Element}
 use Rattle.record.specs.Kinds.{isForServer}
 use Rattle.record.specs.Message.{Message}
 use Rattle.record.specs.Record.{messageOf, recordOf, wellFormed}
@@ -38,24 +39,29 @@ freshQuestions cfg me element store =
     ∷ []
 
 -- "Fresh: H = (0, 0), with the starting board's element stored at (0, 0)": the one place in use is the first.
-unfoldable pub freshState : ServerNumber → State
-freshState me = record { me = me; highest = start; floor = Floor.None; count = 1; tags = replicate 8 start }
+unfoldable pub freshState : ServerNumber → ℕ → State
+freshState me length =
+    record { me = me; highest = start; floor = Floor.None; count = 1; tags = replicate 8 start; lengths = replicate 8 length }
+
+-- "the starting board has length V"; a refusal says 0
+abbrev pub freshLength : Config → ServerNumber → List ℕ → List ℕ → ℕ
+freshLength cfg me element store = cond (eqb (firstNo (freshQuestions cfg me element store)) 0) (boardLength cfg) 0
 
 pub record FreshPost (cfg : Config) (me : ServerNumber) (element before after : List ℕ) (r : Stepped) : Type 0 where
   pub number : verdictNumber (r .verdict) ≡ firstNo (freshQuestions cfg me element before)
-  pub state : r .state ≡ freshState me
+  pub state : r .state ≡ freshState me (freshLength cfg me element before)
   pub store : after ≡ cond (eqb (firstNo (freshQuestions cfg me element before)) 0) (element ++ drop (cfg .e) before) before
 
 -- "16. .. is the record for this party, in a kind it receives?"
-abbrev pub forServer : ℕ → Message (List ℕ) → Bool
+abbrev pub forServer : ℕ → Message Element → Bool
 forServer me m = eqb (m .server) me && isForServer (m .kind)
 
 -- the protocol's step of this server on a message: its server afterwards, and its answer
-abbrev pub outcome : Config → State → List ℕ → Message (List ℕ) → Served (List ℕ)
+abbrev pub outcome : Config → State → List ℕ → Message Element → Served Element
 outcome cfg s store m = serverStep key (cfg .d) (serverNumber (s .me)) (view cfg s store) m
 
 -- "15. Server step, read finalise: may it answer?"
-abbrev pub answers : Option (Message (List ℕ)) → Bool
+abbrev pub answers : Option (Message Element) → Bool
 answers none = false
 answers (some m) = true
 
@@ -70,13 +76,21 @@ stepQuestions cfg s handed store answer =
     ∷ []
 
 -- the record of an answer; without one the record holds what it held
-abbrev pub answerBytes : Config → Option (Message (List ℕ)) → List ℕ → List ℕ
+abbrev pub answerBytes : Config → Option (Message Element) → List ℕ → List ℕ
 answerBytes cfg none held = held
 answerBytes cfg (some m) held = recordOf cfg m
 
 -- "H becomes the higher of H and t", and all else holds
 unfoldable pub raised : State → Tag → State
-raised s t = record { me = s .me; highest = higher key (s .highest) t; floor = s .floor; count = s .count; tags = s .tags }
+raised s t =
+    record {
+      me = s .me;
+      highest = higher key (s .highest) t;
+      floor = s .floor;
+      count = s .count;
+      tags = s .tags;
+      lengths = s .lengths;
+    }
 
 -- what stays of the state on a refusal: all, but for H at 15
 abbrev pub stays : ℕ → State → Tag → State
@@ -84,7 +98,7 @@ stays number s t = cond (eqb number 15) (raised s t) s
 
 -- What a step leaves, where `first` is the number of the first question that is answered no, or 0, and m is the message: the
 -- protocol's step, or what was there.
-pub record Steps (cfg : Config) (s : State) (first : ℕ) (m : Message (List ℕ)) (storeBefore answerBefore storeAfter answerAfter : List ℕ) (r : Stepped) : Type 0 where
+pub record Steps (cfg : Config) (s : State) (first : ℕ) (m : Message Element) (storeBefore answerBefore storeAfter answerAfter : List ℕ) (r : Stepped) : Type 0 where
   pub number : verdictNumber (r .verdict) ≡ first
   pub me : r .state .me ≡ s .me
   -- accepted: the protocol's step
@@ -101,9 +115,9 @@ StepPost cfg s handed store answer storeAfter answerAfter r =
     Steps cfg s (firstNo (stepQuestions cfg s handed store answer)) (messageOf cfg handed) store answer storeAfter answerAfter r
 
 -- an element's bytes; "an empty part if there is none"
-abbrev pub lentBytes : Option (List ℕ) → List ℕ
+abbrev pub lentBytes : Option Element → List ℕ
 lentBytes none = []
-lentBytes (some e) = e
+lentBytes (some e) = e .bytes
 
 -- the part that is lent, and the lent number afterwards
 pub record LendPost (cfg : Config) (s : State) (t : Tag) (store lent : List ℕ) (told : ℕ) : Type 0 where

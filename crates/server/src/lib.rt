@@ -13,7 +13,7 @@ use record::Reading;
 use tag::Tag;
 ghost use mathlib.Core.Path.{_≡_};
 ghost use Rattle.config.specs.Questions.{firstNo};
-ghost use Rattle.server.specs.Calls.{FreshPost, LendPost, StepPost, stateQuestions};
+ghost use Rattle.server.specs.Calls.{FreshPost, LendPost, StepPost, freshState, stateQuestions};
 ghost use Rattle.server.specs.inner.Serve.{unchanged};
 
 // No floor, or the highest tag that was dropped.
@@ -23,13 +23,14 @@ pub enum Floor {
 }
 
 // What a server keeps: its number, the highest finalised tag, the floor, and the first `count` of the tags as the stored ones.
-// The element of tag i stands in the store at i × E.
+// The element of tag i stands in the store at i × E, and the length of its board is length i.
 pub struct State {
     pub me: Server,
     pub count: u8,
     pub highest: Tag,
     pub floor: Floor,
     pub tags: [Tag; 8],
+    pub lengths: [u16; 8],
 }
 
 // What a call leaves: its verdict and the state.
@@ -59,47 +60,54 @@ pub fn ask(cfg: Config, state: State, long: usize) -> u8
     if long != within::store_length(cfg) {
         return 6;
     }
-    if within::quick(cfg, state) {
-        return 0;
+    if !within::numbers(cfg, state) {
+        return 6;
     }
-    if !within::state_within(cfg, state) {
+    if !within::lengths(cfg, state) {
         return 6;
     }
     0
 }
 
-// A fresh server, with the starting board's element in the store: questions 1 to 5, 6 and 8.
-pub fn fresh(cfg: Config, me: Server, element: &[u8], store: &mut [u8]) -> Stepped
-    ensures { λ r. ⌜ FreshPost cfg me (now (element .entry)) (now (store .entry)) (now (store .exit)) r ⌝ }
+// A server that stores one tag, (0, 0), with a length.
+fn first(me: Server, length: u16) -> State
+    ensures { λ r. ⌜ r ≡ freshState me length ⌝ }
 {
     let start = Tag {
         number: 0,
         client: 0,
     };
-    let state = State {
+    State {
         me,
         highest: start,
         floor: Floor::None,
         count: 1,
         tags: [start; 8],
-    };
+        lengths: [length; 8],
+    }
+}
+
+// A fresh server, with the starting board's element in the store, and its length V: questions 1 to 5, 6 and 8.
+pub fn fresh(cfg: Config, me: Server, element: &[u8], store: &mut [u8]) -> Stepped
+    ensures { λ r. ⌜ FreshPost cfg me (now (element .entry)) (now (store .entry)) (now (store .exit)) r ⌝ }
+{
     let no = cfg.ask();
     if no != 0 {
-        return refused(state, Refusal::of(no));
+        return refused(first(me, 0), Refusal::of(no));
     }
     if element.len() != cfg.e {
-        return refused(state, Refusal::Shape);
+        return refused(first(me, 0), Refusal::Shape);
     }
     if store.len() != within::store_length(cfg) {
-        return refused(state, Refusal::Shape);
+        return refused(first(me, 0), Refusal::Shape);
     }
     if !within::server_within(cfg, me) {
-        return refused(state, Refusal::Missing);
+        return refused(first(me, 0), Refusal::Missing);
     }
     bytes::copy(element, store);
     Stepped {
         verdict: Verdict::Accepted,
-        state,
+        state: first(me, (cfg.k * cfg.e) as u16),
     }
 }
 

@@ -18,7 +18,7 @@ ghost use Rattle.protocol.specs.Tags.{higher as higherOf};
 ghost use Rattle.server.specs.Calls.{Steps, raised};
 ghost use Rattle.server.specs.inner.Keep.{AppendPost, DropSmallestPost, KeepPre, KeepPost};
 ghost use Rattle.server.specs.inner.Places.{Room};
-ghost use Rattle.server.specs.inner.Serve.{ReadFinalisePost, ReadFinalisePre, RespondPost, RespondPre, RequestPre, present, reply, requestNumber};
+ghost use Rattle.server.specs.inner.Serve.{ReadFinalisePost, ReadFinalisePre, RespondPost, RespondPre, RequestPre, bareOf, replyOf, requestNumber};
 ghost use Rattle.server.specs.View.{floorOf};
 
 // The higher of two tags.
@@ -39,12 +39,14 @@ fn raise(s: State, t: Tag) -> State
     let h = s.highest;
     let floor = s.floor;
     let tags = s.tags;
+    let lengths = s.lengths;
     State {
         me,
         highest: higher(h, t),
         floor,
         count: s.count,
         tags,
+        lengths,
     }
 }
 
@@ -58,28 +60,43 @@ fn at_or_below(t: Tag, floor: Floor) -> bool
     !t.above(f)
 }
 
+// What an answer says besides what it repeats.
+pub(crate) struct Reply {
+    pub kind: Kind,
+    pub tag: Tag,
+    pub present: bool,
+    pub length: u16,
+}
+
+// Without an element.
+fn bare(kind: Kind, tag: Tag) -> Reply
+    ensures { λ r. ⌜ r ≡ bareOf kind tag ⌝ }
+{
+    Reply {
+        kind,
+        tag,
+        present: false,
+        length: 0,
+    }
+}
+
 // Writes an answer: it names the server and repeats client and operation number.
-fn respond(
-    cfg: Config,
-    s: State,
-    h: Header,
-    kind: Kind,
-    tag: Tag,
-    there: bool,
-    answer: &mut [u8],
-) -> Stepped
-    requires { ⌜ RespondPre cfg (reply (s .me) h kind tag (present cfg there (now answer))) (now answer) ⌝ }
-    ensures { λ r. ⌜ RespondPost cfg s (reply (s .me) h kind tag (present cfg there (now (answer .entry)))) (now (answer .exit)) r ⌝ }
+fn respond(cfg: Config, s: State, h: Header, reply: Reply, answer: &mut [u8]) -> Stepped
+    requires { ⌜ RespondPre cfg reply (replyOf cfg (s .me) h reply (now answer)) (now answer) ⌝ }
+    ensures { λ r. ⌜ RespondPost cfg s (replyOf cfg (s .me) h reply (now (answer .entry))) (now (answer .exit)) r ⌝ }
 {
     let client = h.client;
     let server = s.me;
+    let kind = reply.kind;
+    let tag = reply.tag;
     let out = Header {
         kind,
         client,
         server,
         operation: h.operation,
         tag,
-        present: there,
+        present: reply.present,
+        length: reply.length,
     };
     record::write(cfg, out, answer);
     Stepped {
@@ -88,36 +105,47 @@ fn respond(
     }
 }
 
-// Stores a tag and its element at the first free place.
-fn append(cfg: Config, s: State, t: Tag, element: &[u8], store: &mut [u8]) -> State
+// Stores a tag and its element at the first free place, with the length.
+fn append(cfg: Config, s: State, t: Tag, length: u16, element: &[u8], store: &mut [u8]) -> State
     requires { ⌜ Room cfg (s .count + 1) (now element) (now store) ⌝ }
-    ensures { λ r. ⌜ AppendPost cfg s t (now (element .entry)) (now (store .entry)) (now (store .exit)) r ⌝ }
+    ensures { λ r. ⌜ AppendPost cfg s t length (now (element .entry)) (now (store .entry)) (now (store .exit)) r ⌝ }
 {
     let me = s.me;
     let highest = s.highest;
     let floor = s.floor;
     let count = s.count as usize;
     let mut tags = s.tags;
+    let mut lengths = s.lengths;
     places::put(cfg, count, element, store);
     tags[count] = t;
+    lengths[count] = length;
     State {
         me,
         highest,
         floor,
         count: s.count + 1,
         tags,
+        lengths,
     }
 }
 
 // Of the stored tags and this one, the smallest is dropped and becomes the floor; the others are stored.
-fn drop_smallest(cfg: Config, s: State, t: Tag, element: &[u8], store: &mut [u8]) -> State
+fn drop_smallest(
+    cfg: Config,
+    s: State,
+    t: Tag,
+    length: u16,
+    element: &[u8],
+    store: &mut [u8],
+) -> State
     requires { ⌜ Room cfg (s .count) (now element) (now store) ⌝ }
-    ensures { λ r. ⌜ DropSmallestPost cfg s t (now (element .entry)) (now (store .entry)) (now (store .exit)) r ⌝ }
+    ensures { λ r. ⌜ DropSmallestPost cfg s t length (now (element .entry)) (now (store .entry)) (now (store .exit)) r ⌝ }
 {
     let me = s.me;
     let highest = s.highest;
     let count = s.count as usize;
     let mut tags = s.tags;
+    let mut lengths = s.lengths;
     let low = places::lowest(t, count, tags);
     let smallest = low.tag;
     let place = low.place;
@@ -129,23 +157,26 @@ fn drop_smallest(cfg: Config, s: State, t: Tag, element: &[u8], store: &mut [u8]
             floor,
             count: s.count,
             tags,
+            lengths,
         };
     }
     places::put(cfg, place, element, store);
     tags[place] = t;
+    lengths[place] = length;
     State {
         me,
         highest,
         floor,
         count: s.count,
         tags,
+        lengths,
     }
 }
 
-// A pre-write's tag and element: nothing is stored if the tag is stored or at or below the floor.
-fn keep(cfg: Config, s: State, t: Tag, element: &[u8], store: &mut [u8]) -> State
+// A pre-write's tag and element, with its length: nothing is stored if the tag is stored or at or below the floor.
+fn keep(cfg: Config, s: State, t: Tag, length: u16, element: &[u8], store: &mut [u8]) -> State
     requires { ⌜ KeepPre cfg s t (now element) (now store) ⌝ }
-    ensures { λ r. ⌜ KeepPost cfg s t (now (element .entry)) (now (store .entry)) (now (store .exit)) r ⌝ }
+    ensures { λ r. ⌜ KeepPost cfg s t length (now (element .entry)) (now (store .entry)) (now (store .exit)) r ⌝ }
 {
     let count = s.count as usize;
     let tags = s.tags;
@@ -157,9 +188,9 @@ fn keep(cfg: Config, s: State, t: Tag, element: &[u8], store: &mut [u8]) -> Stat
         return s;
     }
     if count <= cfg.d {
-        return append(cfg, s, t, element, store);
+        return append(cfg, s, t, length, element, store);
     }
-    drop_smallest(cfg, s, t, element, store)
+    drop_smallest(cfg, s, t, length, element, store)
 }
 
 // Read finalise: the stored element of the tag, or an answer without one, or 15 where the tag is at or below the floor.
@@ -171,18 +202,25 @@ fn read_finalise(cfg: Config, s: State, h: Header, store: &[u8], answer: &mut [u
     let floor = s.floor;
     let count = s.count as usize;
     let tags = s.tags;
+    let lengths = s.lengths;
     let after = raise(s, t);
     let place = places::place_of(t, 0, count, tags);
     if place < count {
         let from = place * cfg.e;
         let end = from + cfg.e;
         bytes::copy(&store[from..end], &mut answer[16..]);
-        return respond(cfg, after, h, Kind::ReadFinaliseAnswer, t, true, answer);
+        let reply = Reply {
+            kind: Kind::ReadFinaliseAnswer,
+            tag: t,
+            present: true,
+            length: lengths[place],
+        };
+        return respond(cfg, after, h, reply, answer);
     }
     if at_or_below(t, floor) {
         return crate::refused(after, Refusal::Cleared);
     }
-    respond(cfg, after, h, Kind::ReadFinaliseAnswer, t, false, answer)
+    respond(cfg, after, h, bare(Kind::ReadFinaliseAnswer, t), answer)
 }
 
 // A request of any kind; 16 if it is none that a server receives.
@@ -202,16 +240,16 @@ pub(crate) fn request(
     match kind {
         Kind::Query => {
             let highest = s.highest;
-            respond(cfg, s, h, Kind::QueryAnswer, highest, false, answer)
+            respond(cfg, s, h, bare(Kind::QueryAnswer, highest), answer)
         }
         Kind::PreWrite => {
             let end = 16 + cfg.e;
-            let after = keep(cfg, s, t, &handed[16..end], store);
-            respond(cfg, after, h, Kind::PreWriteAnswer, t, false, answer)
+            let after = keep(cfg, s, t, h.length, &handed[16..end], store);
+            respond(cfg, after, h, bare(Kind::PreWriteAnswer, t), answer)
         }
         Kind::WriteFinalise => {
             let after = raise(s, t);
-            respond(cfg, after, h, Kind::WriteFinaliseAnswer, t, false, answer)
+            respond(cfg, after, h, bare(Kind::WriteFinaliseAnswer, t), answer)
         }
         Kind::ReadFinalise => read_finalise(cfg, s, h, store, answer),
         Kind::QueryAnswer => crate::refused(s, Refusal::Misdirected),

@@ -7,6 +7,7 @@ use config::Server;
 use tag::Tag;
 ghost use mathlib.Core.Bool.{true};
 ghost use mathlib.Core.Option.{none, some};
+ghost use lib.Dec.{leb};
 ghost use mathlib.Core.Path.{_≡_};
 ghost use Prim.Native.Nat.{_+_, _*_, _%_, _^_, _≤_};
 ghost use Rattle.config.specs.Config.{Valid, storeLength};
@@ -14,8 +15,8 @@ ghost use Rattle.config.specs.Number.{serverNumber};
 ghost use Rattle.config.specs.Questions.{within};
 ghost use Rattle.tag.specs.Tag.{above, allowed};
 ghost use Rattle.server.specs.inner.Spread.{RisenPost, SpreadPost, floorFull, spotOf};
-ghost use Rattle.server.specs.Within.{every, floorWithin, once as onceIn, stateWithin};
-ghost use Rattle.server.specs.View.{each, floorOf, tagAt};
+ghost use Rattle.server.specs.Within.{every, floorWithin, lengthsWithin, numbersWithin, once as onceIn};
+ghost use Rattle.server.specs.View.{each, floorOf, lengthsUsed, storedLength, tagAt};
 
 // (D + 1) × E
 pub(crate) fn store_length(cfg: Config) -> usize
@@ -236,10 +237,10 @@ fn full(clients: usize, f: Tag, tags: [Tag; 8]) -> bool
     eight(clients, rank(f.number, f.client), tags)
 }
 
-// A yes shows that the state's part of question 6 is answered yes. A no shows nothing.
-pub(crate) fn quick(cfg: Config, s: State) -> bool
+// A yes shows that the server's number and its tags are within their limits. A no shows nothing.
+fn quick(cfg: Config, s: State) -> bool
     requires { ⌜ Valid cfg ⌝ }
-    ensures { λ r. ⌜ (r ≡ true → stateWithin cfg s ≡ true) ⌝ }
+    ensures { λ r. ⌜ (r ≡ true → numbersWithin cfg s ≡ true) ⌝ }
 {
     let me = s.me;
     if !server_within(cfg, me) {
@@ -267,10 +268,10 @@ pub(crate) fn quick(cfg: Config, s: State) -> bool
     risen(cfg.c, base(f.number, f.client), count, tags)
 }
 
-// The state's part of question 6.
-pub(crate) fn state_within(cfg: Config, s: State) -> bool
+// Whether the server's number and its tags are within their limits, one by one.
+fn each_number(cfg: Config, s: State) -> bool
     requires { ⌜ Valid cfg ⌝ }
-    ensures { λ r. ⌜ r ≡ stateWithin cfg s ⌝ }
+    ensures { λ r. ⌜ r ≡ numbersWithin cfg s ⌝ }
 {
     let me = s.me;
     if !server_within(cfg, me) {
@@ -293,4 +294,39 @@ pub(crate) fn state_within(cfg: Config, s: State) -> bool
     }
     let floor = s.floor;
     floor_within(cfg, floor, count, tags)
+}
+
+// The same: the quick test comes first.
+pub(crate) fn numbers(cfg: Config, s: State) -> bool
+    requires { ⌜ Valid cfg ⌝ }
+    ensures { λ r. ⌜ r ≡ numbersWithin cfg s ⌝ }
+{
+    if quick(cfg, s) {
+        return true;
+    }
+    each_number(cfg, s)
+}
+
+// Whether each of the first `count` lengths is at most V.
+fn each_length(most: usize, count: usize, lengths: [u16; 8]) -> bool
+    requires { ⌜ count ≤ 8 ⌝ }
+    ensures { λ r. ⌜ r ≡ every (λ n. leb n most) (each (storedLength lengths) 0 count) ⌝ }
+{
+    let mut i = 0;
+    while i < count {
+        if most < lengths[i] as usize {
+            return false;
+        }
+        i += 1;
+    }
+    true
+}
+
+// Whether the lengths beside the stored elements are at most V.
+pub(crate) fn lengths(cfg: Config, s: State) -> bool
+    requires { ⌜ (Valid cfg) × (s .count ≤ 8) ⌝ }
+    ensures { λ r. ⌜ r ≡ lengthsWithin cfg (lengthsUsed s) ⌝ }
+{
+    let lengths = s.lengths;
+    each_length(cfg.k * cfg.e, s.count as usize, lengths)
 }

@@ -1,6 +1,6 @@
 // The program board for any configuration. Standard input begins with N, k, D, E and C, a byte each, M, 2 bytes, and the starting
-// board, V bytes; then come the events, in records of 4 + V bytes: code, party, position (2 bytes), board. A making that is refused
-// has the line of count 0, and so has a header or a starting board that is cut short.
+// board, V bytes; then come the events, in records of 6 + V bytes: code, party, position (2 bytes), board, length (2 bytes). A making that
+// is refused has the line of count 0, and so has a header or a starting board that is cut short.
 use config::Config;
 
 fn main() {

@@ -10,7 +10,6 @@ use Rattle.config.specs.declared.Refusal.{Refusal}
 use Rattle.config.specs.declared.Verdict.{Verdict}
 use Rattle.config.specs.Refusal.{verdictNumber}
 use Rattle.config.proofs.Refusals.{refusal-low}
-use Rattle.protocol.specs.Boards.{Board}
 use Rattle.rig.specs.declared.Made.{Made}
 use Rattle.events.specs.declared.Rig.{Rig}
 use Rattle.rig.specs.Calls.{MakePost, makeNo}
@@ -41,7 +40,7 @@ went-on {cfg} {m} {rig} {l} {first} {left} {now} {input} {out} {r} {then} w p =
       counts = omega (arith, w .counts, p .count, length-append (w .events) (p .events));
     }
 
-module _ {cfg : Config} {m : ℕ} {start : Board} {l : Lent} {r : Made} {made-in : Lent} (post : MakePost cfg m start l r made-in) where
+module _ {cfg : Config} {m : ℕ} {start : List ℕ} {l : Lent} {r : Made} {made-in : Lent} (post : MakePost cfg m start l r made-in) where
   -- a making that gives a refusal got a number
   pub was-refused : {why : Refusal} → r .verdict ≡ Verdict.No why → makeNo cfg m start l ≡ 0 → ⊥
   was-refused {why} e z = omega (arith, post .number, ap verdictNumber e, refusal-low why, z)

@@ -1,13 +1,11 @@
 use mathlib.Core.Path.{_≡_, refl, sym, ap, _∙_, subst}
 use Prim.Native.Nat.{ℕ}
-use native.Mathlib.Omega.{arith}
 use Rattle.config.specs.declared.Client.{Client}
 use Rattle.config.specs.declared.Config.{Config}
 use Rattle.config.specs.declared.NewClient.{NewClient}
 use Rattle.config.specs.declared.Refusal.{Refusal}
+use Rattle.config.specs.declared.Verdict.{Verdict}
 use Rattle.config.specs.Number.{NewClientPost, clientNumber, newClientNumber}
-use Rattle.config.proofs.Refusals.{refusal-low}
-use Rattle.client.specs.declared.NewState.{NewState}
 use Rattle.client.specs.Calls.{FreshPost, freshState}
 use borrow.Author.Needs.{needs}
 use Rattle.client.proofs.fresh.Statement.{statement}
@@ -17,13 +15,11 @@ module _ (cfg : Config) (me : Client) {n : ℕ} (is : n ≡ clientNumber me) (r 
   post : NewClientPost cfg (clientNumber me) r
   post = subst (λ (k : ℕ). NewClientPost cfg k r) is p
 
-  none-made : (why : Refusal) → r ≡ NewClient.No why → FreshPost cfg me (NewState.No why)
-  none-made why e =
-      let no = ap newClientNumber (sym e) ∙ post .number in
-      record { number = no; made = λ z. absurd (omega (arith, no, refusal-low why)) }
+  none-made : (why : Refusal) → r ≡ NewClient.No why → FreshPost cfg me (record { verdict = Verdict.No why; state = freshState me })
+  none-made why e = record { number = ap newClientNumber (sym e) ∙ post .number; state = refl }
 
-  one-made : (c : Client) → r ≡ NewClient.Made c → FreshPost cfg me (NewState.Made (freshState me))
-  one-made c e = record { number = ap newClientNumber (sym e) ∙ post .number; made = λ _. refl }
+  one-made : (c : Client) → r ≡ NewClient.Made c → FreshPost cfg me (record { verdict = Verdict.Accepted; state = freshState me })
+  one-made c e = record { number = ap newClientNumber (sym e) ∙ post .number; state = refl }
 
 pub fresh-spec : {M : Type 1} → statement M
 fresh-spec =

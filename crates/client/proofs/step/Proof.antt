@@ -3,7 +3,7 @@ use mathlib.Core.Path.{_≡_, subst}
 use Rattle.client.specs.declared.questions.Asked.{Asked}
 use Rattle.client.specs.State.{Lent, lent}
 use Rattle.client.specs.inner.Questions.{ReceivePost}
-use Rattle.client.proofs.Stepping.{not-awaited, server-small, settles, sizesOf, step-refused, stepped, takes}
+use Rattle.client.proofs.Stepping.{not-awaited, server-places, server-small, settles, sizesOf, step-refused, stepped, takes}
 use borrow.Author.Needs.{needs}
 use Rattle.client.proofs.step.Statement.{statement}
 use Rattle.client.proofs.step.Tie as tie
@@ -38,13 +38,15 @@ step-spec =
     (λ c κs. let a = c .before .before .before .before .before .before in
     let t = told (a .before .before) (a .asked2 .given .1) in
     takes _ _ _ (l (s (a .before .before))) (t .0) _ (t .1))
-    (λ c κs. search needs)
+    (λ c κs. let a = c .before .before .before .before .before .before .before .before .before in
+    let t = told (a .before .before) (a .asked2 .given .1) in
+    server-places _ _ _ (l (s (a .before .before))) (t .0) _ (t .1))
     (λ c κs. let k = c .before .before .before .before .before .before in
     let n = k .before .before .before .before .before in
     let a = n .before .before in
     let t = told (a .before .before) (a .asked2 .given .1) in
-    rw (c .before .before .before .in-phase .ensures)
-    (settles _ _ _ (l (s (a .before .before))) (t .0) _ (t .1) (n .count .ensures) (k .before .before .before .phase .given .1) _ (k .take .ensures) (k .take .kept .1 .1 .1 .0)))
+    rw (c .before .before .before .counted .ensures .state)
+    (settles _ _ _ (l (s (a .before .before))) (t .0) _ (t .1) (n .count .ensures) (k .before .before .before .phase .given .1) _ (k .take .ensures) (k .take .kept .1 .1 .1 .0) (c .before .before .before .counted .ensures .sixteen)))
     (λ c. let t = told (c .before .before .before .before) (c .before .before .asked .given .1) in
     step-refused _ _ _ (l (s (c .before .before .before .before))) (t .1 _) (t .0) (c .refused .ensures))
     (λ c. search needs)
@@ -54,5 +56,5 @@ step-spec =
     let n = k .before .before .before .before .before in
     let a = n .before .before in
     let t = told (a .before .before) (a .asked2 .given .1) in
-    stepped _ _ _ (l (s (a .before .before))) (t .0) _ (t .1) (n .count .ensures) (k .before .before .before .phase .given .1) _ (k .take .ensures) (k .take .kept .1 .1 .1 .0)
-    (rw (c .before .before .before .before .before .before .before .before .in-phase .ensures) at (c .before .before .before .before .settle .ensures))))
+    stepped _ _ _ (l (s (a .before .before))) (t .0) _ (t .1) (n .count .ensures) (k .before .before .before .phase .given .1) _ (k .take .ensures) (k .take .kept .1 .1 .1 .0) (c .before .before .before .before .before .before .before .before .counted .ensures .sixteen)
+    (rw (c .before .before .before .before .before .before .before .before .counted .ensures .state) at (c .before .before .before .before .settle .ensures))))

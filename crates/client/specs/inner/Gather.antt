@@ -9,22 +9,23 @@ use Rattle.laws.specs.Parts.{over, part}
 use Rattle.config.specs.declared.Config.{Config}
 use Rattle.config.specs.Config.{Valid, boardLength, elementsLength}
 use Rattle.laws.specs.Bytes.{joined}
-use Rattle.protocol.specs.Boards.{BoardEnded, Element, decode}
-use Rattle.protocol.specs.Client as protocol
+use Rattle.protocol.specs.Boards.{Board, decode}
 use Rattle.protocol.specs.Number.{count, present}
-use Rattle.client.specs.declared.Ended.{Ended}
-use Rattle.client.specs.declared.Ended.the-variants.{Nothing, Written, Spent, Read}
-use Rattle.client.specs.Servers.{member, withinServers}
-use Rattle.client.specs.State.{received}
+use Rattle.client.specs.Servers.{member, sentBy, withinServers}
+use Rattle.client.specs.State.{Slots, received}
 
--- "the k lowest server numbers that sent one", of the servers 1 to i, each with its element
-abbrev pub lowest : Config → List ℕ → ℕ → ℕ → List (ℕ × Element)
-lowest cfg es sent i = take (cfg .k) (present i (received cfg es sent))
+-- the bytes that server s sent
+abbrev pub bytesAt : Config → List ℕ → ℕ → List ℕ
+bytesAt cfg es s = part (cfg .e) (s - 1) es
 
-abbrev pub numbersOf : List (ℕ × Element) → List ℕ
+-- "the k lowest server numbers that sent one", of the servers 1 to i, each with the bytes of its element
+abbrev pub lowest : Config → List ℕ → ℕ → ℕ → List (ℕ × List ℕ)
+lowest cfg es sent i = take (cfg .k) (present i (sentBy (bytesAt cfg es) sent))
+
+abbrev pub numbersOf : List (ℕ × List ℕ) → List ℕ
 numbersOf pairs = map (λ p. p .0) pairs
 
-abbrev pub elementsOf : List (ℕ × Element) → List ℕ
+abbrev pub elementsOf : List (ℕ × List ℕ) → List ℕ
 elementsOf pairs = joined (map (λ p. p .1) pairs)
 
 -- what gathering asks: at least k servers sent an element, and room for k numbers and k elements
@@ -37,7 +38,7 @@ pub record GatherPre (cfg : Config) (sent : ℕ) (es numbers packed : List ℕ) 
   pub packed-room : boardLength cfg ≤ length packed
 
 -- numbers and elements of the pairs, of which there are `found`, stand at the front
-pub record GatherPost (cfg : Config) (pairs : List (ℕ × Element)) (numbers numbers′ packed packed′ : List ℕ) (found : ℕ) : Type 0 where
+pub record GatherPost (cfg : Config) (pairs : List (ℕ × List ℕ)) (numbers numbers′ packed packed′ : List ℕ) (found : ℕ) : Type 0 where
   pub count : found ≡ length pairs
   pub numbered : numbers′ ≡ numbersOf pairs ++ drop found numbers
   pub joint : packed′ ≡ elementsOf pairs ++ drop (found * cfg .e) packed
@@ -58,24 +59,19 @@ pub record PickPost (cfg : Config) (sent s found : ℕ) (es numbers numbers′ p
       packed′
       ≡ cond (ltb found (cfg .k) && member sent s) (over (found * cfg .e) (cfg .e) (part (cfg .e) (s - 1) es) packed) packed
 
--- how an operation ends, with the board that a read is to show
-abbrev pub endOf : Config → Ended → ℕ → List ℕ → BoardEnded
-endOf cfg Nothing sent es = protocol.nothing
-endOf cfg (Written t) sent es = protocol.written t
-endOf cfg Spent sent es = protocol.spent
-endOf cfg (Read t) sent es = protocol.read t (decode cfg (lowest cfg es sent (cfg .n)))
+-- the board that a read shows
+abbrev pub boardShown : Config → Slots → ℕ → Board
+boardShown cfg es sent = decode cfg (take (cfg .k) (present (cfg .n) (received cfg es sent)))
 
--- what showing a read's board asks: at least k servers sent an element
-pub record Showable (cfg : Config) (sent : ℕ) (es board : List ℕ) : Type 0 where
+-- what showing it asks: at least k servers sent an element
+pub record ShowPre (cfg : Config) (sent : ℕ) (es board : List ℕ) : Type 0 where
   pub valid : Valid cfg
   pub within : withinServers (cfg .n) sent ≡ true
   pub elements : length es ≡ elementsLength cfg
   pub board-length : length board ≡ boardLength cfg
   pub enough : cfg .k ≤ count (member sent) (cfg .n)
 
--- of another end nothing is asked
-abbrev pub ShowPre : Config → Ended → ℕ → List ℕ → List ℕ → Type 0
-ShowPre cfg Nothing sent es board = Unit {0}
-ShowPre cfg (Written t) sent es board = Unit {0}
-ShowPre cfg Spent sent es board = Unit {0}
-ShowPre cfg (Read t) sent es board = Showable cfg sent es board
+-- what it leaves in the lent buffer, and the length that it gives
+pub record ShowPost (cfg : Config) (es : Slots) (sent : ℕ) (board′ : List ℕ) (r : ℕ) : Type 0 where
+  pub length : r ≡ boardShown cfg es sent .length
+  pub bytes : board′ ≡ boardShown cfg es sent .bytes

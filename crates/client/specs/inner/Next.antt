@@ -7,9 +7,9 @@ use Rattle.config.specs.Number.{clientNumber}
 use Rattle.tag.specs.declared.Tag.{Tag}
 use Rattle.protocol.specs.Client.{enough, highestNumber, nextTag}
 use Rattle.protocol.specs.Number.{count}
-use Rattle.client.specs.declared.Ended.the-variants.{Written, Spent, Read}
+use Rattle.client.specs.declared.Ended.the-variants.{Written, Spent}
 use Rattle.client.specs.declared.next.Move.{Move}
-use Rattle.client.specs.declared.next.Move.the-variants.{Waits, Begins, Ends}
+use Rattle.client.specs.declared.next.Move.the-variants.{Waits, Begins, Ends, Shows}
 use Rattle.client.specs.declared.Phase.{Phase}
 use Rattle.client.specs.declared.Phase.the-variants.{Idle, Asking, PreWriting, FinalisingWrite, FinalisingRead, Down}
 use Rattle.client.specs.Servers.{member}
@@ -27,7 +27,7 @@ isEnough cfg Down = false
 unfoldable pub askedOf : Client → Bool → Tag → Move
 askedOf me writes best =
     cond writes
-    (cond (ltb (best .number) highestNumber) (Begins (PreWriting (nextTag best (clientNumber me)) 0)) (Ends Spent 0))
+    (cond (ltb (best .number) highestNumber) (Begins (PreWriting (nextTag best (clientNumber me)) 0)) (Ends Spent))
     (Begins (FinalisingRead best 0 0))
 
 -- with enough answers
@@ -35,8 +35,8 @@ unfoldable pub afterOf : Client → Phase → Move
 afterOf me Idle = Waits
 afterOf me (Asking writes best counted) = askedOf me writes best
 afterOf me (PreWriting tag counted) = Begins (FinalisingWrite tag 0)
-afterOf me (FinalisingWrite tag counted) = Ends (Written tag) 0
-afterOf me (FinalisingRead tag counted sent) = Ends (Read tag) sent
+afterOf me (FinalisingWrite tag counted) = Ends (Written tag)
+afterOf me (FinalisingRead tag counted sent) = Shows tag sent
 afterOf me Down = Waits
 
 abbrev pub nextOf : Config → Client → Phase → Move

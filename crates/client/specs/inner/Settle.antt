@@ -4,7 +4,6 @@ use mathlib.Core.Bool.{true}
 use mathlib.Core.Path.{_≡_}
 use mathlib.Core.List.{List}
 use lib.ListN.{length}
-use Rattle.config.specs.declared.Client.{Client}
 use Rattle.config.specs.declared.Config.{Config}
 use Rattle.config.specs.declared.Verdict.{Verdict}
 use Rattle.config.specs.Config.{Valid, boardLength, elementsLength, sendsLength}
@@ -33,10 +32,12 @@ pub record SettlePre (cfg : Config) (x : State) (l : Lent) : Type 0 where
 abbrev pub settleOf : Config → State → Lent → BoardMoved
 settleOf cfg x l = protocol.settle (encode cfg) (decode cfg) cfg (clientNumber (x .me)) (seen cfg x l)
 
--- what the code leaves is what the protocol's move does
-pub record Moves (cfg : Config) (me : Client) (move : BoardMoved) (kept es sends sends′ board board′ : List ℕ) (r : Moved) : Type 0 where
+-- what the code leaves of a client is what the protocol's move does
+pub record Moves (cfg : Config) (x : State) (move : BoardMoved) (kept es sends sends′ board board′ : List ℕ) (r : Moved) : Type 0 where
   pub verdict : r .verdict ≡ Verdict.Accepted
-  pub self : r .state .me ≡ me
+  pub self : r .state .me ≡ x .me
+  pub same-length : r .state .length ≡ x .length
+  pub same-lengths : r .state .lengths ≡ x .lengths
   pub client : view cfg (r .state) kept es ≡ move .client
   pub count : r .sent ≡ length (move .sends)
   pub out : sends′ ≡ front (recordsOf cfg (move .sends)) sends
@@ -45,4 +46,4 @@ pub record Moves (cfg : Config) (me : Client) (move : BoardMoved) (kept es sends
   pub within : stateWithin cfg (r .state) ≡ true
 
 abbrev pub SettlePost : Config → State → Lent → List ℕ → List ℕ → Moved → Type 0
-SettlePost cfg x l sends′ board′ r = Moves cfg (x .me) (settleOf cfg x l) (l .kept) (l .elements) (l .sends) sends′ (l .board) board′ r
+SettlePost cfg x l sends′ board′ r = Moves cfg x (settleOf cfg x l) (l .kept) (l .elements) (l .sends) sends′ (l .board) board′ r

@@ -26,7 +26,7 @@ use Rattle.client.specs.Questions.{askBeginQuestions, beginReadQuestions, begin
 use Rattle.client.specs.Send as send
 use Rattle.flight.specs.Flight.{records}
 use Rattle.flight.proofs.Laws.{length-records, records-written}
-use Rattle.protocol.specs.Boards.{Board, BoardActed, BoardCall, BoardClient, BoardMessage, BoardParties, begin, move}
+use Rattle.protocol.specs.Boards.{Board, BoardActed, BoardCall, BoardClient, BoardMessage, BoardParties, begin, boardOf, move, writeFits}
 use Rattle.protocol.specs.Client as protocol
 use Rattle.protocol.specs.Client.{beginClient, sendEach}
 use Rattle.protocol.specs.Number.{toEach}
@@ -43,11 +43,11 @@ use Rattle.events.specs.declared.Rig.{Rig}
 use Rattle.events.specs.View.{Lent, flight, lent, messagesOf, partiesOf, view}
 use Rattle.events.specs.Questions.{formedFor}
 use Rattle.events.specs.Calls.{EventPost, called, eventNo, recordsAfter, turned}
-use Rattle.events.specs.inner.Begin.{ReadPost, WritePost, askedNo, fullNo}
+use Rattle.events.specs.inner.Begin.{ReadPost, WritePost, askedNo, askedWriteNo, fullNo}
 use Rattle.events.specs.inner.Part.{acting, refusing}
 use Rattle.events.specs.inner.Turn.{Ready}
 use Rattle.events.proofs.Clients.{idleOf, ask-number, ask-numbered, begin-asked, read-number, write-number}
-use Rattle.events.proofs.Numbers.{early-number}
+use Rattle.events.proofs.Numbers.{early-number, long-number}
 use Rattle.events.proofs.Pairs.{Back, back-same, client-at, over-same, partsOf}
 use Rattle.events.proofs.Ready.{board-long, client-below, client-me, client-within, is-valid, kept-long, messages-long, party-client, server-below}
 use Rattle.events.proofs.Sends.{records-out}
@@ -58,6 +58,7 @@ use Rattle.events.proofs.outcome.Laws.{Moves, acted-on, acted-turn, ful
 -- an event of a code is a beginning with a board or none
 pub record Begins (cfg : Config) (r : Rig) (l : Lent) (a : BoardCall) (w : Code) (b : Option Board) : Type 0 where
   pub code : codeOf (a .code) ≡ some w
+  pub fits : writeFits cfg a (some w) ≡ true
   pub other : a .code ≡ 3 → ⊥
   pub asks : questionsTo11 cfg (view cfg r l) a w ≡ questionsToBegin cfg (partiesOf cfg r l) (a .party)
   pub formed : formedFor cfg (flight r l) (a .position) (some w) ≡ true
@@ -66,15 +67,15 @@ pub record Begins (cfg : Config) (r : Rig) (l : Lent) (a : BoardCall) (w : Code)
       ≡ flight r l ++ map (recordOf cfg) (drop (length (flight r l)) ms)
 
 module _ (cfg : Config) (r : Rig) (l : Lent) (a : Call) (board : List ℕ) where
-  write-begins : a .code ≡ 1 → Begins cfg r l (called a board) beginWrite (some board)
-  unfolding codeOf questionsTo11 formedFor rig.move recordsAfter view
-  write-begins e =
-      record { code = ap codeOf e; other = λ z. omega (arith, e, z); asks = refl; formed = refl; moves = refl; after = λ ms. refl }
+  write-begins : a .code ≡ 1 → leb (a .length) (boardLength cfg) ≡ true → Begins cfg r l (called a board) beginWrite (some (boardOf (a .length) board))
+  unfolding codeOf questionsTo11 formedFor rig.move recordsAfter view rig.writeFits
+  write-begins e fits =
+      record { code = ap codeOf e; fits = fits; other = λ z. omega (arith, e, z); asks = refl; formed = refl; moves = refl; after = λ ms. refl }
 
   read-begins : a .code ≡ 2 → Begins cfg r l (called a board) beginRead none
-  unfolding codeOf questionsTo11 formedFor rig.move recordsAfter view
+  unfolding codeOf questionsTo11 formedFor rig.move recordsAfter view rig.writeFits
   read-begins e =
-      record { code = ap codeOf e; other = λ z. omega (arith, e, z); asks = refl; formed = refl; moves = refl; after = λ ms. refl }
+      record { code = ap codeOf e; fits = refl; other = λ z. omega (arith, e, z); asks = refl; formed = refl; moves = refl; after = λ ms. refl }
 
 -- a message to each server
 length-toEach : {A : Type 0} (n : ℕ) (f : ℕ → A) → length (toEach n f) ≡ n
@@ -97,7 +98,7 @@ module _ {cfg : Config} {m : ℕ} {r : Rig} {p : Part} {a : Call} {board read : 
     missing-number : within 1 (cfg .c) (a .party) ≡ false → eventNo cfg m r call read l ≡ 8
     unfolding questionsToBegin firstNo
     missing-number out =
-        early-number cfg m r call read l (ready .yes) w (h .code) 8 (ap firstNo (h .asks) ∙ rw out) (λ z. omega (arith, z))
+        early-number cfg m r call read l (ready .yes) w (h .code) (h .fits) 8 (ap firstNo (h .asks) ∙ rw out) (λ z. omega (arith, z))
 
     module _ (there : within 1 (cfg .c) (a .party) ≡ true) where
       client-is : p .client + 1 ≡ a .party
@@ -121,6 +122,7 @@ module _ {cfg : Config} {m : ℕ} {r : Rig} {p : Part} {a : Call} {board read : 
           let sends = begins cfg (p .pair) b (partiesOf cfg r l) .sends in
           record {
             code = h .code;
+            fits = h .fits;
             pass = idle-asks ∙ idles;
             formed = h .formed;
             moves = h .moves
@@ -136,7 +138,7 @@ module _ {cfg : Config} {m : ℕ} {r : Rig} {p : Part} {a : Call} {board read : 
         | yes z ↦
             full-no ready (begin-moves z) (omega (arith, over, many-sends, length-records (r .count) (l .messages), ready .part .count))
             ∙ sym (rw (eq-eqb idle 0 z))
-        | no ne ↦ early-number cfg m r call read l (ready .yes) w (h .code) idle idle-asks ne ∙ sym (rw (ne-eqb idle 0 ne))
+        | no ne ↦ early-number cfg m r call read l (ready .yes) w (h .code) (h .fits) idle idle-asks ne ∙ sym (rw (ne-eqb idle 0 ne))
       ]
 
     -- where the client need not be asked
@@ -202,6 +204,37 @@ module _ (cfg : Config) (m : ℕ) (p : Part) (party : ℕ) where
       by true true there h = (there, leb-true (p .count + cfg .n) m h)
       by true false there h = absurd (some-no k (e ∙ rw (there, h)))
 
+-- of a write, 19 comes first
+module _ (cfg : Config) (m : ℕ) (p : Part) (a : Call) where
+  pub write-long : leb (a .length) (boardLength cfg) ≡ false → 19 ≡ askedWriteNo cfg m p a
+  write-long out = rw out
+
+  pub write-fits : leb (a .length) (boardLength cfg) ≡ true → askedNo cfg m p (a .party) ≡ askedWriteNo cfg m p a
+  write-fits in-range = rw in-range
+
+  write-high : askedWriteNo cfg m p a ≤ lastQuestion
+  write-high = by (leb (a .length) (boardLength cfg))
+    where
+      by : (b : Bool) → cond b (askedNo cfg m p (a .party)) 19 ≤ lastQuestion
+      by true = asked-high cfg m p (a .party)
+      by false = omega arith
+
+  pub write-yes : 0 ≡ askedWriteNo cfg m p a → (leb (a .length) (boardLength cfg) ≡ true) × (0 ≡ askedNo cfg m p (a .party))
+  write-yes e = by (leb (a .length) (boardLength cfg)) refl
+    where
+      by : (b : Bool) → leb (a .length) (boardLength cfg) ≡ b → (leb (a .length) (boardLength cfg) ≡ true) × (0 ≡ askedNo cfg m p (a .party))
+      by true h = (h, e ∙ rw h)
+      by false h = let z : _≡_ {A = ℕ} 0 19 = e ∙ rw h in absurd (omega (arith, z))
+
+written-number : {cfg : Config} {m : ℕ} {r : Rig} {p : Part} {a : Call} {board read : List ℕ} {l : Lent} → Ready cfg m r p a board read l → a .code ≡ 1 → (k : ℕ)
+    → k ≡ askedWriteNo cfg m p a → (k ≡ 0 → ⊥) → eventNo cfg m r (called a board) read l ≡ k
+unfolding codeOf rig.writeFits
+written-number {cfg} {m} {r} {p} {a} {board} {read} {l} ready code k e some-no = by (leb (a .length) (boardLength cfg)) refl
+  where
+    by : (b : Bool) → leb (a .length) (boardLength cfg) ≡ b → eventNo cfg m r (called a board) read l ≡ k
+    by true h = asked-number ready (write-begins cfg r l a board code h) k (e ∙ sym (write-fits cfg m p a h)) some-no
+    by false h = long-number cfg m r (called a board) read l (ready .yes) beginWrite (ap codeOf code) h ∙ write-long cfg m p a h ∙ sym e
+
 -- ---- what the client has done
 
 -- what it sends stands behind the messages in flight
@@ -256,7 +289,7 @@ module _ {cfg : Config} {m : ℕ} {r : Rig} {p : Part} {a : Call} {board read : 
 
     begun : EventPost cfg m r (called a board) read l (turned r (acting y (p .count + y .sent) p)) read l′
     begun =
-        acted-turn ready post put (p .count + y .sent) w (flight r l) (h .code) (idle-asks ready h there ∙ sym asks) held
+        acted-turn ready post put (p .count + y .sent) w (flight r l) (h .code) (h .fits) (idle-asks ready h there ∙ sym asks) held
         (λ idles. (
           begin-moves ready h there (sym asks ∙ idles),
           few idles,
@@ -272,17 +305,17 @@ sends-length cfg m count messages long fits =
 
 module _ (cfg : Config) (m : ℕ) (p : Part) (a : Call) (messages : List ℕ) (x : Change) where
   -- refused
-  module _ (got : ℕ) (why : Refusal) (e : got ≡ askedNo cfg m p (a .party)) (some-no : got ≡ 0 → ⊥) (is : refusalNumber why ≡ clamped got) (refuses : x ≡ refusing why p) where
-    number : refusalNumber why ≡ got
-    number = omega (arith, is, some-no, e, asked-high cfg m p (a .party))
+  module _ (got : ℕ) (why : Refusal) (some-no : got ≡ 0 → ⊥) (is : refusalNumber why ≡ clamped got) (refuses : x ≡ refusing why p) where
+    number : got ≤ lastQuestion → refusalNumber why ≡ got
+    number high = omega (arith, is, some-no, high)
 
-    pub write-refused : (board boards : List ℕ) → WritePost cfg m p a board messages boards x messages boards
-    write-refused board boards read stores elements code =
-        refused-on why refuses (λ r ready. asked-number ready (write-begins cfg r _ a board code) got e some-no ∙ sym number)
+    pub write-refused : got ≡ askedWriteNo cfg m p a → (board boards : List ℕ) → WritePost cfg m p a board messages boards x messages boards
+    write-refused e board boards read stores elements code =
+        refused-on why refuses (λ r ready. written-number ready code got e some-no ∙ sym (number (omega (arith, e, write-high cfg m p a))))
 
-    pub read-refused : ReadPost cfg m p a messages x messages
-    read-refused board read stores boards elements code =
-        refused-on why refuses (λ r ready. asked-number ready (read-begins cfg r _ a board code) got e some-no ∙ sym number)
+    pub read-refused : got ≡ askedNo cfg m p (a .party) → ReadPost cfg m p a messages x messages
+    read-refused e board read stores boards elements code =
+        refused-on why refuses (λ r ready. asked-number ready (read-begins cfg r _ a board code) got e some-no ∙ sym (number (omega (arith, e, asked-high cfg m p (a .party)))))
 
   -- the client was asked
   module _ (none-no : 0 ≡ askedNo cfg m p (a .party)) (long : length messages ≡ 80 * m) (y : Acted) (sends sends′ messages′ : List ℕ)
@@ -300,17 +333,17 @@ module _ (cfg : Config) (m : ℕ) (p : Part) (a : Call) (messages : List ℕ) (x
       sends-long : length sends′ ≡ 80 * cfg .n
       sends-long = as-long ∙ lent-long
 
-      pub write-acted : (board boards kept kept′ boards′ : List ℕ) → kept ≡ part (boardLength cfg) (p .client) boards
+      pub write-acted : leb (a .length) (boardLength cfg) ≡ true → (board boards kept kept′ boards′ : List ℕ) → kept ≡ part (boardLength cfg) (p .client) boards
           → boards′ ≡ over (p .client * boardLength cfg) (boardLength cfg) kept′ boards
-          → ((store es read : List ℕ) → ActPost cfg (firstNo (beginWriteQuestions cfg (p .pair .client) board kept sends)) (begins cfg (p .pair) (some board)) (p .pair)
+          → ((store es read : List ℕ) → ActPost cfg (firstNo (beginWriteQuestions cfg (p .pair .client) (a .length) board kept sends)) (begins cfg (p .pair) (some (boardOf (a .length) board))) (p .pair)
           (parts store kept es) sends read y (parts store kept′ es) sends′ read)
           → WritePost cfg m p a board messages boards x messages′ boards′
-      write-acted board boards kept kept′ boards′ kept-is boards-are post read stores elements code =
+      write-acted fits board boards kept kept′ boards′ kept-is boards-are post read stores elements code =
           let l = lent messages stores boards elements in
           let ps = partsOf cfg p l in
           acted-on y (p .count + y .sent) read (lent messages′ stores boards′ elements) acts (λ r ready.
-          begun ready (write-begins cfg r l a board code) (both .0) (both .1)
-          (subst (λ (k : List ℕ). ActPost cfg (firstNo (beginWriteQuestions cfg (p .pair .client) board k sends)) (begins cfg (p .pair) (some board)) (p .pair)
+          begun ready (write-begins cfg r l a board code fits) (both .0) (both .1)
+          (subst (λ (k : List ℕ). ActPost cfg (firstNo (beginWriteQuestions cfg (p .pair .client) (a .length) board k sends)) (begins cfg (p .pair) (some (boardOf (a .length) board))) (p .pair)
           (parts (ps .store) k (ps .elements)) sends read y (parts (ps .store) kept′ (ps .elements)) sends′ read) kept-is
           (post (ps .store) (ps .elements) read))
           (record {
@@ -318,7 +351,7 @@ module _ (cfg : Config) (m : ℕ) (p : Part) (a : Call) (messages : List ℕ) (x
             boards = boards-are;
             elements = sym (over-same (p .client * (cfg .n * cfg .e)) (cfg .n * cfg .e) elements);
           })
-          (write-number cfg (is-valid ready) (p .pair .client) (client-within ready) board (ps .kept) sends (board-long ready) (kept-long ready) lent-long)
+          (write-number cfg (is-valid ready) (p .pair .client) (client-within ready) (a .length) board (ps .kept) sends fits (board-long ready) (kept-long ready) lent-long)
           sends-are written sends-long)
 
       pub read-acted : ((store kept es read : List ℕ) → ActPost cfg (firstNo (beginReadQuestions cfg (p .pair .client) sends)) (begins cfg (p .pair) none) (p .pair)

@@ -36,7 +36,7 @@ use Rattle.protocol.specs.Client as client
 use Rattle.protocol.specs.Parties as parties
 use Rattle.protocol.specs.Parties.{clientActs, quiet, serverActs}
 use Rattle.protocol.specs.Rig as rig
-use Rattle.protocol.specs.Rig.{codeOf, handOver, leaves, questionsTo11}
+use Rattle.protocol.specs.Rig.{codeOf, handOver, leaves, questionsTo11, writeFits}
 use Rattle.protocol.proofs.Basics.{cond-elim, some-injective}
 use Rattle.parties.specs.declared.Acted.{Acted}
 use Rattle.parties.specs.declared.Answer.{Answer}
@@ -132,7 +132,8 @@ module _ {cfg : Config} {m : ℕ} {r : Rig} {p : Part} {a : Call} {board read : 
 
     -- 12
     ill-no : wellFormed cfg (recordAt (a .position) (l .messages)) ≡ false → eventNo cfg m r (called a board) read l ≡ 12
-    ill-no e = ill-number cfg m r call read l (ready .yes) handOver is-hand passes (formed-is ∙ e)
+    unfolding writeFits
+    ill-no e = ill-number cfg m r call read l (ready .yes) handOver is-hand refl passes (formed-is ∙ e)
 
     many-left : length (without i (flight r l)) ≡ p .count - 1
     many-left =
@@ -141,13 +142,14 @@ module _ {cfg : Config} {m : ℕ} {r : Rig} {p : Part} {a : Call} {board read : 
 
     hand-moves : wellFormed cfg (recordAt (a .position) (l .messages)) ≡ true
         → Moves cfg r l (called a board) handOver (delivers cfg (recordAt (a .position) (l .messages))) (without (a .position) (flight r l))
-    unfolding rig.move rig.deliverAt recordsAfter view
+    unfolding rig.move rig.deliverAt recordsAfter view writeFits
     hand-moves well =
         let rs = flight r l in
         let q = partiesOf cfg r l in
         let ms = delivers cfg handed q .sends in
         record {
           code = is-hand;
+          fits = refl;
           pass = passes;
           formed = formed-is ∙ well;
           moves = ap₂ (λ left (x : Option BoardMessage). leaves left (rig.deliverAt (order cfg) (encode cfg) (decode cfg) cfg q x))
@@ -242,7 +244,7 @@ unfolding isAccepted
 told-refusal Answer.Nothing read = refl
 told-refusal (Answer.Written c t) read = refl
 told-refusal (Answer.Spent c) read = refl
-told-refusal (Answer.Read c t) read = refl
+told-refusal (Answer.Read c t length) read = refl
 told-refusal (Answer.No why) read = refl
 
 not-of : (b c : Bool) → c ≡ not b → b ≡ not c
@@ -421,6 +423,6 @@ module _ (cfg : Config) (m : ℕ) (high : cfg .e ≤ 64) (p : Part) (a : Call) (
 
 pub hand-missing : (cfg : Config) (m : ℕ) (p : Part) (a : Call) (read : List ℕ) (l : Lent) (x : Change) → x ≡ refusing Refusal.Missing p → p .count ≤ a .position
     → HandOverPost cfg m p a read l x read l
-unfolding codeOf questionsTo11
+unfolding codeOf questionsTo11 writeFits
 hand-missing cfg m p a read l x refuses past board code =
-    refused-on Refusal.Missing refuses (missing cfg m p a board read l handOver (ap codeOf code) past (λ r. refl))
+    refused-on Refusal.Missing refuses (missing cfg m p a board read l handOver (ap codeOf code) refl past (λ r. refl))

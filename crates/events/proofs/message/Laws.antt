@@ -15,7 +15,7 @@ use Rattle.flight.specs.Flight.{RemovePost, records}
 use Rattle.flight.proofs.Laws.{double-count, double-long, double-records, length-records, remove-count, remove-long, remove-records}
 use Rattle.protocol.specs.Parties.{quiet}
 use Rattle.protocol.specs.Rig as rig
-use Rattle.protocol.specs.Rig.{codeOf, doubled, lose, double, leaves, questionsTo11}
+use Rattle.protocol.specs.Rig.{codeOf, doubled, lose, double, leaves, questionsTo11, writeFits}
 use Rattle.parties.specs.declared.Answer.{Answer}
 use Rattle.events.specs.declared.Call.{Call}
 use Rattle.events.specs.declared.Change.{Change}
@@ -45,10 +45,11 @@ module _ (cfg : Config) (r : Rig) (l : Lent) (a : Call) (board : List ℕ) (insi
   i = a .position
 
   lose-moves : a .code ≡ 4 → Moves cfg r l (called a board) lose quiet (without (a .position) (flight r l))
-  unfolding rig.move questionsTo11 formedFor recordsAfter view quiet
+  unfolding rig.move questionsTo11 formedFor recordsAfter view quiet writeFits
   lose-moves e =
       record {
         code = is-lose a e;
+        fits = refl;
         pass = position-there cfg r l i inside;
         formed = refl;
         moves = ap (λ ms. leaves ms (quiet (partiesOf cfg r l))) (sym (map-without (messageOf cfg) i (flight r l)));
@@ -56,10 +57,11 @@ module _ (cfg : Config) (r : Rig) (l : Lent) (a : Call) (board : List ℕ) (insi
       }
 
   double-moves : a .code ≡ 5 → Moves cfg r l (called a board) double quiet (flight r l ++ toList (getElem? (flight r l) (a .position)))
-  unfolding rig.move questionsTo11 formedFor recordsAfter view quiet doubled
+  unfolding rig.move questionsTo11 formedFor recordsAfter view quiet doubled writeFits
   double-moves e =
       record {
         code = is-double a e;
+        fits = refl;
         pass = position-there cfg r l i inside;
         formed = refl;
         moves = ap (λ ms. leaves ms (quiet (partiesOf cfg r l)))
@@ -70,9 +72,9 @@ module _ (cfg : Config) (r : Rig) (l : Lent) (a : Call) (board : List ℕ) (insi
 
 module _ (p : Part) (a : Call) (messages : List ℕ) (x : Change) where
   pub lose-missing : x ≡ refusing Refusal.Missing p → p .count ≤ a .position → LosePost p a messages x messages
-  unfolding questionsTo11
+  unfolding questionsTo11 writeFits
   lose-missing refuses past cfg m board read stores boards elements e =
-      refused-on Refusal.Missing refuses (missing cfg m p a board read (lent messages stores boards elements) lose (is-lose a e) past (λ r. refl))
+      refused-on Refusal.Missing refuses (missing cfg m p a board read (lent messages stores boards elements) lose (is-lose a e) refl past (λ r. refl))
 
   pub lost : (n : ℕ) (messages′ : List ℕ) → x ≡ counting n p → a .position < p .count → RemovePost (p .count) (a .position) messages n messages′
       → LosePost p a messages x messages′
@@ -91,9 +93,9 @@ module _ (p : Part) (a : Call) (messages : List ℕ) (x : Change) where
 
   module _ (m : ℕ) where
     pub double-missing : x ≡ refusing Refusal.Missing p → p .count ≤ a .position → DoublePost m p a messages x messages
-    unfolding questionsTo11
+    unfolding questionsTo11 writeFits
     double-missing refuses past cfg board read stores boards elements e =
-        refused-on Refusal.Missing refuses (missing cfg m p a board read (lent messages stores boards elements) double (is-double a e) past (λ r. refl))
+        refused-on Refusal.Missing refuses (missing cfg m p a board read (lent messages stores boards elements) double (is-double a e) refl past (λ r. refl))
 
     -- there would be one more
     one-more : (r : Rig) (l : Lent) → a .position < r .count

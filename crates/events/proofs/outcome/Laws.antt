@@ -29,7 +29,7 @@ use Rattle.client.specs.State.{stateWithin}
 use Rattle.flight.specs.Flight.{records}
 use Rattle.flight.proofs.Laws.{length-records}
 use Rattle.protocol.specs.Board.{refused}
-use Rattle.protocol.specs.Boards.{BoardActed, BoardCall, BoardParties, BoardRig, BoardTurn, freshParties, move}
+use Rattle.protocol.specs.Boards.{BoardActed, BoardCall, BoardParties, BoardRig, BoardTurn, freshParties, move, startingBoard, writeFits}
 use Rattle.protocol.specs.Parties as parties
 use Rattle.protocol.specs.Rig as rig
 use Rattle.protocol.specs.Rig.{Code, codeOf, hasRoom, leaves, questionsTo11, unlessNo}
@@ -110,7 +110,7 @@ refused-unread : (x : Answer) (read : List ℕ) (k : ℕ) → answerOf x read �
 refused-unread Answer.Nothing read k e = refl
 refused-unread (Answer.Written c t) read k e = refl
 refused-unread (Answer.Spent c) read k e = refl
-refused-unread (Answer.Read c t) read k e = let z : _≡_ {A = ℕ} 0 1 = cc in absurd (omega (arith, z))
+refused-unread (Answer.Read c t length) read k e = let z : _≡_ {A = ℕ} 0 1 = cc in absurd (omega (arith, z))
 refused-unread (Answer.No why) read k e = refl
 
 -- ---- by the part that it names
@@ -118,6 +118,7 @@ refused-unread (Answer.No why) read k e = refl
 -- What the protocol's event of a code is, where 8 to 12 are answered yes: what the parties do, beside records that stay in flight.
 pub record Moves (cfg : Config) (r : Rig) (l : Lent) (a : BoardCall) (w : Code) (act : BoardParties → BoardActed) (left : List (List ℕ)) : Type 0 where
   pub code : codeOf (a .code) ≡ some w
+  pub fits : writeFits cfg a (some w) ≡ true
   pub pass : firstNo (questionsTo11 cfg (view cfg r l) a w) ≡ 0
   pub formed : formedFor cfg (flight r l) (a .position) (some w) ≡ true
   pub moves : move cfg (view cfg r l) a w ≡ leaves (messagesOf cfg left) (act (partiesOf cfg r l))
@@ -151,7 +152,7 @@ module _ {cfg : Config} {m : ℕ} {r : Rig} {p : Part} {a : Call} {board read : 
     -- 13
     pub full-no : m < length left + length (act (partiesOf cfg r l) .sends) → eventNo cfg m r (called a board) read l ≡ 13
     full-no over =
-        full-number cfg m r call read l (ready .yes) w (h .code) (h .pass) (h .formed) (room-is ∙ lt-leb (length left + length (act q .sends)) m over)
+        full-number cfg m r call read l (ready .yes) w (h .code) (h .fits) (h .pass) (h .formed) (room-is ∙ lt-leb (length left + length (act q .sends)) m over)
 
   -- ---- what the parties do
 
@@ -254,20 +255,20 @@ module _ {cfg : Config} {m : ℕ} {r : Rig} {p : Part} {a : Call} {board read : 
               sym (length-records n (l′ .messages)) ∙ ap length flies ∙ length-append left (map (recordOf cfg) (act q .sends))
               ∙ ap (λ k. length left + k) (length-map (act q .sends) (recordOf cfg)) in
               accepted-event cfg m r call read l t read′ l′ w (h .code)
-              (accepted-number cfg m r call read l (ready .yes) w (h .code) (h .pass) (h .formed)
+              (accepted-number cfg m r call read l (ready .yes) w (h .code) (h .fits) (h .pass) (h .formed)
               (room-is h ∙ le-leb (length left + length (act q .sends)) m (omega (arith, many, few))))
               (post .answer q ∙ ap (λ (x : BoardActed). x .answer) acted ∙ sym (ap (λ (x : BoardTurn). x .answer) (h .moves)))
               (post .untouched)
               ((λ i. record {
                 parties = parties-seen i;
-                inFlight = (ap (messagesOf cfg) flies ∙ messages-behind cfg (is-valid ready .e-high) left (act q .sends) sends-sound) i;
+                inFlight = (ap (messagesOf cfg) flies ∙ messages-behind cfg (is-valid ready) left (act q .sends) sends-sound) i;
               })
               ∙ sym (ap (λ (x : BoardTurn). x .rig) (h .moves)))
               (flies ∙ sym (h .after) ∙ sym (ap (λ (x : BoardTurn). recordsAfter cfg (flight r l) (a .position) (x .rig .inFlight) (some w)) (h .moves)))
               (still-within few) (sized-same messages)
 
       -- either: 8 to 11 are what the parties ask
-      module _ (w : Code) (left : List (List ℕ)) (code : codeOf (a .code) ≡ some w)
+      module _ (w : Code) (left : List (List ℕ)) (code : codeOf (a .code) ≡ some w) (fits : writeFits cfg (called a board) (some w) ≡ true)
           (asks : firstNo (questionsTo11 cfg (view cfg r l) (called a board) w) ≡ number)
         where
           pub acted-turn : ((number ≡ 0 → ⊥) → (n ≡ p .count) × (l′ .messages ≡ l .messages))
@@ -278,14 +279,14 @@ module _ {cfg : Config} {m : ℕ} {r : Rig} {p : Part} {a : Call} {board read : 
             | yes z ↦ let h = moves z in acted-yes z (h .0) (h .1) (h .2) (h .3)
             | no ne ↦
                 let h = held ne in
-                acted-no ne (early-number cfg m r call read l (ready .yes) w code number asks ne) (h .0) (h .1)
+                acted-no ne (early-number cfg m r call read l (ready .yes) w code fits number asks ne) (h .0) (h .1)
           ]
 
 -- what they send stands in the lent buffer
 pub sent-room : {cfg : Config} {number : ℕ} {act : BoardParties → BoardActed} {x : Pair} {l ps : Parts} {sends sends′ read read′ : List ℕ} {y : Acted}
     → cfg .e ≤ 64 → ActPost cfg number act x l sends read y ps sends′ read′ → 80 * y .sent ≤ length sends′
 sent-room {cfg} {number} {act} {x} {l} {ps} {sends} {sends′} {read} {read′} {y} high post =
-    let some-parties = freshParties cfg [] in
+    let some-parties = freshParties cfg (startingBoard cfg []) in
     let ms = act (among cfg some-parties x l) .sends in
     elim (ℕ-discrete number 0) as (λ _. 80 * y .sent ≤ length sends′) [
       | yes z ↦

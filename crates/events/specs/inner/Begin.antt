@@ -1,4 +1,4 @@
--- Events 1 and 2, whatever else they are handed, and their questions 8 and 13.
+-- Events 1 and 2, whatever else they are handed, and their questions 19, 8 and 13.
 use Prim.Native.Nat.{ℕ, _+_, _*_}
 use mathlib.Core.Bool.{cond}
 use mathlib.Core.Path.{_≡_}
@@ -6,7 +6,7 @@ use mathlib.Core.List.{List}
 use lib.Dec.{eqb, leb}
 use lib.ListN.{length}
 use Rattle.config.specs.declared.Config.{Config}
-use Rattle.config.specs.Config.{recordLength}
+use Rattle.config.specs.Config.{boardLength, recordLength}
 use Rattle.config.specs.Questions.{firstNo, within}
 use Rattle.client.specs.Questions.{askBeginQuestions}
 use Rattle.events.specs.declared.Call.{Call}
@@ -24,6 +24,10 @@ abbrev pub askedNo : Config → ℕ → Part → ℕ → ℕ
 askedNo cfg m p party =
     cond (within 1 (cfg .c) party)
     (cond (leb (p .count + cfg .n) m) 0 (fullNo (firstNo (askBeginQuestions cfg (p .pair .client))))) 8
+
+-- the same of a write: 19 comes first
+abbrev pub askedWriteNo : Config → ℕ → Part → Call → ℕ
+askedWriteNo cfg m p a = cond (leb (a .length) (boardLength cfg)) (askedNo cfg m p (a .party)) 19
 
 -- what a beginning asks of the part and of the messages
 pub record BeginPre (cfg : Config) (m : ℕ) (p : Part) (messages : List ℕ) : Type 0 where

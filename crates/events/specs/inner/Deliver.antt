@@ -25,7 +25,7 @@ abbrev pub isRefusal : Answer → Bool
 isRefusal Answer.Nothing = false
 isRefusal (Answer.Written c t) = false
 isRefusal (Answer.Spent c) = false
-isRefusal (Answer.Read c t) = false
+isRefusal (Answer.Read c t length) = false
 isRefusal (Answer.No why) = true
 
 -- the record at the position is handed over, in a kind that a server receives or not

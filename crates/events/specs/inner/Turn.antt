@@ -19,7 +19,7 @@ use Rattle.events.specs.inner.Part.{Names}
 
 -- the first of questions 1 to 6 of a rig's event that is answered no, or 0
 abbrev pub firstSix : Config → ℕ → Rig → BoardCall → List ℕ → Lent → ℕ
-firstSix cfg m r a read l = firstNo (rigQuestions cfg m ++ ask 6 (allSized cfg m (a .board) read l && rigWithin cfg m r) ∷ [])
+firstSix cfg m r a read l = firstNo (rigQuestions cfg m ++ ask 6 (allSized cfg m (a .board .bytes) read l && rigWithin cfg m r) ∷ [])
 
 -- An event of a rig, by the part of it that the event names: questions 1 to 6 are answered yes.
 pub record Ready (cfg : Config) (m : ℕ) (r : Rig) (p : Part) (a : Call) (board read : List ℕ) (l : Lent) : Type 0 where

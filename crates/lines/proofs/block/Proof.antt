@@ -15,7 +15,7 @@ use Rattle.rig.proofs.Going.{client-places, server-places}
 use Rattle.events.proofs.Inside.{named-inside}
 use Rattle.lines.specs.declared.Ran.{Ran}
 use Rattle.lines.specs.Block.{RanPost}
-use Rattle.lines.proofs.Events.{Goes, board-few, called-there, can-go, cannot-go, none-ran, one-more}
+use Rattle.lines.proofs.Events.{Goes, board-few, bytes-there, called-there, can-go, cannot-go, none-ran, one-more}
 use Rattle.lines.proofs.block.Statement.{statement}
 use Rattle.lines.proofs.block.Tie as tie
 
@@ -81,7 +81,7 @@ turn : (c : tie.Then1 Inv-loop μ-loop) → Goes (c .before .before .before .bef
 turn c = can-go (c .before .before .before .before .before .before .board-length .ensures) (c .before .before .before .before .before .size .ensures) (c .before .before .before .before .starts .ensures) (c .before .before .loop .inv .ran .whole) (c .before .goes-on .ensures) (c .if1 .taken)
 
 called-requires : tie.Need-called-requires Inv-loop μ-loop
-called-requires c κs = omega (arith, turn c .whole)
+called-requires c κs = let t = turn c in omega (arith, t .whole, t .board)
 
 names-requires : tie.Need-names-requires Inv-loop μ-loop
 names-requires c κs = search needs
@@ -159,6 +159,7 @@ loop-again c =
             whole = t .whole;
             takes = t .takes;
             calls = called-there (s .args .input .now) (at .taken) (t .board) (c .before .before .before .before .before .before .before .before .before .before .before .before .before .before .before .before .before .before .before .before .before .before .before .before .before .before .board .ensures) (c .before .before .before .before .before .before .before .before .before .before .before .before .before .before .before .before .before .before .before .before .before .before .before .before .before .before .before .before .before .before .before .before .called .ensures);
+            handed = bytes-there (s .args .input .now) (at .taken) (t .board) (c .before .before .before .before .before .before .before .before .before .before .before .before .before .before .before .before .before .before .before .before .before .before .before .before .before .before .board .ensures);
             reads = i .reads ∙ t .board;
             turned = record {
               places = c .before .before .before .before .before .before .before .before .before .before .before .before .before .before .before .before .before .before .before .before .before .before .before .before .before .before .before .before .before .before .names .result;

@@ -25,7 +25,7 @@ abbrev pub endedBy : Client → Ended → Answer
 endedBy me Ended.Nothing = Answer.Nothing
 endedBy me (Ended.Written t) = Answer.Written me t
 endedBy me Ended.Spent = Answer.Spent me
-endedBy me (Ended.Read t) = Answer.Read me t
+endedBy me (Ended.Read t length) = Answer.Read me t length
 
 -- the client has moved, or was refused
 abbrev pub movedOn : Verdict → Pair → Moved → Acted

@@ -7,8 +7,8 @@ use lib.ListN.{length}
 use Rattle.config.specs.declared.Config.{Config}
 use Rattle.config.specs.Config.{Valid, boardLength, storeLength}
 use Rattle.config.specs.Questions.{within}
-use Rattle.code.specs.Element.{element}
 use Rattle.server.specs.View as serverView
+use Rattle.protocol.specs.Boards.{encode, startingBoard}
 use Rattle.protocol.specs.Server.{freshServer}
 use Rattle.parties.specs.declared.Node.{Node}
 use Rattle.parties.specs.Fresh.{freshNode}
@@ -21,6 +21,6 @@ pub record NodePre (cfg : Config) (s : ℕ) (start store : List ℕ) : Type 0 wh
   pub store-length : length store ≡ storeLength cfg
 
 pub record NodePost (cfg : Config) (s : ℕ) (start before after : List ℕ) (x : Node) : Type 0 where
-  pub is : x ≡ freshNode s
-  pub seen : serverView.view cfg (freshNode s .state) after ≡ freshServer (element cfg start s)
+  pub is : x ≡ freshNode (boardLength cfg) s
+  pub seen : serverView.view cfg (freshNode (boardLength cfg) s .state) after ≡ freshServer (encode cfg (startingBoard cfg start) s)
   pub long : length after ≡ length before

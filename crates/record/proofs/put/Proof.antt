@@ -1,4 +1,6 @@
 use mathlib.Core.Path.{_∙_}
+use Prim.Native.Nat.{_<_}
+use native.Mathlib.Omega.{arith}
 use borrow.Author.Needs.{needs}
 use Rattle.record.proofs.Bytes.{end-in}
 use Rattle.record.proofs.Written.{put-record}
@@ -23,29 +25,35 @@ four-bytes-requires c κs = search needs
 four-bytes-requires-2 : tie.Need-four-bytes-requires-2
 four-bytes-requires-2 c κs = search needs
 
-array-read-t19 : tie.Need-array-read-t19
-array-read-t19 c = search needs
+array-read-t20 : tie.Need-array-read-t20
+array-read-t20 c = search needs
 
-array-read-t22 : tie.Need-array-read-t22
-array-read-t22 c = search needs
+array-read-t23 : tie.Need-array-read-t23
+array-read-t23 c = search needs
 
-array-read-t25 : tie.Need-array-read-t25
-array-read-t25 c = search needs
+array-read-t26 : tie.Need-array-read-t26
+array-read-t26 c = search needs
 
-array-read-t28 : tie.Need-array-read-t28
-array-read-t28 c = search needs
+array-read-t29 : tie.Need-array-read-t29
+array-read-t29 c = search needs
 
-array-read-t31 : tie.Need-array-read-t31
-array-read-t31 c = search needs
+array-read-t32 : tie.Need-array-read-t32
+array-read-t32 c = search needs
 
-array-read-t34 : tie.Need-array-read-t34
-array-read-t34 c = search needs
+array-read-t35 : tie.Need-array-read-t35
+array-read-t35 c = search needs
 
-array-read-t37 : tie.Need-array-read-t37
-array-read-t37 c = search needs
+array-read-t38 : tie.Need-array-read-t38
+array-read-t38 c = search needs
 
-array-read-t40 : tie.Need-array-read-t40
-array-read-t40 c = search needs
+array-read-t41 : tie.Need-array-read-t41
+array-read-t41 c = search needs
+
+cast-t43 : tie.Need-cast-t43
+cast-t43 c = search needs
+
+cast-t45 : tie.Need-cast-t45
+cast-t45 c = search needs
 
 slice-aggregate-copy : tie.Need-slice-aggregate-copy
 slice-aggregate-copy c = search needs
@@ -59,7 +67,7 @@ element-end-requires c κs = search needs
 sub-clear : tie.Need-sub-clear
 sub-clear c =
     let s = c .before .before .before .before .before .before .before .before .before .before .before .before .before .before .before .before in
-    end-in (s .args .h .present) (s .pre .valid) (c .before .before .before .copy .kept .1 .0 ∙ s .pre .eighty) (c .element-end .ensures)
+    end-in (s .args .h .present) (s .pre .0 .valid) (c .before .before .before .copy .kept .1 .0 ∙ s .pre .0 .eighty) (c .element-end .ensures)
 
 part-clear-start : tie.Need-part-clear-start
 part-clear-start c = sub-clear c
@@ -76,6 +84,7 @@ same-length c = search needs
 returns : tie.Need-returns
 returns c =
     let s = c .before .before .before .before .before .before .before .before .before .before .before .before .before .before .before .before .before .before .before .before in
+    let small : s .args .h .length < 65536 = omega arith in
     put-record (s .args .cfg) (s .args .h) _ _ _ _ _ _ _
     (record {
       kind = c .before .before .before .before .before .before .before .before .before .before .before .before .before .before .before .number .ensures;
@@ -85,7 +94,7 @@ returns c =
       operation = c .before .before .before .before .before .before .before .before .before .before .before .four-bytes .ensures;
       number = c .before .before .before .before .before .before .before .before .before .before .four-bytes2 .ensures;
     })
-    (s .pre .eighty) (s .pre .valid .e-high) _ _ _ (c .before .before .before .before .before .before .before .copy .ensures .1) (c .before .before .clear .ensures) (c .before .before .before .before .element-end .ensures)
+    small (s .pre .1) (s .pre .0 .eighty) (s .pre .0 .valid .e-high) _ _ _ (c .before .before .before .before .before .before .before .copy .ensures .1) (c .before .before .clear .ensures) (c .before .before .before .before .element-end .ensures)
 
 pub put-spec : {M : Type 1} → statement M
 put-spec =
@@ -97,14 +106,16 @@ put-spec =
     flag-requires
     four-bytes-requires
     four-bytes-requires-2
-    array-read-t19
-    array-read-t22
-    array-read-t25
-    array-read-t28
-    array-read-t31
-    array-read-t34
-    array-read-t37
-    array-read-t40
+    array-read-t20
+    array-read-t23
+    array-read-t26
+    array-read-t29
+    array-read-t32
+    array-read-t35
+    array-read-t38
+    array-read-t41
+    cast-t43
+    cast-t45
     slice-aggregate-copy
     copy-requires
     element-end-requires

@@ -10,8 +10,8 @@ use Rattle.config.proofs.Questions.{questions-numbered}
 use Rattle.config.proofs.Valid.{valid}
 use Rattle.record.specs.Calls.{writeQuestions}
 use Rattle.record.specs.Record.{highestNumber}
-use Rattle.record.proofs.Answers.{first-stops, not-written, write-last, write-limits, write-shape, written}
-use Rattle.record.proofs.Written.{header-message}
+use Rattle.record.proofs.Answers.{first-stops, not-written, write-breaks, write-last, write-shape, written}
+use Rattle.record.proofs.Written.{header-fits, header-limits, header-sound, is-header}
 use Rattle.record.proofs.write.Statement.{statement}
 use Rattle.record.proofs.write.Tie as tie
 
@@ -41,7 +41,8 @@ returns-3 : tie.Need-returns-3
 returns-3 c =
     let a = c .before .before .before .before .before .before .args in
     not-written (a .cfg) (a .h) _ 12 _
-    (write-limits (a .cfg) (a .h) _ (sym (c .before .before .before .before .ask .ensures) ∙ c .before .before .before .if1 .left) (c .before .before .if2 .left) (sym (c .before .limits .ensures) ∙ not-true _ (c .if3 .taken)))
+    (write-breaks (a .cfg) (a .h) _ (sym (c .before .before .before .before .ask .ensures) ∙ c .before .before .before .if1 .left) (c .before .before .if2 .left) _ (header-limits (a .cfg) (a .h) _)
+    (sym (c .before .limits .ensures) ∙ not-true _ (c .if3 .taken)))
     (λ z. search needs) refl
 
 sound-requires : tie.Need-sound-requires
@@ -49,37 +50,60 @@ sound-requires c κs = search needs
 
 returns-4 : tie.Need-returns-4
 returns-4 c =
-    let s = c .before .before .before .before .before .before .before .before in
-    let a = s .args in
-    let v = sym (c .before .before .before .before .before .before .ask .ensures) ∙ c .before .before .before .before .before .if1 .left in
-    let l = sym (c .before .before .before .limits .ensures) ∙ not-false _ (c .before .before .if3 .left) in
-    let o : a .h .operation ≤ highestNumber = omega arith in
-    let n : a .h .tag .number ≤ highestNumber = omega arith in
-    let m = header-message (a .cfg) (a .h) _ (c .before .before .before .before .if2 .left) (valid (a .cfg) v .e-high) l o n in
+    let a = c .before .before .before .before .before .before .before .before .args in
     not-written (a .cfg) (a .h) _ 12 _
-    (write-last (a .cfg) (a .h) _ v (c .before .before .before .before .if2 .left) l ∙ ap (λ (b : Bool). cond b 0 12) (m ∙ sym (c .before .sound .ensures) ∙ not-true _ (c .if4 .taken)))
+    (write-breaks (a .cfg) (a .h) _ (sym (c .before .before .before .before .before .before .ask .ensures) ∙ c .before .before .before .before .before .if1 .left) (c .before .before .before .before .if2 .left) _ (header-sound (a .cfg) (a .h) _)
+    (sym (c .before .sound .ensures) ∙ not-true _ (c .if4 .taken)))
+    (λ z. search needs) refl
+
+length-fits-requires : tie.Need-length-fits-requires
+length-fits-requires c κs = valid (c .before .before .before .before .before .before .before .before .args .cfg) (sym (c .before .before .before .before .before .before .ask .ensures) ∙ c .before .before .before .before .before .if1 .left)
+
+returns-5 : tie.Need-returns-5
+returns-5 c =
+    let a = c .before .before .before .before .before .before .before .before .before .before .args in
+    not-written (a .cfg) (a .h) _ 12 _
+    (write-breaks (a .cfg) (a .h) _ (sym (c .before .before .before .before .before .before .before .before .ask .ensures) ∙ c .before .before .before .before .before .before .before .if1 .left) (c .before .before .before .before .before .before .if2 .left) _ (header-fits (a .cfg) (a .h) _)
+    (sym (c .before .length-fits .ensures) ∙ not-true _ (c .if5 .taken)))
     (λ z. search needs) refl
 
 put-requires : tie.Need-put-requires
-put-requires c κs = record { valid = valid (c .before .before .before .before .before .before .before .before .before .args .cfg) (sym (c .before .before .before .before .before .before .before .ask .ensures) ∙ c .before .before .before .before .before .before .if1 .left); eighty = c .before .before .before .before .before .if2 .left }
+put-requires c κs = (
+  record { valid = valid (c .before .before .before .before .before .before .before .before .before .before .before .args .cfg) (sym (c .before .before .before .before .before .before .before .before .before .ask .ensures) ∙ c .before .before .before .before .before .before .before .before .if1 .left); eighty = c .before .before .before .before .before .before .before .if2 .left },
+  sym (c .before .before .length-fits .ensures) ∙ not-false _ (c .before .if5 .left),
+)
 
 same-length : tie.Need-same-length
 same-length c = search needs
 
-returns-5 : tie.Need-returns-5
-returns-5 c =
-    let s = c .before .before .before .before .before .before .before .before .before .before .before .before in
+returns-6 : tie.Need-returns-6
+returns-6 c =
+    let s = c .before .before .before .before .before .before .before .before .before .before .before .before .before .before in
     let a = s .args in
-    let v = sym (c .before .before .before .before .before .before .before .before .before .before .ask .ensures) ∙ c .before .before .before .before .before .before .before .before .before .if1 .left in
-    let l = sym (c .before .before .before .before .before .before .before .limits .ensures) ∙ not-false _ (c .before .before .before .before .before .before .if3 .left) in
+    let v = sym (c .before .before .before .before .before .before .before .before .before .before .before .before .ask .ensures) ∙ c .before .before .before .before .before .before .before .before .before .before .before .if1 .left in
+    let l = sym (c .before .before .before .before .before .before .before .before .before .limits .ensures) ∙ not-false _ (c .before .before .before .before .before .before .before .before .if3 .left) in
     let o : a .h .operation ≤ highestNumber = omega arith in
     let n : a .h .tag .number ≤ highestNumber = omega arith in
-    let m = header-message (a .cfg) (a .h) _ (c .before .before .before .before .before .before .before .before .if2 .left) (valid (a .cfg) v .e-high) l o n in
-    written (a .cfg) (a .h) _ _
-    (write-last (a .cfg) (a .h) _ v (c .before .before .before .before .before .before .before .before .if2 .left) l ∙ ap (λ (b : Bool). cond b 0 12) (m ∙ sym (c .before .before .before .before .before .sound .ensures) ∙ not-false _ (c .before .before .before .before .if4 .left)))
+    let r = sym (c .before .before .before .before .before .before .before .sound .ensures) ∙ not-false _ (c .before .before .before .before .before .before .if4 .left) in
+    let f = sym (c .before .before .before .before .before .length-fits .ensures) ∙ not-false _ (c .before .before .before .before .if5 .left) in
+    let m = is-header (a .cfg) (a .h) _ (c .before .before .before .before .before .before .before .before .before .before .if2 .left) (valid (a .cfg) v .e-high) o n l r f in
+    written (a .cfg) (a .h) _ _ (write-last (a .cfg) (a .h) _ v (c .before .before .before .before .before .before .before .before .before .before .if2 .left) ∙ ap (λ (b : Bool). cond b 0 12) m)
     (c .before .before .put .ensures)
 
 pub write-spec : {M : Type 1} → statement M
 write-spec =
     tie.close
-    (tie.spec ask-requires of-requires returns returns-2 limits-requires returns-3 sound-requires returns-4 put-requires same-length returns-5)
+    (tie.spec
+    ask-requires
+    of-requires
+    returns
+    returns-2
+    limits-requires
+    returns-3
+    sound-requires
+    returns-4
+    length-fits-requires
+    returns-5
+    put-requires
+    same-length
+    returns-6)

@@ -4,14 +4,14 @@ use mathlib.Core.Bool.{Bool, cond}
 use mathlib.Core.Path.{_≡_}
 use mathlib.Core.Option.{none, some}
 use mathlib.Core.List.{List, [], _∷_}
-use lib.Dec.{leb}
-use lib.ListN.{length, getD, take, drop}
+use lib.Dec.{eqb, leb}
+use lib.ListN.{length, getD, drop}
 use Rattle.config.specs.declared.Config.{Config}
 use Rattle.config.specs.Config.{Valid, recordLength}
 use Rattle.config.specs.Questions.{within}
 use Rattle.record.specs.declared.Reading.{Reading}
-use Rattle.record.specs.Calls.{messageRead, readNumber}
-use Rattle.record.specs.Record.{all, allZero, elementEnd, kindAt, messageOf, presentAt, wellFormed}
+use Rattle.record.specs.Calls.{lengthRead, messageRead, readNumber}
+use Rattle.record.specs.Record.{all, allZero, elementEnd, kindAt, lengthAt, messageOf, presentAt, wellFormed}
 
 -- what both take: questions 1 to 6 are answered yes
 pub record RecordPre (cfg : Config) (bs : List ℕ) : Type 0 where
@@ -23,7 +23,7 @@ abbrev pub layoutClauses : Config → List ℕ → List Bool
 layoutClauses cfg bs =
     within 1 8 (kindAt bs)
     ∷ leb (getD bs 3 0) 1
-    ∷ allZero (take 3 (drop 13 bs))
+    ∷ eqb (getD bs 15 0) 0
     ∷ allZero (drop (elementEnd cfg (presentAt bs)) bs)
     ∷ []
 
@@ -34,3 +34,4 @@ laidOut cfg bs = all (layoutClauses cfg bs)
 pub record ParsePost (cfg : Config) (bs : List ℕ) (r : Reading) : Type 0 where
   pub number : readNumber r ≡ cond (wellFormed cfg bs) 0 12
   pub message : messageRead cfg bs r ≡ cond (wellFormed cfg bs) (some (messageOf cfg bs)) none
+  pub length : lengthRead r ≡ cond (wellFormed cfg bs) (lengthAt bs) 0

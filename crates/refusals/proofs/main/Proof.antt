@@ -7,7 +7,7 @@ use Rattle.refusals.proofs.main.Statement.{statement}
 use Rattle.refusals.proofs.main.Tie as tie
 
 abbrev Inv-loop : tie.InvT-loop
-Inv-loop left₀ line₀ count₀ left line count = length line ≡ 80
+Inv-loop left₀ line₀ count₀ left line count = length line ≡ 96
 
 abbrev μ-loop : tie.MeasureT-loop
 μ-loop left₀ line₀ count₀ left line count = 1000 - count

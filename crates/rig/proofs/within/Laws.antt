@@ -14,9 +14,10 @@ use Rattle.client.specs.declared.State as client
 use Rattle.parties.specs.declared.Node.{Node}
 use Rattle.events.specs.declared.Rig.{Rig}
 use Rattle.parties.specs.Within.{clientInPlace, serverInPlace}
-use Rattle.events.specs.Questions.{allBelow, partiesWithin}
+use Rattle.laws.specs.Below.{allBelow}
+use Rattle.events.specs.Questions.{partiesWithin}
 use Rattle.rig.specs.inner.Within.{clientYes, serverYes, unless}
-use Rattle.events.proofs.Below.{below-all, below-at}
+use Rattle.laws.proofs.Below.{below-all, below-at}
 
 -- a place past n is not asked of, one below n is
 pub not-asked : (n i : ℕ) (b : Bool) → n ≤ i → true ≡ unless n i b

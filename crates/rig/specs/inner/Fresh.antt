@@ -7,9 +7,9 @@ use lib.ListN.{length, getElem?}
 use Rattle.laws.specs.Parts.{part}
 use Rattle.config.specs.declared.Config.{Config}
 use Rattle.config.specs.Config.{Valid, boardLength, storeLength}
-use Rattle.code.specs.Element.{element}
 use Rattle.server.specs.View as serverView
 use Rattle.client.specs.declared.State as client
+use Rattle.protocol.specs.Boards.{encode, startingBoard}
 use Rattle.protocol.specs.Server.{freshServer}
 use Rattle.parties.specs.declared.Node.{Node}
 use Rattle.events.specs.declared.Rig.{Rig}
@@ -17,7 +17,8 @@ use Rattle.parties.specs.Fresh.{freshNode, freshState}
 
 -- server s, with its store, is the protocol's fresh server
 abbrev pub FreshStore : Config → ℕ → List ℕ → List ℕ → Type 0
-FreshStore cfg s start store = serverView.view cfg (freshNode s .state) store ≡ freshServer (element cfg start s)
+FreshStore cfg s start store =
+    serverView.view cfg (freshNode (boardLength cfg) s .state) store ≡ freshServer (encode cfg (startingBoard cfg start) s)
 
 -- making every party
 pub record RigPre (cfg : Config) (start stores : List ℕ) : Type 0 where
@@ -27,7 +28,7 @@ pub record RigPre (cfg : Config) (start stores : List ℕ) : Type 0 where
 
 -- what stands in place i, with a store, is a fresh server
 pub record FreshServer (cfg : Config) (start : List ℕ) (i : ℕ) (o : Option Node) (store : List ℕ) : Type 0 where
-  pub is : o ≡ some (freshNode (i + 1))
+  pub is : o ≡ some (freshNode (boardLength cfg) (i + 1))
   pub seen : FreshStore cfg (i + 1) start store
 
 -- the first n servers are fresh

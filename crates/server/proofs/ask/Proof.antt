@@ -5,6 +5,7 @@ use borrow.Author.Tests.{not-true, not-false}
 use Rattle.config.specs.Questions.{firstNo}
 use Rattle.config.proofs.Valid.{valid}
 use Rattle.server.proofs.Asked.{by-state, no-length, stopped}
+use Rattle.server.proofs.Limits.{by-lengths, no-numbers, numbers-eight}
 use Rattle.server.proofs.ask.Statement.{statement}
 use Rattle.server.proofs.ask.Tie as tie
 
@@ -22,32 +23,35 @@ returns-2 c =
     let a = c .before .before .before .before .args in
     no-length (a .cfg) (a .state) (a .long) (sym (c .before .before .before .ask .ensures) ∙ c .before .before .if1 .left) (λ z. c .if2 .taken (z ∙ sym (c .before .store-length .ensures)))
 
-quick-requires : tie.Need-quick-requires
-quick-requires c κs = valid (c .before .before .before .before .args .cfg) (sym (c .before .before .before .ask .ensures) ∙ c .before .before .if1 .left)
+numbers-requires : tie.Need-numbers-requires
+numbers-requires c κs = valid (c .before .before .before .before .args .cfg) (sym (c .before .before .before .ask .ensures) ∙ c .before .before .if1 .left)
 
 returns-3 : tie.Need-returns-3
 unfolding firstNo
 returns-3 c =
     let a = c .before .before .before .before .before .before .args in
-    by-state (a .cfg) (a .state) (a .long) (sym (c .before .before .before .before .before .ask .ensures) ∙ c .before .before .before .before .if1 .left) true (c .before .before .if2 .left ∙ c .before .before .before .store-length .ensures)
-    (c .before .quick .ensures (c .if3 .taken))
+    by-state (a .cfg) (a .state) (a .long) (sym (c .before .before .before .before .before .ask .ensures) ∙ c .before .before .before .before .if1 .left) false (c .before .before .if2 .left ∙ c .before .before .before .store-length .ensures)
+    (no-numbers (a .cfg) (a .state) (sym (c .before .numbers .ensures) ∙ not-true _ (c .if3 .taken)))
 
-state-within-requires : tie.Need-state-within-requires
-state-within-requires c κs = valid (c .before .before .before .before .before .before .args .cfg) (sym (c .before .before .before .before .before .ask .ensures) ∙ c .before .before .before .before .if1 .left)
+lengths-requires : tie.Need-lengths-requires
+lengths-requires c κs =
+    let a = c .before .before .before .before .before .before .args in
+    let v = valid (a .cfg) (sym (c .before .before .before .before .before .ask .ensures) ∙ c .before .before .before .before .if1 .left) in
+    (v, numbers-eight (a .cfg) (a .state) (sym (c .before .numbers .ensures) ∙ not-false _ (c .if3 .left)) v)
 
 returns-4 : tie.Need-returns-4
 unfolding firstNo
 returns-4 c =
     let a = c .before .before .before .before .before .before .before .before .args in
     by-state (a .cfg) (a .state) (a .long) (sym (c .before .before .before .before .before .before .before .ask .ensures) ∙ c .before .before .before .before .before .before .if1 .left) false (c .before .before .before .before .if2 .left ∙ c .before .before .before .before .before .store-length .ensures)
-    (sym (c .before .state-within .ensures) ∙ not-true _ (c .if4 .taken))
+    (by-lengths (a .cfg) (a .state) (sym (c .before .before .before .numbers .ensures) ∙ not-false _ (c .before .before .if3 .left)) ∙ sym (c .before .lengths .ensures) ∙ not-true _ (c .if4 .taken))
 
 returns-5 : tie.Need-returns-5
 unfolding firstNo
 returns-5 c =
     let a = c .before .before .before .before .before .before .before .before .args in
     by-state (a .cfg) (a .state) (a .long) (sym (c .before .before .before .before .before .before .before .ask .ensures) ∙ c .before .before .before .before .before .before .if1 .left) true (c .before .before .before .before .if2 .left ∙ c .before .before .before .before .before .store-length .ensures)
-    (sym (c .before .state-within .ensures) ∙ not-false _ (c .if4 .left))
+    (by-lengths (a .cfg) (a .state) (sym (c .before .before .before .numbers .ensures) ∙ not-false _ (c .before .before .if3 .left)) ∙ sym (c .before .lengths .ensures) ∙ not-false _ (c .if4 .left))
 
 pub ask-spec : {M : Type 1} → statement M
 ask-spec =
@@ -57,8 +61,8 @@ ask-spec =
     returns
     store-length-requires
     returns-2
-    quick-requires
+    numbers-requires
     returns-3
-    state-within-requires
+    lengths-requires
     returns-4
     returns-5)

@@ -8,6 +8,7 @@ use lib.ListN.{length, set}
 use Rattle.config.specs.declared.Config.{Config}
 use Rattle.tag.specs.declared.Tag.{Tag}
 use Rattle.tag.specs.Tag.{allowed, key}
+use Rattle.record.specs.Element.{elementWith}
 use Rattle.protocol.specs.Server.{store as stores}
 use Rattle.server.specs.declared.Floor.{Floor}
 use Rattle.server.specs.declared.State.{State}
@@ -16,32 +17,43 @@ use Rattle.server.specs.Within.{ValidState}
 use Rattle.server.specs.View.{tagsUsed, view}
 use Rattle.server.specs.inner.Places.{leastFrom, putAt}
 
--- t at the first free place
-unfoldable pub appended : State → Tag → State
-appended s t = record { me = s .me; highest = s .highest; floor = s .floor; count = s .count + 1; tags = set (s .tags) (s .count) t }
+-- t at the first free place, with its length
+unfoldable pub appended : State → Tag → ℕ → State
+appended s t n =
+    record {
+      me = s .me;
+      highest = s .highest;
+      floor = s .floor;
+      count = s .count + 1;
+      tags = set (s .tags) (s .count) t;
+      lengths = set (s .lengths) (s .count) n;
+    }
 
-pub record AppendPost (cfg : Config) (s : State) (t : Tag) (element before after : List ℕ) (r : State) : Type 0 where
-  pub state : r ≡ appended s t
+pub record AppendPost (cfg : Config) (s : State) (t : Tag) (n : ℕ) (element before after : List ℕ) (r : State) : Type 0 where
+  pub state : r ≡ appended s t n
   pub store : after ≡ putAt (s .count * cfg .e) element before
-  pub eight : length (s .tags) ≡ 8
+  pub eight : (length (s .tags) ≡ 8) × (length (s .lengths) ≡ 8)
 
 -- the lowest of t and the stored tags; t's place is taken for the count
 abbrev pub lowest : State → Tag → Least
 lowest s t = leastFrom t (s .count) 0 (tagsUsed s)
 
--- the floor is f, and tags are stored
-abbrev pub floored : State → Tag → List Tag → State
-floored s f tags = record { me = s .me; highest = s .highest; floor = Floor.At f; count = s .count; tags = tags }
+-- the floor is f, and tags are stored with their lengths
+abbrev pub floored : State → Tag → List Tag → List ℕ → State
+floored s f tags lengths =
+    record { me = s .me; highest = s .highest; floor = Floor.At f; count = s .count; tags = tags; lengths = lengths }
 
 -- the lowest is the floor; if it is not t, then t has its place
-unfoldable pub dropped : State → Tag → State
-dropped s t =
-    floored s (lowest s t .tag) (cond (leb (s .count) (lowest s t .place)) (s .tags) (set (s .tags) (lowest s t .place) t))
+unfoldable pub dropped : State → Tag → ℕ → State
+dropped s t n =
+    floored s (lowest s t .tag)
+    (cond (leb (s .count) (lowest s t .place)) (s .tags) (set (s .tags) (lowest s t .place) t))
+    (cond (leb (s .count) (lowest s t .place)) (s .lengths) (set (s .lengths) (lowest s t .place) n))
 
-pub record DropSmallestPost (cfg : Config) (s : State) (t : Tag) (element before after : List ℕ) (r : State) : Type 0 where
-  pub state : r ≡ dropped s t
+pub record DropSmallestPost (cfg : Config) (s : State) (t : Tag) (n : ℕ) (element before after : List ℕ) (r : State) : Type 0 where
+  pub state : r ≡ dropped s t n
   pub store : after ≡ cond (leb (s .count) (lowest s t .place)) before (putAt (lowest s t .place * cfg .e) element before)
-  pub eight : length (s .tags) ≡ 8
+  pub eight : (length (s .tags) ≡ 8) × (length (s .lengths) ≡ 8)
 
 -- a tag and its element, to be stored
 pub record KeepPre (cfg : Config) (s : State) (t : Tag) (element store : List ℕ) : Type 0 where
@@ -49,8 +61,8 @@ pub record KeepPre (cfg : Config) (s : State) (t : Tag) (element store : List �
   pub sized : length element ≡ cfg .e
   pub allowed : allowed (cfg .c) t ≡ true
 
--- they are stored as the protocol has it
-pub record KeepPost (cfg : Config) (s : State) (t : Tag) (element store after : List ℕ) (r : State) : Type 0 where
+-- they are stored as the protocol has it, with the length
+pub record KeepPost (cfg : Config) (s : State) (t : Tag) (n : ℕ) (element store after : List ℕ) (r : State) : Type 0 where
   pub me : r .me ≡ s .me
-  pub seen : view cfg r after ≡ stores key (cfg .d) (view cfg s store) (record { tag = t; element = element })
+  pub seen : view cfg r after ≡ stores key (cfg .d) (view cfg s store) (record { tag = t; element = elementWith n element })
   pub long : length after ≡ length store

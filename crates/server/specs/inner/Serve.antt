@@ -1,6 +1,6 @@
 -- What a step takes once its questions are asked, and what it gives.
 use Prim.Native.Nat.{ℕ}
-use mathlib.Core.Bool.{Bool, true, cond}
+use mathlib.Core.Bool.{true, false, cond}
 use mathlib.Core.Path.{_≡_}
 use mathlib.Core.List.{List}
 use mathlib.Core.Option.{Option, none, some}
@@ -19,10 +19,12 @@ use Rattle.tag.specs.Tag.{allowed, key}
 use Rattle.record.specs.declared.Header.{Header}
 use Rattle.record.specs.declared.Kind.{Kind}
 use Rattle.record.specs.Calls.{withElement}
+use Rattle.record.specs.Element.{Element, elementWith}
 use Rattle.record.specs.Kinds.{isForServer}
 use Rattle.record.specs.Message.{Message}
-use Rattle.record.specs.Record.{elementIn, highestNumber, ofConfig, recordOf}
+use Rattle.record.specs.Record.{elementIn, highestNumber, lengthFits, ofConfig, recordOf}
 use Rattle.protocol.specs.Server.{elementOf, readAnswer}
+use Rattle.server.specs.declared.serve.Reply.{Reply}
 use Rattle.server.specs.declared.State.{State}
 use Rattle.server.specs.declared.Stepped.{Stepped}
 use Rattle.server.specs.Calls.{answerBytes, answers, outcome, raised}
@@ -34,7 +36,7 @@ abbrev pub unchanged : State → Refusal → Stepped
 unchanged s why = record { verdict = Verdict.No why; state = s }
 
 -- the answer to a request
-unfoldable pub reply : ServerNumber → Header → Kind → Tag → Option (List ℕ) → Message (List ℕ)
+unfoldable pub reply : ServerNumber → Header → Kind → Tag → Option Element → Message Element
 reply me h kind t element =
     record {
       kind = kind;
@@ -45,16 +47,21 @@ reply me h kind t element =
       element = element;
     }
 
--- the element that stands in the answer's bytes, if one is present
-abbrev pub present : Config → Bool → List ℕ → Option (List ℕ)
-present cfg there bs = cond there (some (elementIn cfg bs)) none
+-- what an answer says besides what it repeats, with the element that stands in its bytes, if one is present
+abbrev pub replyOf : Config → ServerNumber → Header → Reply → List ℕ → Message Element
+replyOf cfg me h r bs = reply me h (r .kind) (r .tag) (cond (r .present) (some (elementWith (r .length) (elementIn cfg bs))) none)
 
-pub record RespondPre (cfg : Config) (m : Message (List ℕ)) (answer : List ℕ) : Type 0 where
+-- without an element
+abbrev pub bareOf : Kind → Tag → Reply
+bareOf kind t = record { kind = kind; tag = t; present = false; length = 0 }
+
+pub record RespondPre (cfg : Config) (r : Reply) (m : Message Element) (answer : List ℕ) : Type 0 where
   pub valid : Valid cfg
   pub eighty : length answer ≡ recordLength
   pub ofConfig : ofConfig cfg m ≡ true
+  pub fits : lengthFits cfg (r .present) (r .length) ≡ true
 
-pub record RespondPost (cfg : Config) (s : State) (m : Message (List ℕ)) (after : List ℕ) (r : Stepped) : Type 0 where
+pub record RespondPost (cfg : Config) (s : State) (m : Message Element) (after : List ℕ) (r : Stepped) : Type 0 where
   pub number : verdictNumber (r .verdict) ≡ 0
   pub state : r .state ≡ s
   pub answer : after ≡ recordOf cfg m
@@ -69,7 +76,7 @@ pub record ReadFinalisePre (cfg : Config) (s : State) (h : Header) (store answer
   pub allowed : allowed (cfg .c) (h .tag) ≡ true
 
 -- H is raised, and the answer is the protocol's
-abbrev pub readAnswered : State → Header → List ℕ → Config → Option (Message (List ℕ))
+abbrev pub readAnswered : State → Header → List ℕ → Config → Option (Message Element)
 readAnswered s h store cfg =
     readAnswer key (serverNumber (s .me)) (view cfg s store .floor) (reply (s .me) h (h .kind) (h .tag) none)
     (elementOf key (h .tag) (view cfg s store .stored))
@@ -87,5 +94,5 @@ pub record RequestPre (cfg : Config) (s : State) (h : Header) (handed store answ
   pub ofConfig : ofConfig cfg (withElement cfg h handed) ≡ true
 
 -- questions 16, as to the kind, and 15
-abbrev pub requestNumber : Config → State → List ℕ → Message (List ℕ) → ℕ
+abbrev pub requestNumber : Config → State → List ℕ → Message Element → ℕ
 requestNumber cfg s store m = cond (isForServer (m .kind)) (cond (answers (outcome cfg s store m .answer)) 0 15) 16

@@ -4,7 +4,7 @@ use mathlib.Core.Path.{_≡_}
 use mathlib.Core.List.{List}
 use lib.ListN.{length}
 use Rattle.config.specs.declared.Config.{Config}
-use Rattle.protocol.specs.Boards.{Board, BoardEvent}
+use Rattle.protocol.specs.Boards.{BoardEvent}
 use Rattle.events.specs.declared.Rig.{Rig}
 use Rattle.events.specs.View.{Lent}
 use Rattle.rig.specs.InPlace.{InPlace}
@@ -23,7 +23,7 @@ pub record WentOn (cfg : Config) (m : ℕ) (rig : Rig) (l : Lent) (next : ℕ) (
   pub went : Went cfg m rig l next left l′
 
 -- some list of events from a making, to these buffers
-pub record RunTo (cfg : Config) (m : ℕ) (start : Board) (l′ : Lent) : Type 0 where
+pub record RunTo (cfg : Config) (m : ℕ) (start : List ℕ) (l′ : Lent) : Type 0 where
   pub left : Rig
   pub events : List BoardEvent
   pub runs : WholeRuns cfg m start left l′ events

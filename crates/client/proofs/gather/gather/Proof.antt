@@ -10,8 +10,8 @@ use lib.Seq.{take-nil}
 use Rattle.config.specs.declared.Config.{Config}
 use Rattle.laws.specs.Bytes.{joined}
 use Rattle.protocol.specs.Number.{present}
-use Rattle.client.specs.State.{received}
-use Rattle.client.specs.inner.Gather.{GatherPost, GatherPre, lowest}
+use Rattle.client.specs.Servers.{sentBy}
+use Rattle.client.specs.inner.Gather.{GatherPost, GatherPre, bytesAt, lowest}
 use Rattle.client.proofs.Gathering.{gathered-all, gathered-more}
 use Rattle.client.proofs.gather.gather.Statement.{statement}
 use Rattle.client.proofs.gather.gather.Tie as tie
@@ -47,7 +47,7 @@ module _ {cfg : Config} {sent : ℕ} {es numbers₀ packed₀ numbers packed : L
       }
 
   few : Now cfg sent es numbers₀ packed₀ numbers packed found s → found ≤ cfg .k
-  few n = omega (arith, n .done .count, length-take (cfg .k) (present s (received cfg es sent)))
+  few n = omega (arith, n .done .count, length-take (cfg .k) (present s (sentBy (bytesAt cfg es) sent)))
 
 abbrev Inv-loop : tie.InvT-loop
 Inv-loop cfg sent elements numbers₀ packed₀ found₀ s₀ numbers packed found s =

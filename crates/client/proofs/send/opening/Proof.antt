@@ -15,7 +15,7 @@ use Rattle.client.proofs.send.opening.Statement.{statement}
 use Rattle.client.proofs.send.opening.Tie as tie
 
 -- a query
-asks : (x : State) (p : Phase) → OneOf (0 ∷ 1 ∷ 5 ∷ []) (tagOf phase.the-type p) → broadcastOf x Query start false ≡ openingOf x p
+asks : (x : State) (p : Phase) → OneOf (0 ∷ 1 ∷ 5 ∷ []) (tagOf phase.the-type p) → broadcastOf x Query start false 0 ≡ openingOf x p
 unfolding openingOf
 asks x Idle h = refl
 asks x (Asking writes best counted) h = refl

@@ -23,7 +23,7 @@ returns : tie.Need-returns
 returns c =
     let a = c .before .before .before .before .before .args in
     read-refused (a .cfg) (a .m) (a .part) (a .call) (now (a .messages)) (c .refused .result) (c .before .before .before .asked .result) (c .before .of .result)
-    (c .before .before .before .asked .ensures) (c .before .before .if1 .taken) (c .before .of .ensures) (c .refused .ensures)
+    (c .before .before .if1 .taken) (c .before .of .ensures) (c .refused .ensures) (c .before .before .before .asked .ensures)
 
 mul-from : tie.Need-mul-from
 mul-from c = let s = c .before .before .before in omega (arith, s .pre .part .few)

@@ -8,13 +8,13 @@ use Rattle.laws.proofs.Parts.{lent-is, over-lent, part-fits}
 use Rattle.config.specs.Config.{boardLength}
 use Rattle.config.proofs.Sizes.{board-small}
 use Rattle.events.proofs.Lengths.{boards-small}
-use Rattle.events.proofs.begin.Laws.{asked-yes, write-acted, write-refused}
+use Rattle.events.proofs.begin.Laws.{asked-yes, write-acted, write-refused, write-yes}
 use Rattle.events.proofs.outcome.Laws.{sent-room}
 use Rattle.events.proofs.begin.write.Statement.{statement}
 use Rattle.events.proofs.begin.write.Tie as tie
 
-asked-requires : tie.Need-asked-requires
-asked-requires c κs = let s = c .before .before .before in (s .pre .0 .part .valid, s .pre .0 .part .few)
+write-asked-requires : tie.Need-write-asked-requires
+write-asked-requires c κs = let s = c .before .before .before in (s .pre .0 .part .valid, s .pre .0 .part .few)
 
 of-requires : tie.Need-of-requires
 of-requires c κs = search needs
@@ -25,8 +25,8 @@ refused-requires c κs = search needs
 returns : tie.Need-returns
 returns c =
     let a = c .before .before .before .before .before .before .before .args in
-    write-refused (a .cfg) (a .m) (a .part) (a .call) (now (a .messages)) (c .refused .result) (c .before .before .before .asked .result) (c .before .of .result)
-    (c .before .before .before .asked .ensures) (c .before .before .if1 .taken) (c .before .of .ensures) (c .refused .ensures) (now (a .board)) (now (a .boards))
+    write-refused (a .cfg) (a .m) (a .part) (a .call) (now (a .messages)) (c .refused .result) (c .before .before .before .write-asked .result) (c .before .of .result)
+    (c .before .before .if1 .taken) (c .before .of .ensures) (c .refused .ensures) (c .before .before .before .write-asked .ensures) (now (a .board)) (now (a .boards))
 
 mul-from : tie.Need-mul-from
 mul-from c = let s = c .before .before .before .before .before in omega (arith, s .pre .0 .part .few)
@@ -74,7 +74,7 @@ part-write-end-2 : tie.Need-part-write-end-2
 part-write-end-2 c =
     let s = c .before .before .before .before .before .before .before .before .before in
     let a = s .args in
-    omega (arith, s .pre .0 .long, asked-yes (a .cfg) (a .m) (a .part) (a .call .party) (sym (c .before .before .before .before .if1 .left) ∙ c .before .before .before .before .before .asked .ensures) .1)
+    omega (arith, s .pre .0 .long, asked-yes (a .cfg) (a .m) (a .part) (a .call .party) (write-yes (a .cfg) (a .m) (a .part) (a .call) (sym (c .before .before .before .before .if1 .left) ∙ c .before .before .before .before .before .write-asked .ensures) .1) .1)
 
 write-requires : tie.Need-write-requires
 write-requires c κs = search needs
@@ -100,17 +100,18 @@ returns-2 c =
     let n = a .part .count in
     let v = boardLength (a .cfg) in
     let w = c .before .before .before .before .before .before .write in
-    write-acted (a .cfg) (a .m) (a .part) (a .call) (now (a .messages)) (c .acted .result) (sym (c .before .before .before .before .before .before .before .before .before .before .before .before .if1 .left) ∙ c .before .before .before .before .before .before .before .before .before .before .before .before .before .asked .ensures)
-    (s .pre .0 .long) (w .result) _ (w .last .1 .1 .1 .1 .0) _ (c .acted .ensures) (lent-is (now (a .messages)) (80 * n) (80 * a .cfg .n))
-    (over-lent (80 * n) (80 * a .cfg .n) (w .last .1 .1 .1 .1 .0) (now (a .messages))) (c .before .before .before .messages .given .0)
-    (now (a .board)) (now (a .boards)) _ (w .last .1 .1 .1 .0) _ (lent-is (now (a .boards)) (a .part .client * v) v) (over-lent (a .part .client * v) v (w .last .1 .1 .1 .0) (now (a .boards)))
+    let asked = write-yes (a .cfg) (a .m) (a .part) (a .call) (sym (c .before .before .before .before .before .before .before .before .before .before .before .before .if1 .left) ∙ c .before .before .before .before .before .before .before .before .before .before .before .before .before .write-asked .ensures) in
+    write-acted (a .cfg) (a .m) (a .part) (a .call) (now (a .messages)) (c .acted .result) (asked .1)
+    (s .pre .0 .long) (w .result) _ (w .last .1 .1 .1 .1 .1 .0) _ (c .acted .ensures) (lent-is (now (a .messages)) (80 * n) (80 * a .cfg .n))
+    (over-lent (80 * n) (80 * a .cfg .n) (w .last .1 .1 .1 .1 .1 .0) (now (a .messages))) (c .before .before .before .messages .given .0)
+    (asked .0) (now (a .board)) (now (a .boards)) _ (w .last .1 .1 .1 .1 .0) _ (lent-is (now (a .boards)) (a .part .client * v) v) (over-lent (a .part .client * v) v (w .last .1 .1 .1 .1 .0) (now (a .boards)))
     (w .ensures)
 
 pub write-spec : {M : Type 1} → statement M
 write-spec =
     tie.close
     (tie.spec
-    asked-requires
+    write-asked-requires
     of-requires
     refused-requires
     returns

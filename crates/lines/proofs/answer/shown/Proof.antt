@@ -1,7 +1,7 @@
 -- `lines::answer::shown` meets its contract. Assumes nothing.
 use native.Mathlib.Omega.{arith}
 use Rattle.lines.specs.Line.{shownOf}
-use Rattle.lines.proofs.Texts.{hex-length, joined}
+use Rattle.lines.proofs.Texts.{joined}
 use borrow.Author.Needs.{needs}
 use Rattle.lines.proofs.answer.shown.Statement.{statement}
 use Rattle.lines.proofs.answer.shown.Tie as tie
@@ -15,38 +15,19 @@ word-requires c κs = search needs
 tagged-requires : tie.Need-tagged-requires
 tagged-requires c κs = search needs
 
+board-requires : tie.Need-board-requires
+board-requires c κs = search needs
+
 slice-aggregate-word-2 : tie.Need-slice-aggregate-word-2
 slice-aggregate-word-2 c = search needs
 
 word-requires-2 : tie.Need-word-requires-2
-word-requires-2 c κs = search needs
-
-hex-requires : tie.Need-hex-requires
-hex-requires c κs = search needs
-
-slice-aggregate-word-3 : tie.Need-slice-aggregate-word-3
-slice-aggregate-word-3 c = search needs
-
-word-requires-3 : tie.Need-word-requires-3
-word-requires-3 c κs =
-    let s = c .before .before .before .before .before .before .before .before .before .before .before .before .before .before .before .before .before .before .before .before .before .before in
-    let a = c .before .before .before .before .before .before .before .before .before .before .before .before .before .before .before .before .before .word in
-    let t = c .before .before .before .before .before .before .before .before .before .before .before .before .before .tagged in
-    let d = c .before .before .before .before .before .before .before .before .word2 in
-    let h = c .before .before .before .before .hex in
-    omega (
-      arith,
-      hex-length (s .args .read .now),
-      s .pre,
-      a .ensures .place,
-      t .ensures .1,
-      d .ensures .place,
-      h .ensures .place,
-      a .kept .1 .0,
-      t .kept .1 .0,
-      d .kept .1 .0,
-      h .kept .1 .0,
-    )
+word-requires-2 c κs =
+    let s = c .before .before .before .before .before .before .before .before .before .before .before .before .before .before .before .before .before in
+    let a = c .before .before .before .before .before .before .before .before .before .before .before .before .word in
+    let t = c .before .before .before .before .before .before .before .before .tagged in
+    let d = c .before .before .before .before .board in
+    omega (arith, s .pre, a .ensures .place, t .ensures .1, d .ensures .1, a .kept .1 .0, t .kept .1 .0, d .kept .1 .1 .0)
 
 same-length : tie.Need-same-length
 same-length c = search needs
@@ -54,13 +35,12 @@ same-length c = search needs
 returns : tie.Need-returns
 unfolding shownOf
 returns c =
-    let a = c .before .before .before .before .before .before .before .before .before .before .before .before .before .before .before .before .before .before .before .before .word in
-    let t = c .before .before .before .before .before .before .before .before .before .before .before .before .before .before .before .before .tagged in
-    let d = c .before .before .before .before .before .before .before .before .before .before .before .word2 in
-    let h = c .before .before .before .before .before .before .before .hex in
-    let e = c .before .before .word3 in (
-      joined (joined (joined (joined (a .ensures) (t .ensures .0)) (d .ensures)) (h .ensures)) (e .ensures),
-      omega (arith, hex-length (c .before .before .before .before .before .before .before .before .before .before .before .before .before .before .before .before .before .before .before .before .before .before .before .before .before .args .read .now), a .ensures .place, t .ensures .1, d .ensures .place, h .ensures .place, e .ensures .place),
+    let a = c .before .before .before .before .before .before .before .before .before .before .before .before .before .before .before .word in
+    let t = c .before .before .before .before .before .before .before .before .before .before .before .tagged in
+    let d = c .before .before .before .before .before .before .before .board in
+    let e = c .before .before .word2 in (
+      joined (joined (joined (a .ensures) (t .ensures .0)) (d .ensures .0)) (e .ensures),
+      omega (arith, a .ensures .place, t .ensures .1, d .ensures .1, e .ensures .place),
     )
 
 pub shown-spec : {M : Type 1} → statement M
@@ -70,10 +50,8 @@ shown-spec =
     slice-aggregate-word
     word-requires
     tagged-requires
+    board-requires
     slice-aggregate-word-2
     word-requires-2
-    hex-requires
-    slice-aggregate-word-3
-    word-requires-3
     same-length
     returns)

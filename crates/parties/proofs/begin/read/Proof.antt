@@ -1,5 +1,6 @@
 use mathlib.Core.Path.{refl}
 use borrow.Author.Needs.{needs}
+use Rattle.client.proofs.Asked.{call-passed}
 use Rattle.parties.proofs.Beginning.{begin-act}
 use Rattle.parties.proofs.begin.read.Statement.{statement}
 use Rattle.parties.proofs.begin.read.Tie as tie
@@ -17,7 +18,7 @@ returns : tie.Need-returns
 returns c store kept es read =
     let a = c .before .before .before .before .before .before .before .args in
     let y = c .before .before .before .begin-read in
-    begin-act (a .cfg) _ (a .pair) _ store kept kept es _ _ read (y .result) (y .ensures kept es) refl _ (c .moved .ensures)
+    begin-act (a .cfg) _ (a .pair) _ (λ z. call-passed (a .cfg) (a .pair .client) _ _ z .3) _ store kept kept es _ _ read (y .result) (y .ensures kept es) refl _ (c .moved .ensures)
 
 pub read-spec : {M : Type 1} → statement M
 read-spec = tie.close (tie.spec begin-read-requires moved-requires same-length returns)

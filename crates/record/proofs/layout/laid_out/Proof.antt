@@ -7,7 +7,7 @@ use lib.Dec.{eqb}
 use lib.ListN.{length, getD, take, drop, length-drop}
 use lib.Seq.{take-all}
 use borrow.Author.Needs.{needs}
-use borrow.Author.Tests.{le-leb, lt-leb, not-true, not-false}
+use borrow.Author.Tests.{eq-eqb, le-leb, lt-leb, ne-eqb}
 use Rattle.config.specs.declared.Config.{Config}
 use Rattle.config.specs.Questions.{within}
 use Rattle.config.proofs.Questions.{within-true}
@@ -36,18 +36,18 @@ module _ (cfg : Config) (bs : List ℕ) where
       no-flag h = rw (kind-in, lt-leb (getD bs 3 0) 1 h)
 
       module _ (flag : getD bs 3 0 ≤ 1) where
-        not-zero : allZero (take 3 (drop 13 bs)) ≡ false → false ≡ laidOut cfg bs
+        not-zero : (getD bs 15 0 ≡ 0 → ⊥) → false ≡ laidOut cfg bs
         unfolding laidOut all
-        not-zero z = rw (kind-in, le-leb (getD bs 3 0) 1 flag, z)
+        not-zero z = rw (kind-in, le-leb (getD bs 3 0) 1 flag, ne-eqb (getD bs 15 0) 0 z)
 
-        last : allZero (take 3 (drop 13 bs)) ≡ true → (end : ℕ) → end ≡ elementEnd cfg (presentAt bs)
+        last : getD bs 15 0 ≡ 0 → (end : ℕ) → end ≡ elementEnd cfg (presentAt bs)
             → allZero (take (length bs - end) (drop end bs)) ≡ laidOut cfg bs
         unfolding laidOut all
         last z end e =
-            rw (kind-in, le-leb (getD bs 3 0) 1 flag, z, ← e, take-all (length bs - end) (drop end bs) (omega (arith, length-drop end bs)))
+            rw (kind-in, le-leb (getD bs 3 0) 1 flag, eq-eqb (getD bs 15 0) 0 z, ← e, take-all (length bs - end) (drop end bs) (omega (arith, length-drop end bs)))
             (sym (and-true (allZero (drop end bs))))
 
-        absent : allZero (take 3 (drop 13 bs)) ≡ true → length bs ≡ 80 → getD bs 3 0 ≡ 0 → allZero (take 64 (drop 16 bs)) ≡ laidOut cfg bs
+        absent : getD bs 15 0 ≡ 0 → length bs ≡ 80 → getD bs 3 0 ≡ 0 → allZero (take 64 (drop 16 bs)) ≡ laidOut cfg bs
         absent z eighty none =
             ap (λ (n : ℕ). allZero (take (n - 16) (drop 16 bs))) (sym eighty)
             ∙ last z 16 (ap (λ (n : ℕ). elementEnd cfg (eqb n 1)) (sym none))
@@ -70,6 +70,18 @@ shared-slice-read-if3 c = search needs
 returns-3 : tie.Need-returns-3
 returns-3 c = no-flag _ _ (c .before .before .before .before .if1 .left) (c .before .before .if2 .left) (c .if3 .taken)
 
+shared-slice-read-if4 : tie.Need-shared-slice-read-if4
+shared-slice-read-if4 c = search needs
+
+returns-4 : tie.Need-returns-4
+returns-4 c =
+    let b = c .before .before in
+    not-zero _ _ (b .before .before .before .before .if1 .left) (b .before .before .if2 .left) (b .if3 .left)
+    (c .if4 .taken)
+
+shared-slice-read-if5 : tie.Need-shared-slice-read-if5
+shared-slice-read-if5 c = search needs
+
 sub-zero : tie.Need-sub-zero
 sub-zero c = search needs
 
@@ -82,35 +94,14 @@ part-zero-end c = search needs
 zero-requires : tie.Need-zero-requires
 zero-requires c κs = search needs
 
-returns-4 : tie.Need-returns-4
-returns-4 c =
-    let b = c .before .before .before in
-    not-zero _ _ (b .before .before .before .before .if1 .left) (b .before .before .if2 .left) (b .if3 .left)
-    (sym (c .before .zero .ensures) ∙ not-true _ (c .if4 .taken))
-
-shared-slice-read-if5 : tie.Need-shared-slice-read-if5
-shared-slice-read-if5 c = search needs
-
-sub-zero-2 : tie.Need-sub-zero-2
-sub-zero-2 c = search needs
-
-part-zero-start-2 : tie.Need-part-zero-start-2
-part-zero-start-2 c = search needs
-
-part-zero-end-2 : tie.Need-part-zero-end-2
-part-zero-end-2 c = search needs
-
-zero-requires-2 : tie.Need-zero-requires-2
-zero-requires-2 c κs = search needs
-
 returns-5 : tie.Need-returns-5
 returns-5 c =
     let d = c .before .before .before .before in
-    let b = d .before .before .before in
+    let b = d .before .before in
     let s = b .before .before .before .before .before .before .before in
-    c .zero2 .ensures
+    c .zero .ensures
     ∙ absent _ _ (b .before .before .before .before .if1 .left) (b .before .before .if2 .left) (b .if3 .left)
-    (sym (d .before .zero .ensures) ∙ not-false _ (d .if4 .left)) (s .pre .eighty) (c .before .before .if5 .taken)
+    (d .if4 .left) (s .pre .eighty) (c .before .before .if5 .taken)
 
 shared-slice-read-element-end : tie.Need-shared-slice-read-element-end
 shared-slice-read-element-end c = search needs
@@ -118,27 +109,27 @@ shared-slice-read-element-end c = search needs
 element-end-requires : tie.Need-element-end-requires
 element-end-requires c κs = search needs
 
-sub-zero-3 : tie.Need-sub-zero-3
-sub-zero-3 c =
-    let s = c .before .before .before .before .before .before .before .before .before .before .before .before .before .before in
+sub-zero-2 : tie.Need-sub-zero-2
+sub-zero-2 c =
+    let s = c .before .before .before .before .before .before .before .before .before .before .before .before .before in
     end-in (presentAt (s .args .buf .now)) (s .pre .valid) (s .pre .eighty) (c .element-end .ensures)
 
-part-zero-start-3 : tie.Need-part-zero-start-3
-part-zero-start-3 c = sub-zero-3 c
+part-zero-start-2 : tie.Need-part-zero-start-2
+part-zero-start-2 c = sub-zero-2 c
 
-part-zero-end-3 : tie.Need-part-zero-end-3
-part-zero-end-3 c = search needs
+part-zero-end-2 : tie.Need-part-zero-end-2
+part-zero-end-2 c = search needs
 
-zero-requires-3 : tie.Need-zero-requires-3
-zero-requires-3 c κs = search needs
+zero-requires-2 : tie.Need-zero-requires-2
+zero-requires-2 c κs = search needs
 
 returns-6 : tie.Need-returns-6
 returns-6 c =
     let d = c .before .before .before .before .before .before in
-    let b = d .before .before .before in
-    c .zero3 .ensures
+    let b = d .before .before in
+    c .zero2 .ensures
     ∙ last _ _ (b .before .before .before .before .if1 .left) (b .before .before .if2 .left) (b .if3 .left)
-    (sym (d .before .zero .ensures) ∙ not-false _ (d .if4 .left))
+    (d .if4 .left)
     _ (c .before .before .element-end .ensures)
 
 pub laid-out-spec : {M : Type 1} → statement M
@@ -151,21 +142,18 @@ laid-out-spec =
     returns-2
     shared-slice-read-if3
     returns-3
+    shared-slice-read-if4
+    returns-4
+    shared-slice-read-if5
     sub-zero
     part-zero-start
     part-zero-end
     zero-requires
-    returns-4
-    shared-slice-read-if5
+    returns-5
+    shared-slice-read-element-end
+    element-end-requires
     sub-zero-2
     part-zero-start-2
     part-zero-end-2
     zero-requires-2
-    returns-5
-    shared-slice-read-element-end
-    element-end-requires
-    sub-zero-3
-    part-zero-start-3
-    part-zero-end-3
-    zero-requires-3
     returns-6)

@@ -1,4 +1,4 @@
-use mathlib.Core.Path.{ap₂}
+use mathlib.Core.Path.{refl, ap₂}
 use lib.ListN.{replicate}
 use Rattle.client.specs.declared.State as client
 use Rattle.parties.specs.declared.Node.{Node}
@@ -22,7 +22,7 @@ client-requires c κs = search needs
 returns : tie.Need-returns
 returns c =
     ap₂ (λ (s : Node) (z : client.State). record { servers = replicate 16 s; clients = replicate 16 z; count = 0 })
-    (least-node (c .before .before .before .server .ensures)) (c .client .ensures)
+    (least-node refl (c .before .before .before .server .ensures)) (c .client .ensures)
 
 pub least-spec : {M : Type 1} → statement M
 least-spec =

@@ -4,8 +4,8 @@ use mathlib.Core.Bool.{true}
 use native.Mathlib.Omega.{arith}
 use borrow.Author.Needs.{needs}
 use borrow.Author.Tests.{not-true, not-false}
-use Rattle.events.specs.Questions.{allBelow}
-use Rattle.events.proofs.Below.{below-next}
+use Rattle.laws.specs.Below.{allBelow}
+use Rattle.laws.proofs.Below.{below-next}
 use Rattle.rig.proofs.Owned.{client-places, server-places}
 use Rattle.rig.proofs.within.Laws.{all-within, place-no, place-read, placeYes}
 use Rattle.rig.proofs.within.all.Statement.{statement}

@@ -1,7 +1,7 @@
 use borrow.Author.Needs.{needs}
-use mathlib.Core.Path.{refl, sym, _∙_}
-use lib.ListN.{length-map}
+use mathlib.Core.Path.{refl}
 use Rattle.server.specs.inner.Keep.{appended}
+use Rattle.server.proofs.Owned.{eight-places}
 use Rattle.server.proofs.serve.append.Statement.{statement}
 use Rattle.server.proofs.serve.append.Tie as tie
 
@@ -17,15 +17,32 @@ mul-tags c = search needs
 array-set-from-tags : tie.Need-array-set-from-tags
 array-set-from-tags c = search needs
 
-add-t17 : tie.Need-add-t17
-add-t17 c = search needs
+mul-lengths : tie.Need-mul-lengths
+mul-lengths c = search needs
+
+array-write-lengths : tie.Need-array-write-lengths
+array-write-lengths c = search needs
+
+add-t21 : tie.Need-add-t21
+add-t21 c = search needs
 
 same-length : tie.Need-same-length
 same-length c = search needs
 
 returns : tie.Need-returns
 unfolding appended
-returns c = record { state = refl; store = c .before .before .before .put .ensures; eight = sym (length-map (c .before .before .before .before .before .before .before .before .before .before .before .args .s .tags) _) ∙ c .before .before .before .before .before .before .before .before .before .before .before .good .1 .0 .1 .1 .1 .1 .1 .1 .0 .1 .0 .1 }
+returns c = record { state = refl; store = c .before .before .before .put .ensures; eight = eight-places (c .before .before .before .before .before .before .before .before .before .before .before .before .args .s) _ (c .before .before .before .before .before .before .before .before .before .before .before .before .good .1 .0) }
 
 pub append-spec : {M : Type 1} → statement M
-append-spec = tie.close (tie.spec cast-count put-requires mul-tags array-set-from-tags add-t17 same-length returns)
+append-spec =
+    tie.close
+    (tie.spec
+    cast-count
+    put-requires
+    mul-tags
+    array-set-from-tags
+    mul-lengths
+    array-write-lengths
+    add-t21
+    same-length
+    returns)

@@ -18,7 +18,7 @@ returns : tie.Need-returns
 returns c =
     let s = c .before .before .before .before .before .before in
     let a = s .args in
-    keep-stored (a .cfg) (a .s) (a .t) _ _ (s .pre) _ (from-zero (a .t) (tagAt (a .s .tags)) (a .s .count) _ (c .before .place-of .ensures)) (c .if1 .taken)
+    keep-stored (a .cfg) (a .s) (a .t) (a .length) _ _ (s .pre) _ (from-zero (a .t) (tagAt (a .s .tags)) (a .s .count) _ (c .before .place-of .ensures)) (c .if1 .taken)
 
 at-or-below-requires : tie.Need-at-or-below-requires
 at-or-below-requires c κs = search needs
@@ -27,14 +27,14 @@ returns-2 : tie.Need-returns-2
 returns-2 c =
     let s = c .before .before .before .before .before .before .before .before in
     let a = s .args in
-    keep-below (a .cfg) (a .s) (a .t) _ _ (s .pre) _ (from-zero (a .t) (tagAt (a .s .tags)) (a .s .count) _ (c .before .before .before .place-of .ensures)) (c .before .before .if1 .left)
+    keep-below (a .cfg) (a .s) (a .t) (a .length) _ _ (s .pre) _ (from-zero (a .t) (tagAt (a .s .tags)) (a .s .count) _ (c .before .before .before .place-of .ensures)) (c .before .before .if1 .left)
     (sym (c .before .at-or-below .ensures) ∙ c .if2 .taken)
 
 append-requires : tie.Need-append-requires
 append-requires c κs =
     let s = c .before .before .before .before .before .before .before .before .before .before .before in
     let a = s .args in
-    room-append (a .cfg) (a .s) (a .t) _ _ (s .pre) _ (from-zero (a .t) (tagAt (a .s .tags)) (a .s .count) _ (c .before .before .before .before .before .before .place-of .ensures)) (c .before .before .before .before .before .if1 .left)
+    room-append (a .cfg) (a .s) (a .t) (a .length) _ _ (s .pre) _ (from-zero (a .t) (tagAt (a .s .tags)) (a .s .count) _ (c .before .before .before .before .before .before .place-of .ensures)) (c .before .before .before .before .before .if1 .left)
     (sym (c .before .before .before .before .at-or-below .ensures) ∙ c .before .before .before .if2 .left) (c .before .if3 .taken)
 
 same-length : tie.Need-same-length
@@ -44,14 +44,14 @@ returns-3 : tie.Need-returns-3
 returns-3 c =
     let s = c .before .before .before .before .before .before .before .before .before .before .before .before .before .before in
     let a = s .args in
-    keep-append (a .cfg) (a .s) (a .t) _ _ (s .pre) _ (from-zero (a .t) (tagAt (a .s .tags)) (a .s .count) _ (c .before .before .before .before .before .before .before .before .before .place-of .ensures)) (c .before .before .before .before .before .before .before .before .if1 .left)
+    keep-append (a .cfg) (a .s) (a .t) (a .length) _ _ (s .pre) _ (from-zero (a .t) (tagAt (a .s .tags)) (a .s .count) _ (c .before .before .before .before .before .before .before .before .before .place-of .ensures)) (c .before .before .before .before .before .before .before .before .if1 .left)
     (sym (c .before .before .before .before .before .before .before .at-or-below .ensures) ∙ c .before .before .before .before .before .before .if2 .left) (c .before .before .before .before .if3 .taken) _ _ (c .before .before .append .ensures)
 
 drop-smallest-requires : tie.Need-drop-smallest-requires
 drop-smallest-requires c κs =
     let s = c .before .before .before .before .before .before .before .before .before .before .before in
     let a = s .args in
-    room-drop (a .cfg) (a .s) (a .t) _ _ (s .pre) _ (from-zero (a .t) (tagAt (a .s .tags)) (a .s .count) _ (c .before .before .before .before .before .before .place-of .ensures)) (c .before .before .before .before .before .if1 .left)
+    room-drop (a .cfg) (a .s) (a .t) (a .length) _ _ (s .pre) _ (from-zero (a .t) (tagAt (a .s .tags)) (a .s .count) _ (c .before .before .before .before .before .before .place-of .ensures)) (c .before .before .before .before .before .if1 .left)
     (sym (c .before .before .before .before .at-or-below .ensures) ∙ c .before .before .before .if2 .left)
 
 same-length-2 : tie.Need-same-length-2
@@ -61,7 +61,7 @@ returns-4 : tie.Need-returns-4
 returns-4 c =
     let s = c .before .before .before .before .before .before .before .before .before .before .before .before .before .before in
     let a = s .args in
-    keep-drop (a .cfg) (a .s) (a .t) _ _ (s .pre) _ (from-zero (a .t) (tagAt (a .s .tags)) (a .s .count) _ (c .before .before .before .before .before .before .before .before .before .place-of .ensures)) (c .before .before .before .before .before .before .before .before .if1 .left)
+    keep-drop (a .cfg) (a .s) (a .t) (a .length) _ _ (s .pre) _ (from-zero (a .t) (tagAt (a .s .tags)) (a .s .count) _ (c .before .before .before .before .before .before .before .before .before .place-of .ensures)) (c .before .before .before .before .before .before .before .before .if1 .left)
     (sym (c .before .before .before .before .before .before .before .at-or-below .ensures) ∙ c .before .before .before .before .before .before .if2 .left) (c .before .before .before .before .if3 .left) _ _ (c .before .before .drop-smallest .ensures)
 
 pub keep-spec : {M : Type 1} → statement M

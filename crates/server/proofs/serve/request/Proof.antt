@@ -11,6 +11,7 @@ use Rattle.record.specs.Record.{elementIn, highestNumber}
 use Rattle.server.specs.declared.State.{State}
 use Rattle.server.specs.Calls.{raised}
 use Rattle.server.specs.inner.Keep.{KeepPost}
+use Rattle.server.proofs.Answering.{bare-post}
 use Rattle.server.proofs.Stepping.{finalising, pre-write-reply, query-reply, serve-pre-write, serve-query, serve-read, serve-write, steps-misdirected, tag-in, write-reply}
 use Rattle.server.proofs.serve.request.Statement.{statement}
 use Rattle.server.proofs.serve.request.Tie as tie
@@ -27,18 +28,21 @@ element-is cfg bs = let n : (16 + cfg .e) - 16 ≡ cfg .e = omega arith in ap (�
 element-long : (cfg : Config) (bs : List ℕ) → length bs ≡ 80 → cfg .e ≤ 64 → length (take ((16 + cfg .e) - 16) (drop 16 bs)) ≡ cfg .e
 element-long cfg bs e high = length-take ((16 + cfg .e) - 16) (drop 16 bs) ∙ omega (arith, length-drop 16 bs)
 
-keep-element : (cfg : Config) (s : State) (t : Tag) (bs store after : List ℕ) (r : State) → KeepPost cfg s t (take ((16 + cfg .e) - 16) (drop 16 bs)) store after r
-    → KeepPost cfg s t (elementIn cfg bs) store after r
-keep-element cfg s t bs store after r k = subst (λ (l : List ℕ). KeepPost cfg s t l store after r) (element-is cfg bs) k
+keep-element : (cfg : Config) (s : State) (t : Tag) (n : ℕ) (bs store after : List ℕ) (r : State)
+    → KeepPost cfg s t n (take ((16 + cfg .e) - 16) (drop 16 bs)) store after r → KeepPost cfg s t n (elementIn cfg bs) store after r
+keep-element cfg s t n bs store after r k = subst (λ (l : List ℕ). KeepPost cfg s t n l store after r) (element-is cfg bs) k
 
 enum-told : tie.Need-enum-told
 enum-told c = search needs
 
+bare-requires : tie.Need-bare-requires
+bare-requires c κs = search needs
+
 respond-requires : tie.Need-respond-requires
 respond-requires c κs =
-    let s = c .before .before .before .before .before .before .before .before in
+    let s = c .before .before .before .before .before .before .before .before .before in
     let n : s .args .s .highest .number ≤ highestNumber = omega (arith, s .good .1 .0) in
-    query-reply (c .before .before .before .before .before .before .before .before .args .cfg) (c .before .before .before .before .before .before .before .before .args .s) (c .before .before .before .before .before .before .before .before .args .h) (c .before .before .before .before .before .before .before .before .args .handed .now) (c .before .before .before .before .before .before .before .before .args .store .now) (c .before .before .before .before .before .before .before .before .args .answer .now) (s .pre) _ refl n _ (s .pre .answer-eighty)
+    query-reply (c .before .before .before .before .before .before .before .before .before .args .cfg) (c .before .before .before .before .before .before .before .before .before .args .s) (c .before .before .before .before .before .before .before .before .before .args .h) (c .before .before .before .before .before .before .before .before .before .args .handed .now) (c .before .before .before .before .before .before .before .before .before .args .store .now) (c .before .before .before .before .before .before .before .before .before .args .answer .now) (s .pre) _ refl n _ (c .before .bare .ensures) _ (s .pre .answer-eighty)
 
 enum-told-2 : tie.Need-enum-told-2
 enum-told-2 c = search needs
@@ -64,10 +68,13 @@ keep-requires c κs =
       allowed = tag-in (c .before .before .before .before .before .before .before .before .before .args .cfg) (c .before .before .before .before .before .before .before .before .before .args .s) (c .before .before .before .before .before .before .before .before .before .args .h) (c .before .before .before .before .before .before .before .before .before .args .handed .now) (c .before .before .before .before .before .before .before .before .before .args .store .now) (c .before .before .before .before .before .before .before .before .before .args .answer .now) (s .pre);
     }
 
+bare-requires-2 : tie.Need-bare-requires-2
+bare-requires-2 c κs = search needs
+
 respond-requires-2 : tie.Need-respond-requires-2
 respond-requires-2 c κs =
-    let s = c .before .before .before .before .before .before .before .before .before .before .before .before .before in
-    pre-write-reply (c .before .before .before .before .before .before .before .before .before .before .before .before .before .args .cfg) (c .before .before .before .before .before .before .before .before .before .before .before .before .before .args .s) (c .before .before .before .before .before .before .before .before .before .before .before .before .before .args .h) (c .before .before .before .before .before .before .before .before .before .before .before .before .before .args .handed .now) (c .before .before .before .before .before .before .before .before .before .before .before .before .before .args .store .now) (c .before .before .before .before .before .before .before .before .before .before .before .before .before .args .answer .now) (s .pre) _ (c .before .before .before .keep .ensures .me) (c .before .before .before .before .before .before .before .enum-told2 .given .1) _ (s .pre .answer-eighty)
+    let s = c .before .before .before .before .before .before .before .before .before .before .before .before .before .before in
+    pre-write-reply (c .before .before .before .before .before .before .before .before .before .before .before .before .before .before .args .cfg) (c .before .before .before .before .before .before .before .before .before .before .before .before .before .before .args .s) (c .before .before .before .before .before .before .before .before .before .before .before .before .before .before .args .h) (c .before .before .before .before .before .before .before .before .before .before .before .before .before .before .args .handed .now) (c .before .before .before .before .before .before .before .before .before .before .before .before .before .before .args .store .now) (c .before .before .before .before .before .before .before .before .before .before .before .before .before .before .args .answer .now) (s .pre) _ (c .before .before .before .before .keep .ensures .me) (c .before .before .before .before .before .before .before .before .enum-told2 .given .1) _ (c .before .bare2 .ensures) _ (s .pre .answer-eighty)
 
 enum-told-3 : tie.Need-enum-told-3
 enum-told-3 c = search needs
@@ -75,10 +82,13 @@ enum-told-3 c = search needs
 raise-requires : tie.Need-raise-requires
 raise-requires c κs = search needs
 
+bare-requires-3 : tie.Need-bare-requires-3
+bare-requires-3 c κs = search needs
+
 respond-requires-3 : tie.Need-respond-requires-3
 respond-requires-3 c κs =
-    let s = c .before .before .before .before .before .before .before .before in
-    write-reply (c .before .before .before .before .before .before .before .before .args .cfg) (c .before .before .before .before .before .before .before .before .args .s) (c .before .before .before .before .before .before .before .before .args .h) (c .before .before .before .before .before .before .before .before .args .handed .now) (c .before .before .before .before .before .before .before .before .args .store .now) (c .before .before .before .before .before .before .before .before .args .answer .now) (s .pre) _ (me-same (s .args .s) (s .args .h .tag) (c .before .raise .ensures)) (c .before .before .enum-told3 .given .1) _ (s .pre .answer-eighty)
+    let s = c .before .before .before .before .before .before .before .before .before in
+    write-reply (c .before .before .before .before .before .before .before .before .before .args .cfg) (c .before .before .before .before .before .before .before .before .before .args .s) (c .before .before .before .before .before .before .before .before .before .args .h) (c .before .before .before .before .before .before .before .before .before .args .handed .now) (c .before .before .before .before .before .before .before .before .before .args .store .now) (c .before .before .before .before .before .before .before .before .before .args .answer .now) (s .pre) _ (me-same (s .args .s) (s .args .h .tag) (c .before .before .raise .ensures)) (c .before .before .before .enum-told3 .given .1) _ (c .before .bare3 .ensures) _ (s .pre .answer-eighty)
 
 enum-told-4 : tie.Need-enum-told-4
 enum-told-4 c = search needs
@@ -114,7 +124,7 @@ same-length : tie.Need-same-length
 same-length c = search needs
 
 returns : tie.Need-returns
-returns c = serve-query (c .before .before .before .before .before .before .before .before .before .before .before .args .cfg) (c .before .before .before .before .before .before .before .before .before .before .before .args .s) (c .before .before .before .before .before .before .before .before .before .before .before .args .h) (c .before .before .before .before .before .before .before .before .before .before .before .args .handed .now) (c .before .before .before .before .before .before .before .before .before .before .before .args .store .now) (c .before .before .before .before .before .before .before .before .before .before .before .args .answer .now) (c .before .before .before .before .before .before .before .before .before .before .before .pre) (c .before .before .before .before .before .enum-told .given .1) _ _ (c .before .before .respond .ensures)
+returns c = serve-query (c .before .before .before .before .before .before .before .before .before .before .before .before .args .cfg) (c .before .before .before .before .before .before .before .before .before .before .before .before .args .s) (c .before .before .before .before .before .before .before .before .before .before .before .before .args .h) (c .before .before .before .before .before .before .before .before .before .before .before .before .args .handed .now) (c .before .before .before .before .before .before .before .before .before .before .before .before .args .store .now) (c .before .before .before .before .before .before .before .before .before .before .before .before .args .answer .now) (c .before .before .before .before .before .before .before .before .before .before .before .before .pre) (c .before .before .before .before .before .before .enum-told .given .1) _ _ (bare-post (c .before .before .before .before .before .before .before .before .before .before .before .before .args .cfg) (c .before .before .before .before .before .before .before .before .before .before .before .before .args .s .me) (c .before .before .before .before .before .before .before .before .before .before .before .before .args .h) QueryAnswer (c .before .before .before .before .before .before .before .before .before .before .before .before .args .s .highest) _ (c .before .before .before .before .bare .ensures) (c .before .before .before .before .before .before .before .before .before .before .before .before .args .answer .now) (c .before .before .before .before .before .before .before .before .before .before .before .before .args .s) _ _ (c .before .before .respond .ensures))
 
 same-length-2 : tie.Need-same-length-2
 same-length-2 c = search needs
@@ -124,16 +134,16 @@ same-length-3 c = search needs
 
 returns-2 : tie.Need-returns-2
 returns-2 c =
-    let s = c .before .before .before .before .before .before .before .before .before .before .before .before .before .before .before .before in
-    serve-pre-write (c .before .before .before .before .before .before .before .before .before .before .before .before .before .before .before .before .args .cfg) (c .before .before .before .before .before .before .before .before .before .before .before .before .before .before .before .before .args .s) (c .before .before .before .before .before .before .before .before .before .before .before .before .before .before .before .before .args .h) (c .before .before .before .before .before .before .before .before .before .before .before .before .before .before .before .before .args .handed .now) (c .before .before .before .before .before .before .before .before .before .before .before .before .before .before .before .before .args .store .now) (c .before .before .before .before .before .before .before .before .before .before .before .before .before .before .before .before .args .answer .now) (s .pre) (c .before .before .before .before .before .before .before .before .before .before .enum-told2 .given .1) _ _
-    (keep-element (s .args .cfg) (s .args .s) (s .args .h .tag) (s .args .handed .now) _ _ _ (c .before .before .before .before .before .before .keep .ensures)) _ _ (c .before .before .respond2 .ensures)
+    let s = c .before .before .before .before .before .before .before .before .before .before .before .before .before .before .before .before .before in
+    serve-pre-write (c .before .before .before .before .before .before .before .before .before .before .before .before .before .before .before .before .before .args .cfg) (c .before .before .before .before .before .before .before .before .before .before .before .before .before .before .before .before .before .args .s) (c .before .before .before .before .before .before .before .before .before .before .before .before .before .before .before .before .before .args .h) (c .before .before .before .before .before .before .before .before .before .before .before .before .before .before .before .before .before .args .handed .now) (c .before .before .before .before .before .before .before .before .before .before .before .before .before .before .before .before .before .args .store .now) (c .before .before .before .before .before .before .before .before .before .before .before .before .before .before .before .before .before .args .answer .now) (s .pre) (c .before .before .before .before .before .before .before .before .before .before .before .enum-told2 .given .1) _ _
+    (keep-element (s .args .cfg) (s .args .s) (s .args .h .tag) (s .args .h .length) (s .args .handed .now) _ _ _ (c .before .before .before .before .before .before .before .keep .ensures)) _ _ (bare-post (c .before .before .before .before .before .before .before .before .before .before .before .before .before .before .before .before .before .args .cfg) (c .before .before .before .before .before .before .before .keep .result .me) (c .before .before .before .before .before .before .before .before .before .before .before .before .before .before .before .before .before .args .h) PreWriteAnswer (c .before .before .before .before .before .before .before .before .before .before .before .before .before .before .before .before .before .args .h .tag) _ (c .before .before .before .before .bare2 .ensures) (c .before .before .before .before .before .before .before .before .before .before .before .before .before .before .before .before .before .args .answer .now) (c .before .before .before .before .before .before .before .keep .result) _ _ (c .before .before .respond2 .ensures))
 
 same-length-4 : tie.Need-same-length-4
 same-length-4 c = search needs
 
 returns-3 : tie.Need-returns-3
 returns-3 c =
-    serve-write (c .before .before .before .before .before .before .before .before .before .before .before .args .cfg) (c .before .before .before .before .before .before .before .before .before .before .before .args .s) (c .before .before .before .before .before .before .before .before .before .before .before .args .h) (c .before .before .before .before .before .before .before .before .before .before .before .args .handed .now) (c .before .before .before .before .before .before .before .before .before .before .before .args .store .now) (c .before .before .before .before .before .before .before .before .before .before .before .args .answer .now) (c .before .before .before .before .before .before .before .before .before .before .before .pre) (c .before .before .before .before .before .enum-told3 .given .1) _ (c .before .before .before .before .raise .ensures) _ _ (c .before .before .respond3 .ensures)
+    serve-write (c .before .before .before .before .before .before .before .before .before .before .before .before .args .cfg) (c .before .before .before .before .before .before .before .before .before .before .before .before .args .s) (c .before .before .before .before .before .before .before .before .before .before .before .before .args .h) (c .before .before .before .before .before .before .before .before .before .before .before .before .args .handed .now) (c .before .before .before .before .before .before .before .before .before .before .before .before .args .store .now) (c .before .before .before .before .before .before .before .before .before .before .before .before .args .answer .now) (c .before .before .before .before .before .before .before .before .before .before .before .before .pre) (c .before .before .before .before .before .before .enum-told3 .given .1) _ (c .before .before .before .before .before .raise .ensures) _ _ (bare-post (c .before .before .before .before .before .before .before .before .before .before .before .before .args .cfg) (c .before .before .before .before .before .raise .result .me) (c .before .before .before .before .before .before .before .before .before .before .before .before .args .h) WriteFinaliseAnswer (c .before .before .before .before .before .before .before .before .before .before .before .before .args .h .tag) _ (c .before .before .before .before .bare3 .ensures) (c .before .before .before .before .before .before .before .before .before .before .before .before .args .answer .now) (c .before .before .before .before .before .raise .result) _ _ (c .before .before .respond3 .ensures))
 
 same-length-5 : tie.Need-same-length-5
 same-length-5 c = search needs
@@ -165,6 +175,7 @@ request-spec =
     tie.close
     (tie.spec
     enum-told
+    bare-requires
     respond-requires
     enum-told-2
     add-end
@@ -172,9 +183,11 @@ request-spec =
     part-keep-start
     part-keep-end
     keep-requires
+    bare-requires-2
     respond-requires-2
     enum-told-3
     raise-requires
+    bare-requires-3
     respond-requires-3
     enum-told-4
     read-finalise-requires

@@ -15,11 +15,11 @@ same-length c = search needs
 returns : tie.Need-returns
 unfolding withElement reply
 returns c =
-    let s = c .before .before .before .before .before .before .before in
+    let s = c .before .before .before .before .before .before .before .before in
     record {
       number = refl;
       state = refl;
-      answer = (was-written (s .args .cfg) _ _ (s .pre .valid) (s .pre .eighty) (s .pre .ofConfig) _ _ (c .before .before .write .ensures)) .1;
+      answer = (was-written (s .args .cfg) _ _ (s .pre .valid) (s .pre .eighty) (s .pre .ofConfig) (s .pre .fits) _ _ (c .before .before .write .ensures)) .1;
     }
 
 pub respond-spec : {M : Type 1} → statement M

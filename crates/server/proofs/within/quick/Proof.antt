@@ -18,7 +18,7 @@ use mathlib.Core.Bool.{and-true}
 use Rattle.server.specs.declared.Floor.{Floor}
 use Rattle.server.specs.declared.State.{State}
 use Rattle.server.specs.inner.Spread.{SpreadPost, floorFull, overFloor}
-use Rattle.server.specs.Within.{every, floorWithin, tagsWithin, stateWithin}
+use Rattle.server.specs.Within.{every, floorWithin, tagsWithin, numbersWithin}
 use Rattle.server.specs.View.{each, floorOf, tagAt, tagsUsed}
 use Rattle.server.proofs.Each.{length-each}
 use Rattle.server.proofs.within.quick.Statement.{statement}
@@ -34,8 +34,8 @@ full cfg (some f) ts n e h = rw (e, h) (sym (and-true (allowed (cfg .c) f && eqb
 by-full : (cfg : Config) (s : State) {me highest full : Bool}
     → me ≡ within 1 (cfg .n) (serverNumber (s .me)) → (not me ≡ false) → highest ≡ allowed (cfg .c) (s .highest) → (not highest ≡ false) → s .count ≤ cfg .d + 1
     → full ≡ floorFull cfg (floorOf (s .floor)) (s .count) → (not full ≡ false)
-    → (b : Bool) → SpreadPost (cfg .c) (floorOf (s .floor)) (tagsUsed s) b → b ≡ true → stateWithin cfg s ≡ true
-unfolding stateWithin tagsWithin all
+    → (b : Bool) → SpreadPost (cfg .c) (floorOf (s .floor)) (tagsUsed s) b → b ≡ true → numbersWithin cfg s ≡ true
+unfolding numbersWithin tagsWithin all
 by-full cfg s me me-yes highest highest-yes count floor floor-yes b h e =
     let long : length (tagsUsed s) ≡ s .count = length-each (tagAt (s .tags)) 0 (s .count) in
     rw (sym me ∙ not-false _ me-yes, sym highest ∙ not-false _ highest-yes, long, le-leb (s .count) (cfg .d + 1) count, h .limits e, h .differ e)

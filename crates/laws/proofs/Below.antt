@@ -1,12 +1,12 @@
 -- What is so of each place below n. Assumes nothing.
 use Prim.Native.Nat.{ℕ, zero, suc, _+_, _<_}
-use mathlib.Core.Path.{_≡_, refl, ap, ap₂, subst, _∙_}
-use mathlib.Core.Bool.{Bool, true, _&&_}
+use mathlib.Core.Path.{_≡_, refl, sym, ap, ap₂, subst, _∙_}
+use mathlib.Core.Bool.{Bool, true, false, _&&_}
 use native.Mathlib.Omega.{arith}
 use native.Mathlib.Decide.{decLt}
 use native.Mathlib.Numerals.{add-one}
+use Rattle.laws.specs.Below.{allBelow}
 use Rattle.laws.proofs.Bools.{and-left, and-right}
-use Rattle.events.specs.Questions.{allBelow}
 
 pub below-at : (n : ℕ) (f : ℕ → Bool) → allBelow n f ≡ true → (i : ℕ) → i < n → f i ≡ true
 unfolding allBelow
@@ -20,6 +20,14 @@ pub below-all : (n : ℕ) (f : ℕ → Bool) → ((i : ℕ) → i < n → f i �
 unfolding allBelow
 below-all zero f h = refl
 below-all (suc n) f h = rw (below-all n f (λ i l. h i (omega (arith, l))), h n (omega arith))
+
+-- it is not so of all if of one it is not
+pub below-no : (n : ℕ) (f : ℕ → Bool) (i : ℕ) → i < n → f i ≡ false → allBelow n f ≡ false
+below-no n f i l e = go (allBelow n f) refl
+  where
+    go : (b : Bool) → allBelow n f ≡ b → b ≡ false
+    go true h = sym (below-at n f h i l) ∙ e
+    go false h = refl
 
 -- what is the same of each place is the same of all
 pub below-same : (n : ℕ) (f g : ℕ → Bool) → ((i : ℕ) → i < n → f i ≡ g i) → allBelow n f ≡ allBelow n g

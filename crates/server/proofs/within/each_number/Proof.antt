@@ -11,43 +11,43 @@ use Rattle.tag.specs.Tag.{allowed}
 use Rattle.record.specs.Record.{all}
 use mathlib.Core.Bool.{and-true}
 use Rattle.server.specs.declared.State.{State}
-use Rattle.server.specs.Within.{every, floorWithin, tagsWithin, once, stateWithin}
+use Rattle.server.specs.Within.{every, floorWithin, tagsWithin, once, numbersWithin}
 use Rattle.server.specs.View.{floorOf, tagAt, tagsUsed}
 use Rattle.server.proofs.Each.{length-each}
-use Rattle.server.proofs.within.state_within.Statement.{statement}
-use Rattle.server.proofs.within.state_within.Tie as tie
+use Rattle.server.proofs.within.each_number.Statement.{statement}
+use Rattle.server.proofs.within.each_number.Tie as tie
 
 -- the state's clauses, by the one that fails
 module _ (cfg : Config) (s : State) where
   long : length (tagsUsed s) ≡ s .count
   long = length-each (tagAt (s .tags)) 0 (s .count)
 
-  no-server : within 1 (cfg .n) (serverNumber (s .me)) ≡ false → false ≡ stateWithin cfg s
-  unfolding stateWithin
+  no-server : within 1 (cfg .n) (serverNumber (s .me)) ≡ false → false ≡ numbersWithin cfg s
+  unfolding numbersWithin
   no-server h = rw h
 
   module _ (me : within 1 (cfg .n) (serverNumber (s .me)) ≡ true) where
-    no-highest : allowed (cfg .c) (s .highest) ≡ false → false ≡ stateWithin cfg s
-    unfolding stateWithin tagsWithin all
+    no-highest : allowed (cfg .c) (s .highest) ≡ false → false ≡ numbersWithin cfg s
+    unfolding numbersWithin tagsWithin all
     no-highest h = rw (me, h)
 
     module _ (highest : allowed (cfg .c) (s .highest) ≡ true) where
-      no-count : cfg .d + 1 < s .count → false ≡ stateWithin cfg s
-      unfolding stateWithin tagsWithin all
+      no-count : cfg .d + 1 < s .count → false ≡ numbersWithin cfg s
+      unfolding numbersWithin tagsWithin all
       no-count h = rw (me, highest, long, lt-leb (s .count) (cfg .d + 1) h)
 
       module _ (count : s .count ≤ cfg .d + 1) where
-        no-tags : every (allowed (cfg .c)) (tagsUsed s) ≡ false → false ≡ stateWithin cfg s
-        unfolding stateWithin tagsWithin all
+        no-tags : every (allowed (cfg .c)) (tagsUsed s) ≡ false → false ≡ numbersWithin cfg s
+        unfolding numbersWithin tagsWithin all
         no-tags h = rw (me, highest, long, le-leb (s .count) (cfg .d + 1) count, h)
 
         module _ (tags : every (allowed (cfg .c)) (tagsUsed s) ≡ true) where
-          no-once : once (tagsUsed s) ≡ false → false ≡ stateWithin cfg s
-          unfolding stateWithin tagsWithin all
+          no-once : once (tagsUsed s) ≡ false → false ≡ numbersWithin cfg s
+          unfolding numbersWithin tagsWithin all
           no-once h = rw (me, highest, long, le-leb (s .count) (cfg .d + 1) count, tags, h)
 
-          by-floor : once (tagsUsed s) ≡ true → floorWithin cfg (floorOf (s .floor)) (tagsUsed s) ≡ stateWithin cfg s
-          unfolding stateWithin tagsWithin all
+          by-floor : once (tagsUsed s) ≡ true → floorWithin cfg (floorOf (s .floor)) (tagsUsed s) ≡ numbersWithin cfg s
+          unfolding numbersWithin tagsWithin all
           by-floor h =
               rw (me, highest, long, le-leb (s .count) (cfg .d + 1) count, tags, h) (sym (and-true (floorWithin cfg (floorOf (s .floor)) (tagsUsed s))))
 
@@ -100,8 +100,8 @@ returns-6 c =
     ∙ by-floor _ _ (sym (c .before .before .before .before .before .before .before .before .before .before .before .before .before .server-within .ensures) ∙ not-false _ (c .before .before .before .before .before .before .before .before .before .before .before .before .if1 .left)) (sym (c .before .before .before .before .before .before .before .before .before .before .allowed .ensures) ∙ not-false _ (c .before .before .before .before .before .before .before .before .before .if2 .left))
     (c .before .before .before .before .before .before .if3 .left) (sym (c .before .before .before .before .each-allowed .ensures) ∙ not-false _ (c .before .before .before .if4 .left)) (sym (c .before .before .once .ensures) ∙ not-false _ (c .before .if5 .left))
 
-pub state-within-spec : {M : Type 1} → statement M
-state-within-spec =
+pub each-number-spec : {M : Type 1} → statement M
+each-number-spec =
     tie.close
     (tie.spec
     server-within-requires

@@ -2,7 +2,7 @@
 -- one, and at most V; the lent buffer is a board's and has zeros past that length. Assumes nothing.
 use mathlib.Core.Path.{_≡_, refl, sym, ap, subst, _∙_}
 use mathlib.Core.Bool.{Bool, true, false, cond}
-use mathlib.Core.List.{List, [], _∷_, _++_, map}
+use mathlib.Core.List.{List, [], _∷_, _++_}
 use mathlib.Core.Option.{Option, none, some, Option·some-injective}
 use Prim.Native.Nat.{ℕ, zero, suc, _+_, _-_, _≤_}
 use native.Mathlib.Omega.{arith}
@@ -14,17 +14,14 @@ use Rattle.config.specs.declared.Config.{Config}
 use Rattle.config.specs.Config.{boardLength}
 use Rattle.config.specs.Questions.{firstNo}
 use Rattle.tag.specs.declared.Tag.{Tag}
-use Rattle.laws.specs.Bytes.{joined}
-use Rattle.code.specs.Decoded.{decodedPairs}
-use Rattle.code.proofs.Decoding.{length-decoded}
 use Rattle.record.specs.Element.{Element, elementWith}
 use Rattle.record.specs.Record.{elementIn, lengthAt, lengthFits, messageOf, presentAt, serverAt}
 use Rattle.record.proofs.Clauses.{its-fit}
 use Rattle.protocol.specs.Boards as boards
-use Rattle.protocol.specs.Boards.{Board, BoardMessage, bytesSent, decode, lowestLength}
+use Rattle.protocol.specs.Boards.{Board, BoardMessage, decode, lowestLength}
 use Rattle.protocol.specs.Client as protocol
 use Rattle.protocol.specs.Number.{pairOf, present, upd}
-use Rattle.protocol.proofs.Cut.{cut-past, length-cut}
+use Rattle.protocol.proofs.Decoded.{decode-whole, decode-zeros}
 use Rattle.client.specs.declared.Ended.{Ended}
 use Rattle.client.specs.declared.Ended.the-variants.{Read}
 use Rattle.client.specs.declared.Moved.{Moved}
@@ -102,16 +99,11 @@ module _ (cfg : Config) (x : State) (message : List ℕ) (l l′ : Lent) (r : Mo
       let d = decodes in
       let xs = lowestSent cfg x message l (d .1) in
       let long : n ≡ lowestLength xs = ap (λ (v : Board). v .length) (d .3) in
-      ap (λ (v : Board). getD (v .bytes) i 0) (d .3) ∙ cut-past (lowestLength xs) (decodedPairs cfg (map bytesSent xs)) i (omega (arith, long, past))
+      ap (λ (v : Board). getD (v .bytes) i 0) (d .3) ∙ decode-zeros cfg xs i (omega (arith, long, past))
 
   -- it is a board's buffer
   board-long : length (l′ .board) ≡ boardLength cfg
-  unfolding decodedPairs
-  board-long =
-      let d = decodes in
-      let xs = map bytesSent (lowestSent cfg x message l (d .1)) in
-      ap (λ (v : Board). length (v .bytes)) (d .3) ∙ length-cut (lowestLength (lowestSent cfg x message l (d .1))) (decodedPairs cfg xs)
-      ∙ length-decoded cfg (map (λ p. p .0) xs) (joined (map (λ p. p .1) xs))
+  board-long = let d = decodes in ap (λ (v : Board). length (v .bytes)) (d .3) ∙ decode-whole cfg (lowestSent cfg x message l (d .1))
 
   -- the record was taken
   taken : firstNo (stepQuestions cfg x message l) ≡ 0

@@ -89,7 +89,8 @@ fn said(answer: Answer, read: &[u8], out: &mut [u8], at: usize) -> usize
     }
 }
 
-// Puts an event's line into a buffer from a place on, and answers the place after it. The board of a read is as many of the bytes read as its length says.
+// Puts an event's line into a buffer from a place on, and answers the place after it. The board of a read is as many of the bytes read as its
+// length says.
 pub(crate) fn line(count: u64, answer: Answer, read: &[u8], out: &mut [u8], at: usize) -> usize
     requires { ⌜ at + (84 + 2 * length (now read)) ≤ length (now out) ⌝ }
     ensures { λ r. ⌜ Appended (now (out .entry)) at (lineOf count (answerOf answer (now (read .entry)))) (now (out .exit)) r × (r ≤ at + (84 + 2 * length (now (read .entry)))) ⌝ }

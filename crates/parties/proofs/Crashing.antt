@@ -9,7 +9,7 @@ use Rattle.config.specs.declared.Config.{Config}
 use Rattle.config.specs.declared.Refusal.{Refusal}
 use Rattle.config.specs.declared.Verdict.{Verdict}
 use Rattle.config.specs.Number.{clientNumber, serverNumber}
-use Rattle.config.specs.Questions.{ask, firstNo, within}
+use Rattle.config.specs.Questions.{ask, firstNo}
 use Rattle.config.specs.Refusal.{verdictNumber}
 use Rattle.config.proofs.Questions.{firstNo-no, firstNo-yes}
 use Rattle.server.specs.Within.{stateWithin as serverStateWithin}

@@ -15,7 +15,6 @@ use lib.Seq.{length-take-le}
 use Rattle.laws.proofs.Bools.{and-left, and-right}
 use Rattle.config.specs.declared.Config.{Config}
 use Rattle.config.specs.Config.{Valid, boardLength, storeLength}
-use Rattle.config.specs.Number.{clientNumber}
 use Rattle.config.specs.Questions.{within}
 use Rattle.config.proofs.Questions.{within-true}
 use Rattle.tag.specs.declared.Tag.{Tag}

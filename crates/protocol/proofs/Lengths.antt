@@ -6,7 +6,9 @@ use mathlib.Core.List.{List, [], _∷_, _++_}
 use lib.ListN.{replicate}
 use native.Mathlib.Omega.{arith}
 use Rattle.config.specs.declared.Config.{Config}
-use Rattle.config.specs.Config.{Valid}
+use Rattle.config.specs.Config.{questions}
+use Rattle.config.specs.Questions.{firstNo}
+use Rattle.config.proofs.Valid.{valid}
 use Rattle.laws.specs.Bytes.{Bytes, tabulate}
 use Rattle.tag.specs.declared.Tag.{Tag}
 use Rattle.tag.specs.Tag.{start}
@@ -55,20 +57,6 @@ pub empty : answers (writeThenRead 0) ≡ shows (record { length = 0; bytes = 0 
 unfolding answersTo cut decodedPairs decoded tabulate
 empty = refl
 
-valid : Valid config
-valid =
-    record {
-      n-low = omega arith;
-      n-high = omega arith;
-      k-low = omega arith;
-      k-high = omega arith;
-      d-high = omega arith;
-      e-low = omega arith;
-      e-high = omega arith;
-      c-low = omega arith;
-      c-high = omega arith;
-    }
-
 -- of length 1, whose one element is that of server 1
 abbrev seven : Board
 seven = boardOf 1 (7 ∷ [])
@@ -81,15 +69,15 @@ is-board = record { whole = length-cut 1 (7 ∷ []); fits = omega arith; filled 
     byte (suc i) = omega arith
 
 back : decode config ((1, encode config seven 1) ∷ []) ≡ seven
-unfolding ElementsOf Rising
-back = coding config valid .back seven is-board ((1, encode config seven 1) ∷ []) refl (omega arith, omega arith, tt) (refl, tt)
+unfolding ElementsOf Rising questions firstNo
+back = coding config (valid config refl) .back seven is-board ((1, encode config seven 1) ∷ []) refl (omega arith, omega arith, tt) (refl, tt)
 
 pub full : answers (writeThenRead 1) ≡ shows (record { length = 1; bytes = 7 ∷ [] })
 unfolding answersTo cut
 full = ap shows back
 
 -- N 3, k 2, E 1, and so q 3 and V 2. Client 1 reads: server 3 answers with length 2, then server 2 with length 1, and server 1 with length
--- 0. The first two are decoded from, and the length is that of server 1.
+-- 0. Servers 1 and 2 are decoded from, and the length is that of server 1.
 abbrev pair : Config
 pair = record { n = 3; k = 2; d = 0; e = 1; c = 2 }
 

@@ -140,7 +140,8 @@ module _ {Value : Type 0} where
   ShowsState leftOut state = Unit {0}
   ShowsState mismatched state = Unit {0}
 
-  -- The single board is fed the operations in an order: "Its state is V bytes, at first the starting board." A value is whatever it keeps and shows.
+  -- The single board is fed the operations in an order: "Its state is V bytes, at first the starting board." A value is whatever it keeps and
+  -- shows.
   unfoldable pub Shown : (ℕ → Operation Value) → Value → List ℕ → Type 0
   Shown operations state [] = Unit {0}
   Shown operations state (p ∷ ps) = ShowsState (operations p) state × Shown operations (after (operations p) state) ps

@@ -5,7 +5,7 @@ use mathlib.Core.Bool.{Bool, true, false, cond}
 use mathlib.Core.Option.{Option, none, some}
 use mathlib.Core.List.{List, [], _∷_, _++_}
 use lib.Dec.{eqb, leb, ltb}
-use lib.ListN.{length, take, drop, getElem?}
+use lib.ListN.{length, getElem?}
 use Rattle.config.specs.declared.Config.{Config}
 use Rattle.config.specs.Questions.{Question, ask, firstNo}
 use Rattle.tag.specs.declared.Tag.{Tag}

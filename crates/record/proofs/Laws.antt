@@ -12,7 +12,7 @@ use borrow.Author.Tests.{eq-eqb, eqb-true, le-leb, leb-true}
 use lib.Arith.{digits-div, digits-mod}
 use lib.Dec.{eqb, leb}
 use lib.ListN.{length, getD, take, drop, replicate, length-append, length-drop, length-replicate, take-append-drop}
-use lib.Seq.{drop-cons, drop-drop, getD-drop, getD-take, take-at, drop-at}
+use lib.Seq.{drop-cons, drop-drop, getD-drop, take-at, drop-at}
 use Rattle.config.specs.declared.Config.{Config}
 use Rattle.config.specs.Config.{Valid, boardLength}
 use Rattle.config.specs.Questions.{within}

@@ -1,4 +1,3 @@
-use borrow.Author.Needs.{needs}
 use native.Mathlib.Omega.{arith}
 use Rattle.config.proofs.Sizes.{board-small}
 use Rattle.record.proofs.rules.length_fits.Statement.{statement}

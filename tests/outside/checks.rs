@@ -1,5 +1,7 @@
 //! Checks of the model and of the search themselves.
 
+use crate::compare;
+use crate::directed;
 use crate::history::{self, History, Operation, fits, history, search};
 use crate::maker::{List, header};
 use crate::model::*;
@@ -19,8 +21,14 @@ pub fn all() -> usize {
         asked_lengths(),
         lowest_length(),
         lines_of_lengths(),
+        directed(),
+        cleared_record(),
+        cleared_awaited(),
+        asked_again(),
         spent(),
+        spent_read(),
         histories(),
+        histories_of_reads(),
         histories_of_lengths(),
         orders(),
         orders_of_lengths(),
@@ -112,22 +120,25 @@ fn server() -> Checks {
     let of = |byte| Piece { length: 1, element: [byte; 64] };
     let mut server = Server::fresh(of(0));
     let mut pre_write = |t: Tag| {
-        let answer = server.step(&config, &record(3, t, Some(of(7)))).unwrap();
+        let answer = server.step(&config, &record(3, t, Some(of(7))));
         assert_eq!((answer.kind, answer.tag, answer.piece), (4, t, None));
         (server.clone(), server.floor, server.stored[0].0)
     };
     let (_, first, _) = pre_write(tag(1, 1));
     let (_, second, _) = pre_write(tag(2, 1));
     let (mut server, third, kept) = pre_write(tag(1, 2));
-    let silent = server.step(&config, &record(7, tag(1, 1), None)).is_none();
+    let cleared = server.step(&config, &record(7, tag(1, 1), None));
     let moved = server.highest == tag(1, 1);
-    let without = server.step(&config, &record(7, tag(3, 1), None)).unwrap();
-    let query = server.step(&config, &Record { kind: 1, tag: START, ..without }).unwrap();
+    let without = server.step(&config, &record(7, tag(3, 1), None));
+    let query = server.step(&config, &Record { kind: 1, tag: START, ..without });
+    let mut fresh = Server::fresh(of(0));
+    let no_floor = fresh.step(&config, &record(7, tag(3, 1), None));
     vec![
         ("floors", [first, second, third] == [Some(START), Some(tag(1, 1)), Some(tag(1, 2))]),
         ("(1, 2) isn't stored", kept == tag(2, 1)),
-        ("15, and H has moved", silent && moved),
+        ("kind 9, and H has moved", cleared.kind == CLEARED && moved),
         ("answered without an element", without.kind == 8 && without.piece.is_none()),
+        ("so without a floor", no_floor.kind == 8 && no_floor.piece.is_none() && fresh.highest == tag(3, 1)),
         ("a query is answered with H", query.kind == 2 && query.tag == tag(3, 1)),
     ]
 }
@@ -381,6 +392,127 @@ fn lines_of_lengths() -> Checks {
     ]
 }
 
+/// Lists made for one point each, against the lines due.
+fn directed() -> Checks {
+    directed::all().into_iter().map(|made| (made.name, compare::lines(&made.list) == made.due)).collect()
+}
+
+/// The answer to a read finalise of (1, 2) by client 1, operation 259, where that tag is the floor.
+fn cleared_record() -> Checks {
+    let config = config(5, 3, 0, 1, 2, 64);
+    let piece = Piece { length: 3, element: [0; 64] };
+    let mut server = Server::fresh(piece);
+    let sent = Record { kind: 7, client: 1, server: 4, operation: 259, tag: tag(1, 2), piece: None };
+    for t in [tag(1, 2), tag(2, 2)] {
+        server.step(&config, &Record { kind: 3, client: 2, tag: t, piece: Some(piece), ..sent });
+    }
+    let cleared = server.step(&config, &sent);
+    let well_formed = |r: Record| r.well_formed(&config);
+    vec![
+        ("kind 9 names its server and repeats the rest", {
+            let begins = [9, 1, 4, 0, 3, 1, 0, 0, 1, 0, 0, 0, 2];
+            let bytes = laid_out(&cleared);
+            bytes.len() == 80 && bytes[..13] == begins && bytes[13..].iter().all(|b| *b == 0)
+        }),
+        ("kind 9 is a client's", !cleared.for_server()),
+        (
+            "kind 9 has any tag",
+            well_formed(cleared)
+                && well_formed(Record { tag: tag(1, 1), ..cleared })
+                && well_formed(Record { tag: START, ..cleared })
+                && !well_formed(Record { tag: tag(1, 3), ..cleared })
+                && !well_formed(Record { tag: tag(1, 0), ..cleared }),
+        ),
+        ("kind 9 has no element", !well_formed(Record { piece: Some(piece), ..cleared })),
+        ("there is no kind 10", !well_formed(Record { kind: 10, ..cleared })),
+    ]
+}
+
+/// A reader of (1, 2), operation 5, that has counted server 1.
+fn cleared_awaited() -> Checks {
+    let mut client = Client::fresh(1);
+    (client.phase, client.operation, client.tag) = (Phase::FinalisingRead, 5, tag(1, 2));
+    client.counted.push(1);
+    let r = Record { kind: CLEARED, client: 1, server: 2, operation: 5, tag: tag(1, 2), piece: None };
+    let other = |r| !client.awaits(&r);
+    let phases = [Phase::Idle, Phase::Asking, Phase::PreWriting, Phase::FinalisingWrite, Phase::Down];
+    vec![
+        ("kind 9 awaited", client.awaits(&r)),
+        ("kind 9 of a server counted", other(Record { server: 1, ..r })),
+        ("kind 9 of another tag", other(Record { tag: tag(1, 1), ..r }) && other(Record { tag: START, ..r })),
+        (
+            "kind 9 of another operation",
+            other(Record { operation: 4, ..r }) && other(Record { operation: 6, ..r }),
+        ),
+        (
+            "kind 9 in another phase",
+            phases.iter().all(|phase| !Client { phase: *phase, ..client.clone() }.awaits(&r)),
+        ),
+    ]
+}
+
+/// A read by client 1, whose operation number was this before, with so many in flight. The last of them is kind 9 of
+/// server 1; server 2 has sent its element and is counted.
+fn told(operation: u32, in_flight: usize) -> Rig {
+    let mut rig = Rig::make(programs::PROGRAM, &[0]).unwrap();
+    rig.clients[0].operation = operation;
+    event(&mut rig, 2, 1, 0).unwrap();
+    // Query 3 and three read finalises are left in flight, then without that of server 2.
+    [0, 0, 1, 1, 2, 3].iter().for_each(|position| _ = event(&mut rig, 3, 0, *position).unwrap());
+    let piece = Some(Piece { length: 1, element: [0; 64] });
+    let (client, server, operation) = (2, 1, 1);
+    let pre_write = Record { kind: PRE_WRITE, client, server, operation, tag: tag(1, 2), piece };
+    rig.servers[0].step(&programs::PROGRAM, &pre_write);
+    (4..=in_flight).for_each(|_| _ = event(&mut rig, 5, 0, 0).unwrap());
+    event(&mut rig, 3, 0, 1).unwrap();
+    rig
+}
+
+fn all_of(rig: &Rig) -> String {
+    format!("{:?} {:?} {:?}", rig.flight, rig.clients, rig.servers)
+}
+
+/// A read that has k elements asks again, if there is room for it: at most 64 are in flight.
+fn asked_again() -> Checks {
+    let mut rig = told(0, 62);
+    let due = rig.clients[0].awaits(&rig.flight[61]) && rig.clients[0].pieces.len() == 1;
+    let answer = event(&mut rig, 3, 0, 61);
+    let Client { phase, operation, board, tag, counted, pieces, .. } = &rig.clients[0];
+    let anew = *phase == Phase::Asking && *operation == 2 && board.is_none() && *tag == START;
+    let sent: Vec<_> = rig.flight[61..].iter().map(|r| (r.kind, r.client, r.server, r.operation)).collect();
+    let refused = [63, 64].map(|in_flight| {
+        let mut rig = told(0, in_flight);
+        let before = all_of(&rig);
+        event(&mut rig, 3, 0, in_flight - 1) == Err(13) && all_of(&rig) == before
+    });
+    vec![
+        ("asking again", due && answer == Ok(Answer::Nothing) && anew),
+        ("nobody is counted and no element kept", counted.is_empty() && pieces.is_empty()),
+        ("queries under the next number", sent == [(1, 1, 1, 2), (1, 1, 2, 2), (1, 1, 3, 2)]),
+        ("13 for kind 9, with everything as it was", refused == [true, true]),
+    ]
+}
+
+/// At operation number 4,294,967,295 there is no next one.
+fn spent_read() -> Checks {
+    let mut last = told(u32::MAX - 2, 4);
+    let accepted = event(&mut last, 3, 0, 3);
+    let mut full = told(u32::MAX - 1, 64);
+    let ended = event(&mut full, 3, 0, 63);
+    vec![
+        (
+            "the last number asks again",
+            accepted == Ok(Answer::Nothing)
+                && last.clients[0].operation == u32::MAX
+                && last.clients[0].phase == Phase::Asking
+                && last.flight.len() == 6,
+        ),
+        ("a read ends spent", ended == Ok(Answer::Spent(1)) && full.clients[0].phase == Phase::Idle),
+        ("and sends nothing, so there is no 13", full.flight.len() == 63),
+        ("and is the client's last", event(&mut full, 2, 1, 0) == Err(11)),
+    ]
+}
+
 /// A write that ends spent, by the model's own lines: the servers have finalised the last number.
 fn spent() -> Checks {
     let mut rig = Rig::make(programs::PROGRAM, &[0]).unwrap();
@@ -399,14 +531,15 @@ fn taken(events: &[(u8, u8, u8, u16)], named: &[u8], lines: &str) -> Option<(usi
     let (input, named) = (records.collect(), named.to_vec());
     let list = List { general: false, input, config: programs::PROGRAM, start: vec![0], named };
     let history = history(&list, lines).ok()?;
-    Some((history.operations.len(), search(&history).is_some()))
+    let order = search(&history).is_some_and(|order| fits(&history, &order));
+    Some((history.operations.len(), order))
 }
 
+const WRITE: (u8, u8, u8, u16) = (1, 1, 5, 1);
 const READ: (u8, u8, u8, u16) = (2, 2, 0, 0);
 const OTHER: (u8, u8, u8, u16) = (3, 0, 0, 0);
 
 fn histories() -> Checks {
-    const WRITE: (u8, u8, u8, u16) = (1, 1, 5, 1);
     let write_then_read = |named: &[u8], lines| taken(&[WRITE, OTHER, READ, OTHER], named, lines);
     let spent_then_read = |lines| write_then_read(&[0, 1, 0, 2], lines);
     vec![
@@ -431,9 +564,30 @@ fn histories() -> Checks {
                 "1 ok\n2 spent\n3 ok\n4 written 1 1\n5 ok\n6 read 1 1 06",
             ) == Some((2, true)),
         ),
-        ("spent ends no read", taken(&[READ, OTHER], &[0, 2], "1 ok\n2 spent").is_none()),
         ("spent with nothing open", taken(&[OTHER], &[1], "1 spent").is_none()),
         ("spent twice", taken(&[WRITE, OTHER, OTHER], &[0, 1, 1], "1 ok\n2 spent\n3 spent").is_none()),
+    ]
+}
+
+/// Reads that end spent, and one that the fourth event makes ask again.
+fn histories_of_reads() -> Checks {
+    vec![
+        ("a spent read is left out", taken(&[READ, OTHER], &[0, 2], "1 ok\n2 spent") == Some((0, true))),
+        (
+            "the client reads again after spent",
+            taken(&[READ, OTHER, READ, OTHER], &[0, 2, 0, 2], "1 ok\n2 spent\n3 ok\n4 read 0 0 00")
+                == Some((1, true)),
+        ),
+        ("written ends no read", taken(&[READ, OTHER], &[0, 2], "1 ok\n2 written 1 2").is_none()),
+        ("read ends no write", taken(&[WRITE, OTHER], &[0, 1], "1 ok\n2 read 0 0 00").is_none()),
+        (
+            "a read that asks again has begun once",
+            taken(
+                &[READ, WRITE, OTHER, OTHER, OTHER],
+                &[0, 0, 1, 0, 2],
+                "1 ok\n2 ok\n3 written 1 1\n4 ok\n5 read 0 0 00",
+            ) == Some((2, true)),
+        ),
     ]
 }
 

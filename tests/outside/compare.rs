@@ -1,5 +1,6 @@
 //! Compares the programs' lines with the model's, and searches the histories of those runs.
 
+use crate::directed;
 use crate::history::{History, fits, history, search, told_by_length};
 use crate::lists;
 use crate::maker::{List, Seen, never};
@@ -122,8 +123,12 @@ impl Printed {
     }
 }
 
-#[derive(Default)]
-struct Tally {
+/// The programs, where to keep inputs on which they differ, and what their runs came to.
+struct Runs<'a> {
+    board: &'a str,
+    simulate: &'a str,
+    directory: &'a str,
+    random: Random,
     lists: usize,
     events: usize,
     histories: usize,
@@ -132,26 +137,33 @@ struct Tally {
     failed: usize,
 }
 
-impl Tally {
-    fn report(&mut self, list: &List, name: &str, what: &str, directory: &str) {
+impl<'a> Runs<'a> {
+    fn new(seed: u64, directory: &'a str, board: &'a str, simulate: &'a str) -> Runs<'a> {
+        let (random, printed) = (Random::new(seed, u64::MAX - 1), Printed::default());
+        let (lists, events, histories, operations, failed) = (0, 0, 0, 0, 0);
+        Runs { board, simulate, directory, random, lists, events, histories, operations, printed, failed }
+    }
+
+    fn report(&mut self, list: &List, name: &str, what: &str) {
         self.failed += 1;
         let program = if list.general { "simulate" } else { "board" };
-        let kept = format!("{directory}/differs.{}.{program}", self.failed);
+        let kept = format!("{}/differs.{}.{program}", self.directory, self.failed);
         println!("FAILED: {name}: {what}\n  {:?}; input kept in {kept}", list.config);
         std::fs::write(kept, &list.input).expect("keeping the input");
     }
 
-    fn one(&mut self, list: &List, name: &str, path: &str, random: &mut Random, directory: &str) {
+    fn one(&mut self, list: &List, name: &str) {
         let expected = lines(list);
-        let printed = run(path, &list.input, random);
+        let printed =
+            run(if list.general { self.simulate } else { self.board }, &list.input, &mut self.random);
         self.lists += 1;
         self.events += list.named.len();
         let printed = match printed {
             Ok(printed) => printed,
-            Err(what) => return self.report(list, name, &what, directory),
+            Err(what) => return self.report(list, name, &what),
         };
         if let Some(what) = difference(&expected, &printed) {
-            return self.report(list, name, &what, directory);
+            return self.report(list, name, &what);
         }
         self.printed.note(list, &printed);
         if list.config.c <= SEARCHED && !list.named.is_empty() {
@@ -161,45 +173,69 @@ impl Tally {
                     self.operations += history.operations.len();
                     self.printed.told_by_length += told_by_length(&history);
                 }
-                Err(what) => self.report(list, name, &what, directory),
+                Err(what) => self.report(list, name, &what),
             }
         }
     }
-}
 
-/// So many lists of a seed, on both programs, up to so many failures.
-pub fn compare([seed, count, most]: [u64; 3], directory: &str, board: &str, simulate: &str) -> usize {
-    let (mut seen, mut tally) = (Seen::default(), Tally::default());
-    let random = &mut Random::new(seed, u64::MAX - 1);
-    println!("seed {seed}, {count} lists: {board} and {simulate}");
-    for number in 0..count {
-        let mut list = lists::list(seed, number, &mut seen);
-        let name = format!("seed {seed} list {number}");
-        tally.one(&list, &name, if list.general { simulate } else { board }, random, directory);
-        if !list.general && number % 4 == 0 {
-            // The program's configuration, by simulate.
-            list.general = true;
-            list.input.splice(0..0, [3, 1, 0, 1, 2, 64, 0, 0]);
-            tally.one(&list, &format!("{name} by simulate"), simulate, random, directory);
+    /// A list for `board`, by `simulate`.
+    fn by_simulate(&mut self, mut list: List, name: &str) {
+        list.general = true;
+        list.input.splice(0..0, [3, 1, 0, 1, 2, 64, 0, 0]);
+        self.one(&list, &format!("{name} by simulate"));
+    }
+
+    /// What they print counts for nothing but itself.
+    fn directed(&mut self) {
+        for directed::Directed { name, list, .. } in directed::all() {
+            let name = format!("directed list, {name}");
+            self.one(&list, &name);
+            if !list.general {
+                self.by_simulate(list, &name);
+            }
         }
-        if tally.failed as u64 >= most {
-            println!("stopped at {most}");
-            break;
+        self.printed = Printed::default();
+    }
+
+    /// So many lists of a seed, up to so many failures.
+    fn drawn(&mut self, seed: u64, count: u64, most: u64, seen: &mut Seen) {
+        for number in 0..count {
+            if self.failed as u64 >= most {
+                return println!("stopped at {most}");
+            }
+            let list = lists::list(seed, number, seen);
+            let name = format!("seed {seed} list {number}");
+            self.one(&list, &name);
+            if !list.general && number / lists::KINDS % 4 == 0 {
+                self.by_simulate(list, &name);
+            }
         }
     }
-    if tally.failed == 0 {
-        let long = lists::long(seed, programs::PROGRAM, false, 20_000, &mut seen);
-        tally.one(&long, &format!("seed {seed} long list"), board, random, directory);
+
+    fn long(&mut self, seed: u64, seen: &mut Seen) {
         let few = Config { n: 5, k: 2, d: 2, e: 2, c: 3, m: 512 };
         let all = Config { n: 16, k: 16, d: 2, e: 64, c: 3, m: 512 };
-        for (config, events) in [(few, 20_000), (all, 8_000)] {
-            let long = lists::long(seed, config, true, events, &mut seen);
-            tally.one(&long, &format!("seed {seed} long list by simulate"), simulate, random, directory);
+        for (config, general, events) in
+            [(programs::PROGRAM, false, 20_000), (few, true, 20_000), (all, true, 8_000)]
+        {
+            let list = lists::long(seed, config, general, events, seen);
+            self.one(&list, &format!("seed {seed} long list"));
         }
-        let full = lists::full(seed, &mut seen);
-        tally.one(&full, &format!("seed {seed} full list by simulate"), simulate, random, directory);
+        self.one(&lists::full(seed, seen), &format!("seed {seed} full list"));
     }
-    let Tally { lists, events, histories, operations, printed, mut failed } = tally;
+}
+
+/// Directed lists and so many of a seed, on both programs, up to so many failures.
+pub fn compare([seed, count, most]: [u64; 3], directory: &str, board: &str, simulate: &str) -> usize {
+    let mut seen = Seen::default();
+    let mut runs = Runs::new(seed, directory, board, simulate);
+    println!("seed {seed}, {count} lists: {board} and {simulate}");
+    runs.directed();
+    runs.drawn(seed, count, most, &mut seen);
+    if runs.failed == 0 {
+        runs.long(seed, &mut seen);
+    }
+    let Runs { lists, events, histories, operations, printed, mut failed, .. } = runs;
     println!("met: {seen:?}\nand: {printed:?}");
     let missing = [seen.missing(), printed.missing()].concat();
     if failed == 0 && (events < 200_000 || !missing.is_empty()) {
@@ -213,10 +249,11 @@ pub fn compare([seed, count, most]: [u64; 3], directory: &str, board: &str, simu
     failed
 }
 
-/// The model's own histories of adverse lists, up to the first without an order that fits.
+/// The model's own histories of adverse and clearing lists in turn, up to the first without an order that fits.
 pub fn search_all(seed: u64, count: u64) -> usize {
     for number in 0..count {
-        let list = lists::list(seed, lists::KINDS * number + lists::ADVERSE, &mut Seen::default());
+        let kind = if number % 2 == 0 { lists::ADVERSE } else { lists::CLEARING };
+        let list = lists::list(seed, lists::KINDS * number + kind, &mut Seen::default());
         if let Err(what) = ordered(&list, &lines(&list)) {
             let what: String = what.chars().take(60).collect();
             println!("seed {seed}: history {} of {count}: {what}", number + 1);

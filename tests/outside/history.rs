@@ -46,7 +46,7 @@ pub fn history(list: &List, lines: &str) -> Result<History, String> {
         } else if matches!(words[1], "written" | "spent" | "read") {
             let ended = open[client].take().ok_or(format!("nothing open for {client}: {line}"))?;
             let operation = &mut operations[ended];
-            if operation.write == (words[1] == "read") {
+            if words[1] != "spent" && operation.write == (words[1] == "read") {
                 return Err(format!("not the operation begun: {line}"));
             }
             operation.end = Some(time);

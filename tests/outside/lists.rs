@@ -5,9 +5,10 @@ use crate::model::Config;
 use crate::programs::PROGRAM;
 use crate::random::Random;
 
-/// Of three lists in turn one is for the program, one of any configuration and one adverse.
-pub const KINDS: u64 = 3;
+/// Of four lists in turn one is for the program, one of any configuration, one adverse and one clearing.
+pub const KINDS: u64 = 4;
 pub const ADVERSE: u64 = 2;
+pub const CLEARING: u64 = 3;
 
 /// List `number` of a seed.
 pub fn list(seed: u64, number: u64, seen: &mut Seen) -> List {
@@ -19,11 +20,16 @@ pub fn list(seed: u64, number: u64, seen: &mut Seen) -> List {
     let config = match kind {
         0 => PROGRAM,
         1 => any_config(random),
-        _ => small_config(random),
+        ADVERSE => small_config(random),
+        _ => clearing_config(random),
     };
-    let mood = if kind == ADVERSE { adverse(random, &config) } else { any_mood(random, &config) };
+    let mood = match kind {
+        ADVERSE => adverse(random, &config),
+        CLEARING => clearing(random, &config),
+        _ => any_mood(random, &config),
+    };
     let length = random.within(20, 40 + 80 * config.n).min(80_000 / config.v());
-    let noise = kind != ADVERSE && random.chance(50);
+    let noise = kind < ADVERSE && random.chance(50);
     let partial = if random.chance(250) { random.within(1, 5 + config.v()) } else { 0 };
     let partial = random.bytes(partial);
     let mut maker = Maker::new(random, seen, mood, config, kind != 0);
@@ -100,6 +106,26 @@ fn adverse(random: &mut Random, config: &Config) -> Mood {
         settle: true,
         ..any_mood(random, config)
     }
+}
+
+/// Out for reads that ask again: many writes at once, and messages that come late.
+fn clearing(random: &mut Random, config: &Config) -> Mood {
+    Mood {
+        begin: random.pick(&[100, 300]),
+        write: random.pick(&[400, 600]),
+        double: random.pick(&[0, 50, 400]),
+        crash_client: random.pick(&[0, 0, 3]),
+        junk: 10,
+        adverse: random.chance(600),
+        ..adverse(random, config)
+    }
+}
+
+/// Servers that keep one or two elements. Now and then there is room for little more than what two clients send.
+fn clearing_config(random: &mut Random) -> Config {
+    let Config { n, k, e, .. } = small_config(random);
+    let m = if random.chance(150) { random.within(3 * n, 8 * n) } else { 512 };
+    Config { n, k, d: random.pick(&[0, 0, 1]), e, c: random.within(3, 4), m }
 }
 
 /// Few servers, with room for all.

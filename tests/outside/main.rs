@@ -3,6 +3,7 @@
 
 mod checks;
 mod compare;
+mod directed;
 mod history;
 mod lists;
 mod maker;
@@ -11,7 +12,6 @@ mod programs;
 mod random;
 mod speed;
 
-use std::io::{self, BufReader, BufWriter, Write};
 use std::path::Path;
 use std::process::exit;
 
@@ -22,16 +22,10 @@ outside speed SEED DIRECTORY BOARD SIMULATE
 outside edit EDIT SOURCES DIRECTORY";
 
 fn main() {
+    if programs::main() {
+        return;
+    }
     let args: Vec<String> = std::env::args().collect();
-    let called = Path::new(&args[0]).file_name().unwrap_or_default();
-    let (mut input, mut out) =
-        (BufReader::with_capacity(1 << 16, io::stdin()), BufWriter::with_capacity(1 << 16, io::stdout()));
-    if called == "board" {
-        return ended(programs::board(&mut input, &mut out).and_then(|()| out.flush()));
-    }
-    if called == "simulate" {
-        return ended(programs::simulate(&mut input, &mut out).and_then(|()| out.flush()));
-    }
     let number = |i: usize| args.get(i).and_then(|a| a.parse().ok()).unwrap_or_else(|| usage());
     let word = |i: usize| args.get(i).map(String::as_str).unwrap_or_else(|| usage());
     let failed = match word(1) {
@@ -43,14 +37,6 @@ fn main() {
         _ => usage(),
     };
     exit(if failed == 0 { 0 } else { 1 })
-}
-
-/// A program stops where it can't read or write.
-fn ended(run: io::Result<()>) {
-    if let Err(why) = run {
-        eprintln!("{why}");
-        exit(1)
-    }
 }
 
 fn usage() -> ! {

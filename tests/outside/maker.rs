@@ -1,7 +1,8 @@
 //! Makes a list of events. The model runs along, so that a draw can name what is in flight.
 
-use crate::model::{Answer, Board, Client, Config, Phase, Record, Rig};
+use crate::model::{Answer, Board, CLEARED, Client, Config, Phase, READ_FINALISE, Record, Rig};
 use crate::random::Random;
+use std::collections::HashSet;
 
 /// What a program is handed, and what the model knows beyond the lines that it prints.
 pub struct List {
@@ -42,8 +43,32 @@ pub struct Seen {
     pub reads_of_a_long_part: usize,
     pub handed_to_crashed: usize,
     pub not_awaited: usize,
-    pub may_not_answer: usize,
     pub most_in_flight: usize,
+    pub cleared: Cleared,
+}
+
+/// What they have met of kind 9.
+#[derive(Default, Debug)]
+pub struct Cleared {
+    pub sent: usize,
+    /// How often reads asked again.
+    pub askings: usize,
+    /// Reads that asked again once at least, and twice at least.
+    pub asked_again: usize,
+    pub asked_twice: usize,
+    /// Reads that ended after one asking again, and after more.
+    pub ended_after_one: usize,
+    pub ended_after_more: usize,
+    /// Askings again with servers counted, with elements received and with k of them.
+    pub with_counted: usize,
+    pub with_elements: usize,
+    pub with_k_elements: usize,
+    /// Not awaited: late, handed over for the second time, of a server already counted.
+    pub late: usize,
+    pub doubled: usize,
+    pub of_a_counted: usize,
+    pub refused_13: usize,
+    pub handed_to_crashed: usize,
 }
 
 impl Seen {
@@ -68,10 +93,29 @@ impl Seen {
             ("reads of a length between 255 and V", self.reads_of_a_long_part),
             ("handed to a crashed party", self.handed_to_crashed),
             ("not awaited (14)", self.not_awaited),
-            ("may not answer (15)", self.may_not_answer),
             ("512 in flight", (self.most_in_flight == 512) as usize),
         ];
-        never(&counts)
+        [never(&counts), self.cleared.missing()].concat()
+    }
+}
+
+impl Cleared {
+    fn missing(&self) -> Vec<&'static str> {
+        never(&[
+            ("kind 9", self.sent),
+            ("reads that ask again", self.asked_again),
+            ("reads that ask again twice", self.asked_twice),
+            ("reads that end after asking again once", self.ended_after_one),
+            ("reads that end after asking again twice", self.ended_after_more),
+            ("asking again with servers counted", self.with_counted),
+            ("asking again with elements", self.with_elements),
+            ("asking again with k elements", self.with_k_elements),
+            ("a late kind 9", self.late),
+            ("a doubled kind 9", self.doubled),
+            ("kind 9 of a server already counted", self.of_a_counted),
+            ("13 for kind 9", self.refused_13),
+            ("kind 9 to a crashed client", self.handed_to_crashed),
+        ])
     }
 }
 
@@ -101,7 +145,7 @@ pub struct Mood {
     pub crashes: usize,
     /// Writes open at once, at most.
     pub writers: usize,
-    /// One operation at a time.
+    /// One operation at a time, but for reads that have asked again twice.
     pub alone: bool,
     pub order: Order,
     /// Each phase gets its messages through to a few servers drawn for it, before all others.
@@ -126,6 +170,10 @@ pub struct Maker<'a> {
     littered: bool,
     /// For each client: its operation and phase, and the servers that are quick in it, as bits.
     quick: Vec<(u32, Phase, usize)>,
+    /// How often each client's operation has asked again.
+    again: Vec<usize>,
+    /// Client, operation number and server of each kind 9 that made a read ask again.
+    heeded: HashSet<(u8, u32, u8)>,
 }
 
 impl<'a> Maker<'a> {
@@ -141,47 +189,93 @@ impl<'a> Maker<'a> {
         let rig = Rig::make(config, &start).expect("a configuration in range");
         let list = List { general, input, config, start, named: vec![] };
         let littered = random.chance(500);
-        Maker { random, seen, mood, rig, list, littered, quick: vec![(0, Phase::Idle, 0); config.c] }
+        let (quick, again) = (vec![(0, Phase::Idle, 0); config.c], vec![0; config.c]);
+        Maker { random, seen, mood, rig, list, littered, quick, again, heeded: HashSet::new() }
     }
 
     /// Puts an event in the list and has the model run it.
     fn put(&mut self, code: u8, party: u8, position: usize, bytes: &[u8], length: usize) {
-        self.note(code, position);
         self.list.input.extend([code, party]);
         self.list.input.extend((position as u16).to_le_bytes());
         self.list.input.extend(bytes);
         self.list.input.extend((length as u16).to_le_bytes());
+        self.seen.most_in_flight = self.seen.most_in_flight.max(self.rig.flight.len());
+        let handed = self.rig.flight.get(position).filter(|_| code == 3).copied();
+        let client = handed.map(|r| self.rig.clients[r.client as usize - 1].clone());
         let answer = self.rig.event(code, party, position, bytes, length);
+        if let (Some(r), Some(client)) = (handed, client) {
+            self.note_handed_over(&r, &client, &answer);
+        }
         match code {
             1 => self.note_write(&answer, party, &bytes[length.min(bytes.len())..]),
             2 => self.seen.begun_reads_with_a_length += (answer.is_ok() && length > bytes.len()) as usize,
             _ => self.note_read(&answer),
         }
-        let (met, named) = match answer {
-            Ok(Answer::Nothing) => (&mut self.seen.ok, 0),
-            Ok(Answer::Written(client, _)) => (&mut self.seen.written, client),
-            Ok(Answer::Read(client, ..)) => (&mut self.seen.read, client),
+        let met = match answer {
+            Ok(Answer::Nothing) => &mut self.seen.ok,
+            Ok(Answer::Written(..)) => &mut self.seen.written,
+            Ok(Answer::Read(..)) => &mut self.seen.read,
             Ok(Answer::Spent(_)) => unreachable!("no list is that long"),
             Err(number) => {
                 self.seen.refused_13_at_handing_over += (code == 3 && number == 13) as usize;
-                (&mut self.seen.refused[number as usize], 0)
+                &mut self.seen.refused[number as usize]
             }
         };
         *met += 1;
+        let named = answer.map_or(0, |answer| answer.client());
         self.list.named.push(named);
+        if named > 0 {
+            self.again[named as usize - 1] = 0;
+        }
     }
 
-    /// Notes what a message about to be handed over meets.
-    fn note(&mut self, code: u8, position: usize) {
-        self.seen.most_in_flight = self.seen.most_in_flight.max(self.rig.flight.len());
-        let Some(r) = self.rig.flight.get(position).filter(|_| code == 3) else { return };
-        let server = &self.rig.servers[r.server as usize - 1];
-        let client = &self.rig.clients[r.client as usize - 1];
-        let up = if r.for_server() { server.up } else { client.phase != Phase::Down };
-        let silent = up && r.kind == 7 && server.clone().step(&self.rig.config, r).is_none();
+    /// Notes what a message has met and led to, by its client before it.
+    fn note_handed_over(&mut self, r: &Record, client: &Client, answer: &Result<Answer, u8>) {
+        let server_up = self.rig.servers[r.server as usize - 1].up;
+        let up = if r.for_server() { server_up } else { client.phase != Phase::Down };
         self.seen.handed_to_crashed += !up as usize;
-        self.seen.may_not_answer += silent as usize;
         self.seen.not_awaited += (up && !r.for_server() && !client.awaits(r)) as usize;
+        match r.kind {
+            READ_FINALISE if up => {
+                let sent = self.rig.flight.last().map(|sent| sent.kind);
+                self.seen.cleared.sent += (sent == Some(CLEARED)) as usize;
+            }
+            CLEARED => self.note_cleared(r, client, answer),
+            _ => {}
+        }
+    }
+
+    /// Notes what a kind 9 has met.
+    fn note_cleared(&mut self, r: &Record, client: &Client, answer: &Result<Answer, u8>) {
+        let met = &mut self.seen.cleared;
+        let told = (r.client, r.operation, r.server);
+        if client.phase == Phase::Down {
+            met.handed_to_crashed += 1;
+        } else if client.awaits(r) && answer.is_ok() {
+            self.heeded.insert(told);
+            self.note_again(client);
+        } else if client.awaits(r) {
+            met.refused_13 += 1;
+        } else if client.phase == Phase::FinalisingRead && r.operation == client.operation {
+            met.of_a_counted += 1;
+        } else if self.heeded.contains(&told) {
+            met.doubled += 1;
+        } else {
+            met.late += 1;
+        }
+    }
+
+    /// Notes that a read asks again.
+    fn note_again(&mut self, client: &Client) {
+        let again = &mut self.again[client.number as usize - 1];
+        *again += 1;
+        let met = &mut self.seen.cleared;
+        met.askings += 1;
+        met.asked_again += (*again == 1) as usize;
+        met.asked_twice += (*again == 2) as usize;
+        met.with_counted += !client.counted.is_empty() as usize;
+        met.with_elements += !client.pieces.is_empty() as usize;
+        met.with_k_elements += (client.pieces.len() >= self.rig.config.k) as usize;
     }
 
     /// Notes the bytes past a write's length, or that 19 comes before 8.
@@ -191,9 +285,12 @@ impl<'a> Maker<'a> {
         self.seen.writes_with_more_bytes += (answer.is_ok() && past.iter().any(|b| *b != 0)) as usize;
     }
 
-    /// Notes the length of a read that ends.
+    /// Notes the length of a read that ends, and whether it has asked again.
     fn note_read(&mut self, answer: &Result<Answer, u8>) {
-        let Ok(Answer::Read(_, _, Board { length, bytes })) = answer else { return };
+        let Ok(Answer::Read(client, _, Board { length, bytes })) = answer else { return };
+        let again = self.again[*client as usize - 1];
+        self.seen.cleared.ended_after_one += (again == 1) as usize;
+        self.seen.cleared.ended_after_more += (again > 1) as usize;
         self.seen.reads_of_length_0 += (*length == 0) as usize;
         self.seen.reads_of_a_part += (1..bytes.len()).contains(length) as usize;
         self.seen.reads_of_a_long_part += (256..bytes.len()).contains(length) as usize;
@@ -284,7 +381,7 @@ impl<'a> Maker<'a> {
     fn ready(&self, r: &Record) -> bool {
         let phases = [Phase::Asking, Phase::PreWriting, Phase::FinalisingWrite, Phase::FinalisingRead];
         let (operation, phase, quick) = self.quick[r.client as usize - 1];
-        let present = operation == r.operation && phase == phases[(r.kind as usize - 1) / 2];
+        let present = operation == r.operation && phase == phases[(r.kind as usize - 1).min(7) / 2];
         !self.mood.adverse || present && quick >> r.server & 1 == 1
     }
 
@@ -387,9 +484,10 @@ impl<'a> Maker<'a> {
             return;
         }
         let idle = self.clients(|client| client.phase == Phase::Idle);
-        let may_begin = !idle.is_empty() && (!mood.alone || idle.len() == up.len());
+        let busy = |client: &Client| !matches!(client.phase, Phase::Idle | Phase::Down);
+        let waits = |client: &Client| busy(client) && self.again[client.number as usize - 1] < 2;
+        let may_begin = !idle.is_empty() && (!mood.alone || self.clients(waits).is_empty());
         if may_begin && (!self.any_ready() || self.random.chance(mood.begin)) {
-            let busy = |client: &Client| !matches!(client.phase, Phase::Idle | Phase::Down);
             let writers = self.clients(|client| busy(client) && client.board.is_some());
             let write = writers.len() < mood.writers && self.random.chance(mood.write);
             let client = self.random.pick(&idle);
@@ -426,11 +524,13 @@ impl<'a> Maker<'a> {
         }
     }
 
-    /// What can't be handed over for lack of room is lost.
+    /// What can't be handed over for lack of room is lost. So is everything once reads have asked again three times
+    /// for each client: they could ask for ever.
     fn hand_over_all(&mut self) {
+        let most = self.seen.cleared.askings + 3 * self.rig.config.c;
         while !self.rig.flight.is_empty() {
             let refused = self.seen.refused_13_at_handing_over;
-            self.message(3);
+            self.message(if self.seen.cleared.askings < most { 3 } else { 4 });
             if self.seen.refused_13_at_handing_over > refused {
                 self.message(4);
             }

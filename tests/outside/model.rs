@@ -1,7 +1,8 @@
-//! An independent model of document 01 and of request L1 of document 02, from their text alone: field, code, server,
-//! client, rig.
+//! An independent model of document 01 and of requests L1 and L2 of document 02, from their text alone: field, code,
+//! server, client, rig.
 //! A refusal is `Err` with the number of the first question answered no.
 
+use std::collections::BTreeMap;
 use std::sync::LazyLock;
 
 // Configuration
@@ -152,8 +153,10 @@ pub const QUERY: u8 = 1;
 pub const PRE_WRITE: u8 = 3;
 pub const WRITE_FINALISE: u8 = 5;
 pub const READ_FINALISE: u8 = 7;
+/// Answers a read finalise whose element was cleared.
+pub const CLEARED: u8 = 9;
 
-/// The kind of an answer is 1 above that of what it answers.
+/// The kind of any other answer is 1 above that of what it answers.
 #[derive(Clone, Copy, Debug)]
 pub struct Record {
     pub kind: u8,
@@ -167,7 +170,7 @@ pub struct Record {
 
 impl Record {
     pub fn well_formed(&self, config: &Config) -> bool {
-        (1..=8).contains(&self.kind)
+        (1..=9).contains(&self.kind)
             && (1..=config.c).contains(&(self.client as usize))
             && (1..=config.n).contains(&(self.server as usize))
             && self.operation >= 1
@@ -181,7 +184,7 @@ impl Record {
     }
 
     pub fn for_server(&self) -> bool {
-        self.kind % 2 == 1
+        matches!(self.kind, QUERY | PRE_WRITE | WRITE_FINALISE | READ_FINALISE)
     }
 }
 
@@ -208,8 +211,8 @@ impl Server {
         self.floor.is_some_and(|floor| t <= floor)
     }
 
-    /// The answer, or nothing (15).
-    pub fn step(&mut self, config: &Config, r: &Record) -> Option<Record> {
+    /// The answer.
+    pub fn step(&mut self, config: &Config, r: &Record) -> Record {
         let mut answer = Record { kind: r.kind + 1, piece: None, ..*r };
         if matches!(r.kind, WRITE_FINALISE | READ_FINALISE) {
             self.highest = self.highest.max(r.tag);
@@ -220,12 +223,12 @@ impl Server {
             READ_FINALISE => {
                 answer.piece = self.stored(r.tag);
                 if answer.piece.is_none() && self.at_or_below_floor(r.tag) {
-                    return None;
+                    answer.kind = CLEARED;
                 }
             }
             _ => {}
         }
-        Some(answer)
+        answer
     }
 
     fn pre_write(&mut self, config: &Config, t: Tag, piece: Piece) {
@@ -258,6 +261,7 @@ pub enum Next {
     NotAwaited,
     Count,
     Send(Phase, Tag),
+    AskAgain,
     End(Answer),
 }
 
@@ -272,17 +276,17 @@ pub struct Client {
     pub tag: Tag,
     /// Servers counted in this phase.
     pub counted: Vec<u8>,
-    /// What was received with an element, and from which server.
-    pub pieces: Vec<(u8, Piece)>,
+    /// What was received with an element, by server.
+    pub pieces: BTreeMap<u8, Piece>,
 }
 
 impl Client {
     pub fn fresh(number: u8) -> Client {
         let (phase, operation) = (Phase::Idle, 0);
-        Client { number, phase, operation, board: None, tag: START, counted: vec![], pieces: vec![] }
+        Client { number, phase, operation, board: None, tag: START, counted: vec![], pieces: BTreeMap::new() }
     }
 
-    /// Question 14.
+    /// Question 14. Kind 9 is judged as a kind 8 is.
     pub fn awaits(&self, r: &Record) -> bool {
         let kind = match self.phase {
             Phase::Asking => 2,
@@ -291,7 +295,11 @@ impl Client {
             Phase::FinalisingRead => 8,
             Phase::Idle | Phase::Down => return false,
         };
-        r.kind == kind
+        let judged = match r.kind {
+            CLEARED => 8,
+            other => other,
+        };
+        judged == kind
             && r.operation == self.operation
             && !self.counted.contains(&r.server)
             && (kind == 2 || r.tag == self.tag)
@@ -300,6 +308,9 @@ impl Client {
     pub fn next(&self, config: &Config, r: &Record) -> Next {
         if !self.awaits(r) {
             return Next::NotAwaited;
+        }
+        if r.kind == CLEARED {
+            return self.next_of_cleared();
         }
         if self.counted.len() + 1 < config.q() {
             return Next::Count;
@@ -322,6 +333,10 @@ impl Client {
         }
     }
 
+    fn next_of_cleared(&self) -> Next {
+        if self.operation == u32::MAX { Next::End(Answer::Spent(self.number)) } else { Next::AskAgain }
+    }
+
     /// The length is that sent with the lowest server's element.
     fn next_of_read(&self, config: &Config, r: &Record) -> Next {
         let mut pieces = self.pieces.clone();
@@ -329,9 +344,8 @@ impl Client {
         if pieces.len() < config.k {
             return Next::Count;
         }
-        pieces.sort_by_key(|(server, _)| *server);
         let parts: Vec<_> = pieces.iter().map(|(server, piece)| (*server, piece.element)).collect();
-        let length = pieces[0].1.length as usize;
+        let length = pieces[&parts[0].0].length as usize;
         Next::End(Answer::Read(self.number, self.tag, Board::cut(&decode(config, &parts), length)))
     }
 
@@ -343,11 +357,17 @@ impl Client {
         }
     }
 
+    /// Queries under the next operation number, at a begin and when a read asks again.
+    fn query(&mut self, config: &Config, flight: &mut Vec<Record>) {
+        self.operation += 1;
+        self.pieces.clear();
+        self.enter(config, Phase::Asking, START, flight);
+    }
+
     /// Enters a phase and sends its records, in server order.
     fn enter(&mut self, config: &Config, phase: Phase, tag: Tag, flight: &mut Vec<Record>) {
-        (self.phase, self.tag) = (phase, tag);
         self.counted.clear();
-        self.pieces.clear();
+        (self.phase, self.tag) = (phase, tag);
         let kind = match phase {
             Phase::Asking => QUERY,
             Phase::PreWriting => PRE_WRITE,
@@ -372,6 +392,16 @@ pub enum Answer {
     Written(u8, Tag),
     Spent(u8),
     Read(u8, Tag, Board),
+}
+
+impl Answer {
+    /// The client named, or 0.
+    pub fn client(&self) -> u8 {
+        match self {
+            Answer::Nothing => 0,
+            Answer::Written(client, _) | Answer::Spent(client) | Answer::Read(client, ..) => *client,
+        }
+    }
 }
 
 pub struct Rig {
@@ -427,9 +457,8 @@ impl Rig {
         ask(client.phase == Phase::Idle, 10)?;
         ask(client.operation < u32::MAX, 11)?;
         ask(self.flight.len() + self.config.n <= self.config.m, 13)?;
-        client.operation += 1;
         client.board = write.map(|(bytes, length)| Board::cut(bytes, length));
-        client.enter(&self.config, Phase::Asking, START, &mut self.flight);
+        client.query(&self.config, &mut self.flight);
         Ok(Answer::Nothing)
     }
 
@@ -445,7 +474,7 @@ impl Rig {
         self.flight.remove(position);
         let server = &mut self.servers[r.server as usize - 1];
         if server.up {
-            self.flight.extend(server.step(&self.config, &r));
+            self.flight.push(server.step(&self.config, &r));
         }
         Ok(Answer::Nothing)
     }
@@ -453,13 +482,14 @@ impl Rig {
     fn to_client(&mut self, position: usize, r: Record) -> Result<Answer, u8> {
         let client = &mut self.clients[r.client as usize - 1];
         let next = client.next(&self.config, &r);
-        let sent = if let Next::Send(..) = next { self.config.n } else { 0 };
+        let sent = if matches!(next, Next::Send(..) | Next::AskAgain) { self.config.n } else { 0 };
         ask(self.flight.len() - 1 + sent <= self.config.m, 13)?;
         self.flight.remove(position);
         match next {
             Next::NotAwaited => {}
             Next::Count => client.count(&r),
             Next::Send(phase, tag) => client.enter(&self.config, phase, tag, &mut self.flight),
+            Next::AskAgain => client.query(&self.config, &mut self.flight),
             Next::End(answer) => {
                 client.phase = Phase::Idle;
                 return Ok(answer);

@@ -1,7 +1,30 @@
 //! The programs `board` and `simulate` over the model: bytes in, lines out.
 
 use crate::model::{Answer, Config, Rig, Tag};
-use std::io::{self, Read, Write};
+use std::io::{self, BufReader, BufWriter, Read, Write};
+use std::path::Path;
+use std::process::exit;
+
+/// Runs the program as which this one is called, if it is called as either.
+pub fn main() -> bool {
+    let path = std::env::args().next().unwrap_or_default();
+    let called = Path::new(&path).file_name().unwrap_or_default();
+    let input = &mut BufReader::with_capacity(1 << 16, io::stdin());
+    let out = &mut BufWriter::with_capacity(1 << 16, io::stdout());
+    let run = if called == "board" {
+        board(input, out)
+    } else if called == "simulate" {
+        simulate(input, out)
+    } else {
+        return false;
+    };
+    // A program stops where it can't read or write.
+    if let Err(why) = run.and_then(|()| out.flush()) {
+        eprintln!("{why}");
+        exit(1)
+    }
+    true
+}
 
 /// Fills the buffer as far as the input goes; the count of bytes read.
 fn take(input: &mut impl Read, buffer: &mut [u8]) -> io::Result<usize> {

@@ -1,4 +1,4 @@
--- A call's answer: refused, or moved; and a beginning. Assumes nothing.
+-- A call's answer: refused, or moved; a client that asks; and a beginning. Assumes nothing.
 use mathlib.Core.Path.{_≡_, refl, sym, ap, ap₂, _∙_}
 use mathlib.Core.Bool.{Bool, true, false, cond}
 use mathlib.Core.Option.{Option, none, some}
@@ -31,6 +31,7 @@ use Rattle.client.specs.inner.Send.{AnnouncePost, AnnouncePre, openingOf
 use Rattle.client.specs.inner.Settle.{Moves}
 use Rattle.client.proofs.Asked.{call-numbered, call-passed}
 use Rattle.client.proofs.Phases.{all-in, self-in, tag-within}
+use Rattle.client.proofs.Seen.{nothing-is}
 use Rattle.client.proofs.Sets.{member-zero}
 use Rattle.client.proofs.Settling.{announced, nobody-within, opens}
 
@@ -66,6 +67,32 @@ module _ (cfg : Config) (x : State) (before after : BoardClient) (move : BoardMo
         within = λ ok. s .within;
       }
 
+-- ---- asking
+
+-- a client within its limits that asks, in its next operation number, to write a board of a length that fits, or to read
+module _ (cfg : Config) (x : State) (ok : stateWithin cfg x ≡ true) (writes : Bool) (n : ℕ) (fits : cond writes (leb n (boardLength cfg)) true ≡ true) where
+  begun-within : stateWithin cfg (begunOf x writes n) ≡ true
+  unfolding phaseWithin lengthsWithin
+  begun-within = all-in cfg (begunOf x writes n) (self-in cfg x ok) (tag-within cfg start 0 refl (nobody-within (cfg .n))) fits
+
+  pub announces : Valid cfg → (board sends : List ℕ) → length sends ≡ 80 * cfg .n → AnnouncePre cfg (begunOf x writes n) board sends
+  announces v board sends room = record { valid = v; within = begun-within; operation = omega arith; own = tt; opens = tt; room = room }
+
+  -- it sends the protocol's queries, and keeps the board to write, where there is one
+  pub asks : (board : Option Board) (kept any es sends lent : List ℕ) {sends′ : List ℕ} {r : Moved} → cond writes (some (boardOf n kept)) none ≡ board
+      → AnnouncePost cfg (begunOf x writes n) any sends sends′ r
+      → Moves cfg (begunOf x writes n) (protocol.sendQueries cfg (clientNumber (x .me)) (x .operation + 1) board) kept es sends sends′ lent lent r
+  unfolding protocol.sendEach openingOf view phaseOf
+  asks board kept any es sends lent is post =
+      let queries : boards.BoardMoved = protocol.sendQueries cfg (clientNumber (x .me)) (x .operation + 1) board in
+      let begins : queries ≡ opens cfg (begunOf x writes n) kept es =
+      ap₂ (λ (b : Option Board) (f : ℕ → Bool). record {
+        client = record { operation = x .operation + 1; phase = protocol.asking b start f };
+        sends = queries .sends;
+        ended = protocol.nothing;
+      }) (sym is) (sym member-zero) in
+      rw begins (announced cfg (begunOf x writes n) kept es sends lent begun-within (record { move = post .move; out = post .out }))
+
 -- ---- begin
 
 -- the questions of a beginning: those of a call, and others, 9 to 11 among them
@@ -74,47 +101,24 @@ module _ (cfg : Config) (sized : Bool) (x : State) (others : List Question) wher
   beginning = callQuestions cfg sized x others
 
   module _ (pass : firstNo (callQuestions cfg sized x others) ≡ 0) where
-    passes : Valid cfg × (sized ≡ true) × (stateWithin cfg x ≡ true) × (firstNo others ≡ 0)
+    pub passes : Valid cfg × (sized ≡ true) × (stateWithin cfg x ≡ true) × (firstNo others ≡ 0)
     passes = call-passed cfg x sized others pass
 
-    pub is-sized : sized ≡ true
-    is-sized = passes .1
-
-    pub others-pass : firstNo others ≡ 0
-    others-pass = passes .3
-
-    begun-within : (writes : Bool) (n : ℕ) → cond writes (leb n (boardLength cfg)) true ≡ true → stateWithin cfg (begunOf x writes n) ≡ true
-    unfolding phaseWithin lengthsWithin
-    begun-within writes n fits =
-        all-in cfg (begunOf x writes n) (self-in cfg x (passes .2)) (tag-within cfg start 0 refl (nobody-within (cfg .n))) fits
-
-    pub announces : (writes : Bool) (n : ℕ) → cond writes (leb n (boardLength cfg)) true ≡ true → (board sends : List ℕ) → length sends ≡ 80 * cfg .n
-        → AnnouncePre cfg (begunOf x writes n) board sends
-    announces writes n fits board sends room =
-        record { valid = passes .0; within = begun-within writes n fits; operation = omega arith; own = tt; opens = tt; room = room }
-
     -- the queries are sent, and the board to write, where there is one, is kept
-    pub begun : (writes : Bool) (n : ℕ) → cond writes (leb n (boardLength cfg)) true ≡ true → (board : Option Board) (kept kept′ any es sends : List ℕ)
-        {sends′ : List ℕ} {r : Moved} → cond writes (some (boardOf n kept′)) none ≡ board → kept′ ≡ keeping board kept → n ≡ keepingLength board (x .length)
-        → AnnouncePost cfg (begunOf x writes n) any sends sends′ r → BeginPost cfg (firstNo (callQuestions cfg sized x others)) x board kept kept′ es sends sends′ r
-    unfolding protocol.beginClient protocol.sendEach openingOf view phaseOf
-    begun writes n fits board kept kept′ any es sends is same long post =
-        let before = view cfg x kept es in
-        let begins : boards.beginClient cfg (clientNumber (x .me)) before board ≡ opens cfg (begunOf x writes n) kept′ es =
-        ap₂ (λ (b : Option Board) (f : ℕ → Bool). record {
-          client = record { operation = x .operation + 1; phase = protocol.asking b start f };
-          sends = boards.beginClient cfg (clientNumber (x .me)) before board .sends;
-          ended = protocol.nothing;
-        }) (sym is) (sym member-zero) in
+    pub begun : (board : Option Board) (kept kept′ es sends : List ℕ) {y : State} {sends′ lent : List ℕ} {r : Moved} → y .me ≡ x .me
+        → y .length ≡ keepingLength board (x .length) → y .lengths ≡ x .lengths → kept′ ≡ keeping board kept
+        → Moves cfg y (protocol.sendQueries cfg (clientNumber (x .me)) (x .operation + 1) board) kept′ es sends sends′ lent lent r
+        → BeginPost cfg (firstNo (callQuestions cfg sized x others)) x board kept kept′ es sends sends′ r
+    unfolding protocol.beginClient view
+    begun board kept kept′ es sends {r = r} mine long same keeps s =
+        let is : eqb (firstNo beginning) 0 ≡ true = eq-eqb (firstNo beginning) 0 pass in
         record {
           answered =
-              rw begins
-              (moved cfg x before _ (opens cfg (begunOf x writes n) kept′ es) sends beginning pass kept′ es refl
-              (announced cfg (begunOf x writes n) kept′ es sends [] (begun-within writes n fits) (record { move = post .move; out = post .out })) refl);
-          nothing = ap (λ (m : Moved). m .ended) (post .move);
-          keeps = same ∙ rw (eq-eqb (firstNo beginning) 0 pass);
-          length = ap (λ (m : Moved). m .state .length) (post .move) ∙ long ∙ rw (eq-eqb (firstNo beginning) 0 pass);
-          lengths = ap (λ (m : Moved). m .state .lengths) (post .move);
+              moved cfg x (view cfg x kept es) _ (boards.beginClient cfg (clientNumber (x .me)) (view cfg x kept es) board) sends beginning pass kept′ es mine s refl;
+          nothing = nothing-is (r .ended) _ (s .ended);
+          keeps = keeps ∙ rw is;
+          length = s .same-length ∙ long ∙ rw is;
+          lengths = s .same-lengths ∙ same;
         }
 
   pub begin-refused : numbered others ≡ true → (board : Option Board) (kept es sends : List ℕ) {n : ℕ} {r : Moved}

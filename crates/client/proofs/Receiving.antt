@@ -2,9 +2,10 @@
 use mathlib.Core.Path.{_≡_, refl, sym, ap, _∙_}
 use mathlib.Core.Bool.{Bool, true, false, cond, _&&_}
 use mathlib.Core.List.{List, [], _∷_}
+use mathlib.Core.Option.{none}
 use Prim.Native.Nat.{ℕ, _*_, _≤_}
 use native.Mathlib.Omega.{arith}
-use borrow.Author.Tests.{eqb-true, leb-true}
+use borrow.Author.Tests.{eqb-true, leb-true, not-true}
 use lib.Dec.{eqb}
 use lib.ListN.{length}
 use Rattle.laws.proofs.Bools.{and-left, and-right}
@@ -14,15 +15,15 @@ use Rattle.config.specs.Config.{Valid, boardLength}
 use Rattle.config.specs.Number.{clientNumber}
 use Rattle.config.specs.Questions.{ask, firstNo, within}
 use Rattle.config.specs.Refusal.{refusalNumber}
-use Rattle.config.proofs.Questions.{yes-next}
+use Rattle.config.proofs.Questions.{within-high, yes-next}
 use Rattle.config.proofs.Refusals.{refusal-low}
 use Rattle.tag.specs.declared.Tag.{Tag}
-use Rattle.tag.specs.Tag.{key}
+use Rattle.tag.specs.Tag.{allowed, key}
 use Rattle.tag.proofs.Order.{same-one}
 use Rattle.record.specs.declared.Reading.{Reading}
 use Rattle.record.specs.Calls.{ReadPost}
 use Rattle.record.specs.Kinds.{isForClient}
-use Rattle.record.specs.Record.{clauses, kindAt, kindNumber, messageOf, operationAt, wellFormed}
+use Rattle.record.specs.Record.{clauses, kindAt, kindNumber, messageOf, operationAt, presentAt, wellFormed}
 use Rattle.record.proofs.Callers.{read-12, was-refused}
 use Rattle.record.proofs.Clauses.{clause, its-kind, its-tag, kind-number}
 use Rattle.protocol.specs.Boards.{BoardMessage, awaited}
@@ -38,6 +39,7 @@ use Rattle.client.specs.Servers.{member}
 use Rattle.client.specs.State.{phaseOf, phaseWithin, slots, tagWithin, toWrite, view}
 use Rattle.client.specs.inner.Questions.{Received, sized}
 use Rattle.client.proofs.Asked.{call-passed, call-rest}
+use Rattle.protocol.proofs.Judged.{awaits-it, first-kind, of-operation, of-tag}
 use Rattle.client.proofs.Phases.{phase-in, tag-in}
 use Rattle.client.proofs.Tags.{same-key, small}
 
@@ -96,16 +98,26 @@ module _ (cfg : Config) (x : State) (message : List ℕ) (l : Sizes) where
       let i = yes-next 16 (isFor x m) (ask 14 awaits ∷ []) (omega arith) (f .1) in
       (record { valid = p .0; within = p .2; lengths = p .1; well-formed = f .0; for-me = i .0 }, yes-next 14 awaits [] (omega arith) (i .1) .0)
 
+  -- an allowed tag that is compared equal to the record's is that
+  pub one-tag : Received cfg x message l → (t : Tag) → allowed (cfg .c) t ≡ true → sameKey key (m .tag) t ≡ true → m .tag ≡ t
+  unfolding messageOf
+  one-tag k t ok same =
+      same-one (m .tag) t (sym (same-key (m .tag) t (small cfg (k .valid) (m .tag) (its-tag cfg message (k .well-formed))) (small cfg (k .valid) t ok)) ∙ same)
+
+  -- a record of kind 9 "has no element"
+  pub cleared-bare : Received cfg x message l → protocol.isCleared (m .kind) ≡ true → m .element ≡ none
+  unfolding messageOf clauses
+  cleared-bare k told =
+      let is : kindAt message ≡ 9 = sym (kind-number (kindAt message) (its-kind cfg message (k .well-formed))) ∙ eqb-true (kindNumber (m .kind)) 9 told in
+      let present = clause cfg message 9 (k .well-formed) in
+      rw (not-true (presentAt message) (rw is at present))
+
   -- ---- what an awaited answer shows of a client: its operation was begun, and the tag of a write is its own
 
   module _ (k : Received cfg x message l) (kept es : List ℕ) (due : awaited cfg (view cfg x kept es) m ≡ true) where
-    same-operation : m .operation ≡ x .operation
-    unfolding protocol.awaited view
-    same-operation = eqb-true (m .operation) (x .operation) (and-left (eqb (m .operation) (x .operation)) (protocol.awaits key (phaseOf cfg (x .phase) (toWrite x kept) (slots x es)) m) due)
-
     pub operation-begun : 1 ≤ x .operation
-    unfolding messageOf clauses
-    operation-begun = omega (arith, same-operation, leb-true 1 (operationAt message) (clause cfg message 3 (k .well-formed)))
+    unfolding messageOf clauses view
+    operation-begun = omega (arith, of-operation key m (view cfg x kept es) due, leb-true 1 (operationAt message) (clause cfg message 3 (k .well-formed)))
 
     -- the tag of an answer of kinds 4 and 6 is the client's
     carried : (kind : ℕ) → within 3 6 kind ≡ true → kindNumber (m .kind) ≡ kind → m .tag .client ≡ clientNumber (x .me)
@@ -118,15 +130,10 @@ module _ (cfg : Config) (x : State) (message : List ℕ) (l : Sizes) where
 
     own-of : (kind : ℕ) (t : Tag) (counted : ℕ) → within 3 6 kind ≡ true → tagWithin cfg t counted ≡ true
         → (protocol.isFirst kind (member counted) m && sameKey key (m .tag) t) ≡ true → t .client ≡ clientNumber (x .me)
-    unfolding messageOf protocol.isFirst
     own-of kind t counted in-range w h =
-        let first = protocol.isFirst kind (member counted) m in
-        let one : m .tag ≡ t =
-        same-one (m .tag) t
-        (sym (same-key (m .tag) t (small cfg (k .valid) (m .tag) (its-tag cfg message (k .well-formed))) (small cfg (k .valid) t (tag-in cfg t counted w)))
-        ∙ and-right first (sameKey key (m .tag) t) h) in
-        sym (ap (λ (u : Tag). u .client) one)
-        ∙ carried kind in-range (eqb-true _ _ (and-left (eqb (kindNumber (m .kind)) kind) _ (and-left first (sameKey key (m .tag) t) h)))
+        let parts = of-tag key kind (member counted) m t h in
+        sym (ap (λ (u : Tag). u .client) (one-tag k t (tag-in cfg t counted w) (parts .1)))
+        ∙ carried kind in-range (first-kind kind (member counted) m (λ e. omega (arith, within-high 3 6 kind in-range)) (parts .0))
 
     own-in : (p : Phase) → phaseWithin cfg p ≡ true → protocol.awaits key (phaseOf cfg p (toWrite x kept) (slots x es)) m ≡ true → OwnTag (x .me) p
     unfolding phaseOf phaseWithin protocol.awaits
@@ -138,7 +145,5 @@ module _ (cfg : Config) (x : State) (message : List ℕ) (l : Sizes) where
     own-in Down w h = tt
 
     pub write-own : OwnTag (x .me) (x .phase)
-    unfolding protocol.awaited view
-    write-own =
-        own-in (x .phase) (phase-in cfg x (k .within))
-        (and-right (eqb (m .operation) (x .operation)) (protocol.awaits key (phaseOf cfg (x .phase) (toWrite x kept) (slots x es)) m) due)
+    unfolding view
+    write-own = own-in (x .phase) (phase-in cfg x (k .within)) (awaits-it key m (view cfg x kept es) due)

@@ -1,5 +1,5 @@
--- The phase of the code that the protocol sees: a phase is seen as no other is, and two states that are seen alike pass question 6 or
--- fail it alike. Assumes nothing.
+-- The phase of the code that the protocol sees: a phase is seen as no other is, nor is an end, and two states that are seen alike pass
+-- question 6 or fail it alike. Assumes nothing.
 use mathlib.Core.Path.{_≡_, refl, sym, ap, ap₂, _∙_}
 use mathlib.Core.Bool.{Bool, true, false, cond, _&&_}
 use mathlib.Core.Option.{Option, none, some}
@@ -18,9 +18,12 @@ use Rattle.tag.specs.declared.Tag.{Tag}
 use Rattle.record.specs.Element.{Element}
 use Rattle.protocol.specs.Boards.{Board, BoardClient, BoardPhase}
 use Rattle.protocol.specs.Client as protocol
+use Rattle.client.specs.declared.Ended.{Ended}
+use Rattle.client.specs.declared.Ended.the-variants.{Nothing, Written, Spent, Read}
 use Rattle.client.specs.declared.Phase.{Phase}
 use Rattle.client.specs.declared.Phase.the-variants.{Idle, Asking, PreWriting, FinalisingWrite, FinalisingRead, Down}
 use Rattle.client.specs.declared.State.{State}
+use Rattle.client.specs.Calls.{endedOf}
 use Rattle.client.specs.Quorum.{phaseNumber}
 use Rattle.client.specs.Servers.{member, sentBy}
 use Rattle.client.specs.State.{Slots, lengthsWithin, phaseOf, phaseWithin, received, slotAt, slots, stateWithin, toWrite, view}
@@ -33,7 +36,7 @@ module _ (cfg : Config) (board : Board) (es : Slots) where
   other : {p q : BoardPhase} → p ≡ q → (phaseNumber p ≡ phaseNumber q → ⊥) → ⊥
   other e n = n (ap phaseNumber e)
 
-  idle-is : (p : Phase) → phaseOf cfg p board es ≡ protocol.idle → p ≡ Idle
+  pub idle-is : (p : Phase) → phaseOf cfg p board es ≡ protocol.idle → p ≡ Idle
   unfolding phaseOf
   idle-is Idle e = refl
   idle-is (Asking writes best counted) e = absurd (other e (λ z. omega arith))
@@ -92,6 +95,22 @@ module _ (cfg : Config) (board : Board) (es : Slots) where
   down-is (FinalisingWrite tag counted) e = absurd (other e (λ z. omega arith))
   down-is (FinalisingRead tag counted sent) e = absurd (other e (λ z. omega arith))
   down-is Down e = refl
+
+-- ---- an end is seen as no other is
+
+pub nothing-is : (how : Ended) (bytes : List ℕ) → endedOf how bytes ≡ protocol.nothing → how ≡ Nothing
+nothing-is Nothing bytes e = refl
+nothing-is (Written t) bytes e = let z : _≡_ {A = ℕ} 0 1 = cc in absurd (omega arith)
+nothing-is Spent bytes e = let z : _≡_ {A = ℕ} 0 1 = cc in absurd (omega arith)
+nothing-is (Read t length) bytes e = let z : _≡_ {A = ℕ} 0 1 = cc in absurd (omega arith)
+
+pub spent-is : (how : Ended) (bytes : List ℕ) → endedOf how bytes ≡ protocol.spent → how ≡ Spent
+spent-is Nothing bytes e = let z : _≡_ {A = ℕ} 0 1 = cc in absurd (omega arith)
+spent-is (Written t) bytes e = let z : _≡_ {A = ℕ} 0 1 = cc in absurd (omega arith)
+spent-is Spent bytes e = refl
+spent-is (Read t length) bytes e = let z : _≡_ {A = ℕ} 0 1 = cc in absurd (omega arith)
+
+-- ---- two phases that are seen alike
 
 -- it writes or it doesn't
 pub writes-one : (v w : Board) (a b : Bool) → cond a (some v) none ≡ cond b (some w) none → a ≡ b

@@ -54,7 +54,7 @@ unfolding received sentBy
 nothing-received cfg es = fun-ext (λ s. rw (ap (λ (f : ℕ → Bool). f s) member-zero))
 
 -- a message to each of n servers is n messages
-length-toEach : {A : Type 0} (n : ℕ) (f : ℕ → A) → length (toEach n f) ≡ n
+pub length-toEach : {A : Type 0} (n : ℕ) (f : ℕ → A) → length (toEach n f) ≡ n
 unfolding toEach
 length-toEach zero f = refl
 length-toEach (suc n) f = length-append (toEach n f) (f (suc n) ∷ []) ∙ omega (arith, length-toEach n f)

@@ -6,7 +6,7 @@ use mathlib.Core.List.{List, [], _∷_, _++_}
 use mathlib.Core.Option.{Option, none, some, Option·some-injective}
 use Prim.Native.Nat.{ℕ, zero, suc, _+_, _-_, _≤_}
 use native.Mathlib.Omega.{arith}
-use borrow.Author.Tests.{eqb-true, leb-true}
+use borrow.Author.Tests.{leb-true}
 use lib.Dec.{eqb, leb}
 use lib.ListN.{length, getD, take}
 use Rattle.laws.proofs.Below.{below-at}
@@ -19,16 +19,14 @@ use Rattle.record.specs.Record.{elementIn, lengthAt, lengthFits, messageOf, pre
 use Rattle.record.proofs.Clauses.{its-fit}
 use Rattle.protocol.specs.Boards as boards
 use Rattle.protocol.specs.Boards.{Board, BoardMessage, decode, lowestLength}
-use Rattle.protocol.specs.Client as protocol
 use Rattle.protocol.specs.Number.{pairOf, present, upd}
 use Rattle.protocol.proofs.Decoded.{decode-whole, decode-zeros}
-use Rattle.client.specs.declared.Ended.{Ended}
 use Rattle.client.specs.declared.Ended.the-variants.{Read}
 use Rattle.client.specs.declared.Moved.{Moved}
 use Rattle.client.specs.declared.Phase.{Phase}
 use Rattle.client.specs.declared.Phase.the-variants.{FinalisingRead}
 use Rattle.client.specs.declared.State.{State}
-use Rattle.client.specs.Calls.{StepPost, clientStep, endedOf}
+use Rattle.client.specs.Calls.{StepPost}
 use Rattle.client.specs.Questions.{stepQuestions}
 use Rattle.client.specs.Servers.{member, sentBy}
 use Rattle.client.specs.State.{Lent, lengthsWithin, received, seen, slotAt, slots, toWrite}
@@ -37,7 +35,7 @@ use Rattle.client.proofs.Phases.{lengths-in}
 use Rattle.client.proofs.Receiving.{all-yes}
 use Rattle.client.proofs.Seen.{reads-is}
 use Rattle.client.proofs.Stepping.{sizesOf}
-use Rattle.client.proofs.Theorems.{fits}
+use Rattle.client.proofs.Theorems.{ends-taken, fits}
 
 -- ---- the lowest of lengths that are at most v
 
@@ -63,12 +61,6 @@ module _ (v : ℕ) where
 abbrev pub lowestSent : Config → State → List ℕ → Lent → ℕ → List (ℕ × Element)
 lowestSent cfg x message l sent =
     take (cfg .k) (present (cfg .n) (upd (received cfg (slots x (l .elements)) sent) (serverAt message) (messageOf cfg message .element)))
-
--- nothing ends on a refusal
-ends-taken : (b : Bool) (x : boards.BoardClient) (move : boards.BoardMoved) (t : Tag) (v : Board) → protocol.read t v ≡ cond b move (protocol.stays x) .ended → b ≡ true
-unfolding protocol.stays
-ends-taken true x move t v e = refl
-ends-taken false x move t v e = let z : _≡_ {A = ℕ} 0 1 = cc in absurd (omega arith)
 
 module _ (cfg : Config) (x : State) (message : List ℕ) (l l′ : Lent) (r : Moved) (post : StepPost cfg x message l l′ r) (t : Tag) (n : ℕ) (is : r .ended ≡ Read t n) where
   abbrev m : BoardMessage
@@ -107,10 +99,7 @@ module _ (cfg : Config) (x : State) (message : List ℕ) (l l′ : Lent) (r : Mo
 
   -- the record was taken
   taken : firstNo (stepQuestions cfg x message l) ≡ 0
-  taken =
-      eqb-true (firstNo (stepQuestions cfg x message l)) 0
-      (ends-taken (eqb (firstNo (stepQuestions cfg x message l)) 0) (seen cfg x l) (clientStep cfg x message l) t shows
-      (ap (λ (h : Ended). endedOf h (l′ .board)) (sym is) ∙ post .ended))
+  taken = ends-taken cfg x message l l′ r post (λ none. let z : _≡_ {A = ℕ} 0 1 = cc in omega arith)
 
   passed : Received cfg x message (sizesOf l)
   passed = all-yes cfg x message (sizesOf l) (boards.awaited cfg (seen cfg x l) m) taken .0

@@ -1,4 +1,4 @@
--- A step: refused, not awaited, or the protocol's. Assumes nothing.
+-- A step: refused, not awaited, or the protocol's, which asks again or counts the answer. Assumes nothing.
 use mathlib.Core.Path.{_≡_, refl, sym, ap, ap₂, _∙_, subst}
 use mathlib.Core.Bool.{Bool, true, false, cond, _&&_, true≢false}
 use mathlib.Core.Option.{none, some, Option·some-injective}
@@ -23,6 +23,7 @@ use Rattle.protocol.specs.Boards as boards
 use Rattle.protocol.specs.Boards.{BoardMessage, BoardPhase}
 use Rattle.protocol.specs.Client as protocol
 use Rattle.client.specs.declared.count.Awaited.{Awaited}
+use Rattle.client.specs.declared.count.Taken.{Taken}
 use Rattle.client.specs.declared.Ended.{Ended}
 use Rattle.client.specs.declared.Moved.{Moved}
 use Rattle.client.specs.declared.Phase.{Phase}
@@ -32,8 +33,9 @@ use Rattle.client.specs.declared.questions.Sizes.{Sizes}
 use Rattle.client.specs.Calls.{StepPost, clientStep, endedOf}
 use Rattle.client.specs.Questions.{answerQuestions, stepQuestions}
 use Rattle.client.specs.Quorum.{OwnTag}
-use Rattle.client.specs.State.{Lent, Slots, lengthPlaced, lengthsWithin, lent, phaseOf, phaseWithin, placed, seen, slots, slotsOf, toWrite, view}
-use Rattle.client.specs.inner.Count.{awaitsOf, countOf, countingOf}
+use Rattle.client.specs.State.{Lent, Slots, lengthPlaced, lengthPlacedAt, lengthsWithin, lent, phaseOf, phaseWithin, placed, placedAt, seen, slots, slotsOf, toWrite, view}
+use Rattle.client.specs.inner.Again.{AskAgainPost, AskAgainPre}
+use Rattle.client.specs.inner.Count.{awaitsOf, countOf, countingOf, takenOf}
 use Rattle.client.specs.inner.Outcome.{RefusedPost, countedOf}
 use Rattle.client.specs.inner.Place.{TakePre}
 use Rattle.client.specs.inner.Questions.{Received}
@@ -41,8 +43,9 @@ use Rattle.client.specs.inner.Settle.{Moves, SettlePost, SettlePre, sett
 use Rattle.client.proofs.Answers.{moved, refused}
 use Rattle.client.proofs.Asked.{call-numbered}
 use Rattle.client.proofs.Counting.{awaits-is, counting-is, counting-lengths, counting-within, lengths-are}
+use Rattle.client.proofs.Onward.{step-again}
 use Rattle.client.proofs.Phases.{all-in, lengths-in, phase-in, self-in}
-use Rattle.client.proofs.Receiving.{lengths, message-length, operation-begun, received-number, write-own}
+use Rattle.client.proofs.Receiving.{cleared-bare, lengths, message-length, operation-begun, received-number, write-own}
 
 -- the lengths of the buffers lent
 abbrev pub sizesOf : Lent → Sizes
@@ -70,14 +73,23 @@ step-refused cfg x message l {n} {r} e stop h =
 
 -- ---- an answer for this client
 
--- what was counted, or not
-counted-as : (b : Bool) (p q : Phase) → cond b (Awaited.Counted p) Awaited.Other ≡ Awaited.Counted q → (b ≡ true) × (p ≡ q)
-counted-as true p q e = (refl, cc)
-counted-as false p q e = let z : _≡_ {A = ℕ} 0 1 = cc in absurd (omega arith)
+-- what the code found: it is awaited, or not
+answer-as : (b : Bool) (t u : Taken) → cond b (Awaited.Answer t) Awaited.Other ≡ Awaited.Answer u → (b ≡ true) × (t ≡ u)
+answer-as true t u e = (refl, cc)
+answer-as false t u e = let z : _≡_ {A = ℕ} 0 1 = cc in absurd (omega arith)
 
-other-as : (b : Bool) (p : Phase) → cond b (Awaited.Counted p) Awaited.Other ≡ Awaited.Other → b ≡ false
-other-as true p e = let z : _≡_ {A = ℕ} 0 1 = cc in absurd (omega arith)
-other-as false p e = refl
+other-as : (b : Bool) (t : Taken) → cond b (Awaited.Answer t) Awaited.Other ≡ Awaited.Other → b ≡ false
+other-as true t e = let z : _≡_ {A = ℕ} 0 1 = cc in absurd (omega arith)
+other-as false t e = refl
+
+-- and then: the element was cleared, or it is counted
+cleared-as : (b : Bool) (p : Phase) → cond b Taken.Cleared (Taken.Counted p) ≡ Taken.Cleared → b ≡ true
+cleared-as true p e = refl
+cleared-as false p e = let z : _≡_ {A = ℕ} 0 1 = cc in absurd (omega arith)
+
+counted-as : (b : Bool) (p q : Phase) → cond b Taken.Cleared (Taken.Counted p) ≡ Taken.Counted q → (b ≡ false) × (p ≡ q)
+counted-as true p q e = let z : _≡_ {A = ℕ} 0 1 = cc in absurd (omega arith)
+counted-as false p q e = (refl, cc)
 
 -- an element that is there, as two say it, is one
 one-element : (a b : Bool) (u w : Element) → a ≡ true → cond a (some u) none ≡ cond b (some w) none → (b ≡ true) × (u ≡ w)
@@ -141,7 +153,7 @@ module _ (cfg : Config) (x : State) (message : List ℕ) (l : Lent) (k : Receive
 
   pub not-awaited : {a : Awaited} → a ≡ countOf x h → a ≡ Awaited.Other → {r : Moved} → RefusedPost x 14 r → StepPost cfg x message l l r
   not-awaited e o post =
-      let out : awaited ≡ false = awaited-is ∙ other-as (eqb (h .operation) (x .operation) && awaitsOf (x .phase) h) (countingOf (x .phase) h) (sym e ∙ o) in
+      let out : awaited ≡ false = awaited-is ∙ other-as (eqb (h .operation) (x .operation) && awaitsOf (x .phase) h) (takenOf (x .phase) h) (sym e ∙ o) in
       step-refused cfg x message l (sym (number ∙ rw out)) (λ z. omega arith) post
 
   pub takes : TakePre cfg h message (l .elements)
@@ -153,72 +165,103 @@ module _ (cfg : Config) (x : State) (message : List ℕ) (l : Lent) (k : Receive
         elements-length = lengths cfg x message (sizesOf l) (k .lengths) .1;
       }
 
-  -- ---- it is counted
+  pub asks-again : AskAgainPre cfg x (l .sends)
+  asks-again = record { valid = k .valid; within = k .within; sends-length = lengths cfg x message (sizesOf l) (k .lengths) .2 }
 
-  module _ {a : Awaited} (e : a ≡ countOf x h) {p : Phase} (c : a ≡ Awaited.Counted p) (es′ : List ℕ) (taken : es′ ≡ placed cfg (withElement cfg h message) (l .elements))
-      (same : length es′ ≡ length (l .elements)) (sixteen : length (x .lengths) ≡ 16) where
-    abbrev later : State
-    later = countedOf x p h
+  -- it is of kind 9, or not
+  cleared-is : protocol.isCleared (m .kind) ≡ protocol.isCleared (h .kind)
+  unfolding withElement
+  cleared-is = ap (λ (w : BoardMessage). protocol.isCleared (w .kind)) (sym says)
 
-    abbrev l₁ : Lent
-    l₁ = lent (l .kept) es′ (l .sends) (l .board)
+  -- ---- it is awaited
 
-    got : ((eqb (h .operation) (x .operation) && awaitsOf (x .phase) h) ≡ true) × (countingOf (x .phase) h ≡ p)
-    got = counted-as (eqb (h .operation) (x .operation) && awaitsOf (x .phase) h) (countingOf (x .phase) h) p (sym e ∙ c)
+  module _ {a : Awaited} (e : a ≡ countOf x h) {t : Taken} (answer : a ≡ Awaited.Answer t) where
+    got : ((eqb (h .operation) (x .operation) && awaitsOf (x .phase) h) ≡ true) × (takenOf (x .phase) h ≡ t)
+    got = answer-as (eqb (h .operation) (x .operation) && awaitsOf (x .phase) h) (takenOf (x .phase) h) t (sym e ∙ answer)
 
     due : awaited ≡ true
     due = awaited-is ∙ got .0
 
-    pub settles : SettlePre cfg later l₁
-    unfolding countedOf
-    settles =
-        let long = lengths cfg x message (sizesOf l) (k .lengths) in
-        record {
-          valid = k .valid;
-          within =
-              all-in cfg later (self-in cfg x (k .within))
-              (subst (λ (q : Phase). phaseWithin cfg q ≡ true) (got .1) (counting-within cfg (k .valid) h server-in tag-ok (x .phase) (phase-in cfg x (k .within))))
-              (subst (λ (q : Phase). lengthsWithin cfg q (x .length) (later .lengths) ≡ true) (got .1)
-              (counting-lengths cfg (k .valid) h server-in tag-ok (x .phase) (x .length) (x .lengths) (omega (arith, sixteen, k .valid .n-high)) length-ok
-              (phase-in cfg x (k .within)) (lengths-in cfg x (k .within))));
-          operation = operation-begun cfg x message (sizesOf l) k (l .kept) (l .elements) due;
-          own =
-              subst (OwnTag (x .me)) (got .1)
-              (own-counted cfg x h (x .phase) (write-own cfg x message (sizesOf l) k (l .kept) (l .elements) due));
-          kept-length = long .0;
-          elements-length = same ∙ long .1;
-          sends-length = long .2;
-          board-length = long .3;
-        }
-
-    -- the protocol's step is what the code goes on with
-    step-is : clientStep cfg x message l ≡ settleOf cfg later l₁
-    unfolding protocol.clientStep protocol.counted view countedOf
-    step-is =
-        rw due
-        (ap (λ (q : BoardPhase). protocol.settle (boards.encode cfg) (boards.decode cfg) cfg (clientNumber (x .me)) (record { operation = x .operation; phase = q }))
-        (ap (protocol.counting (boards.order cfg) (phaseOf cfg (x .phase) (toWrite x (l .kept)) (slots x (l .elements)))) (sym says)
-        ∙ counting-is cfg (k .valid) h server-in tag-ok (x .phase) (phase-in cfg x (k .within)) (toWrite x (l .kept)) (slots x (l .elements)) message
-        (record { bytes = lengths cfg x message (sizesOf l) (k .lengths) .1; lengths = omega (arith, sixteen, k .valid .n-high) })
-        (omega (arith, message-length cfg x message (sizesOf l) (k .lengths), k .valid .e-high))
-        ∙ ap₂ (λ (q : Phase) (es : Slots). phaseOf cfg q (toWrite x (l .kept)) es) (got .1)
-        (ap₂ slotsOf (sym (lengths-are cfg (k .valid) h server-in tag-ok message (x .lengths))) (sym taken))))
-
-    pub stepped : {sends′ board′ : List ℕ} {r : Moved} → SettlePost cfg later l₁ sends′ board′ r
+    -- a client y that moves as the protocol's does, with the record's element in its place
+    moves : (y : State) → y .me ≡ x .me → y .length ≡ x .length → y .lengths ≡ lengthPlaced m (x .lengths) → {es′ sends′ board′ : List ℕ} {r : Moved}
+        → es′ ≡ placed cfg m (l .elements) → Moves cfg y (clientStep cfg x message l) (l .kept) es′ (l .sends) sends′ (l .board) board′ r
         → StepPost cfg x message l (lent (l .kept) es′ sends′ board′) r
-    unfolding countedOf
-    stepped {sends′} {board′} {r} s =
-        let s′ : Moves cfg later (clientStep cfg x message l) (l .kept) es′ (l .sends) sends′ (l .board) board′ r = rw step-is s in
+    moves y me same-length same-lengths {es′} taken s =
         let none : firstNo (stepQuestions cfg x message l) ≡ 0 = number ∙ rw due in
         let is : eqb (firstNo (stepQuestions cfg x message l)) 0 ≡ true = eq-eqb (firstNo (stepQuestions cfg x message l)) 0 none in
         record {
-          answered = moved cfg x (seen cfg x l) _ (clientStep cfg x message l) (l .sends) (stepQuestions cfg x message l) none (l .kept) es′ refl s′ refl;
-          ended = s′ .ended ∙ rw is;
-          lent = s′ .lent ∙ rw is;
+          answered = moved cfg x (seen cfg x l) _ (clientStep cfg x message l) (l .sends) (stepQuestions cfg x message l) none (l .kept) es′ me s refl;
+          ended = s .ended ∙ rw is;
+          lent = s .lent ∙ rw is;
           kept = refl;
-          elements = taken ∙ rw (is, says);
-          length = s′ .same-length;
-          lengths =
-              s′ .same-lengths ∙ lengths-are cfg (k .valid) h server-in tag-ok message (x .lengths)
-              ∙ ap (λ (w : BoardMessage). lengthPlaced w (x .lengths)) says ∙ rw is;
+          elements = taken ∙ rw is;
+          length = s .same-length ∙ same-length;
+          lengths = s .same-lengths ∙ same-lengths ∙ rw is;
         }
+
+    -- ---- it tells that the element was cleared
+
+    pub asked-again : t ≡ Taken.Cleared → {sends′ : List ℕ} {r : Moved} → AskAgainPost cfg x (l .sends) sends′ r
+        → StepPost cfg x message l (lent (l .kept) (l .elements) sends′ (l .board)) r
+    unfolding view placedAt lengthPlacedAt
+    asked-again c {sends′} {r} post =
+        let told : protocol.isCleared (m .kind) ≡ true = cleared-is ∙ cleared-as (protocol.isCleared (h .kind)) (countingOf (x .phase) h) (got .1 ∙ c) in
+        let bare : m .element ≡ none = cleared-bare cfg x message (sizesOf l) k told in
+        let again = step-again (boards.order cfg) (boards.encode cfg) (boards.decode cfg) cfg (clientNumber (x .me)) m (seen cfg x l) due told in
+        moves x refl refl (rw bare) (rw bare) (rw again (post (l .kept) (l .elements) (l .board)))
+
+    -- ---- it is counted
+
+    module _ {p : Phase} (c : t ≡ Taken.Counted p) (es′ : List ℕ) (taken : es′ ≡ placed cfg (withElement cfg h message) (l .elements))
+        (same : length es′ ≡ length (l .elements)) (sixteen : length (x .lengths) ≡ 16) where
+      abbrev later : State
+      later = countedOf x p h
+
+      abbrev l₁ : Lent
+      l₁ = lent (l .kept) es′ (l .sends) (l .board)
+
+      counts : (protocol.isCleared (h .kind) ≡ false) × (countingOf (x .phase) h ≡ p)
+      counts = counted-as (protocol.isCleared (h .kind)) (countingOf (x .phase) h) p (got .1 ∙ c)
+
+      pub settles : SettlePre cfg later l₁
+      unfolding countedOf
+      settles =
+          let long = lengths cfg x message (sizesOf l) (k .lengths) in
+          record {
+            valid = k .valid;
+            within =
+                all-in cfg later (self-in cfg x (k .within))
+                (subst (λ (q : Phase). phaseWithin cfg q ≡ true) (counts .1) (counting-within cfg (k .valid) h server-in tag-ok (x .phase) (phase-in cfg x (k .within))))
+                (subst (λ (q : Phase). lengthsWithin cfg q (x .length) (later .lengths) ≡ true) (counts .1)
+                (counting-lengths cfg (k .valid) h server-in tag-ok (x .phase) (x .length) (x .lengths) (omega (arith, sixteen, k .valid .n-high)) length-ok
+                (phase-in cfg x (k .within)) (lengths-in cfg x (k .within))));
+            operation = operation-begun cfg x message (sizesOf l) k (l .kept) (l .elements) due;
+            own =
+                subst (OwnTag (x .me)) (counts .1)
+                (own-counted cfg x h (x .phase) (write-own cfg x message (sizesOf l) k (l .kept) (l .elements) due));
+            kept-length = long .0;
+            elements-length = same ∙ long .1;
+            sends-length = long .2;
+            board-length = long .3;
+          }
+
+      -- the protocol's step is what the code goes on with
+      step-is : clientStep cfg x message l ≡ settleOf cfg later l₁
+      unfolding protocol.clientStep protocol.receives protocol.counted view countedOf
+      step-is =
+          rw (due, cleared-is ∙ counts .0)
+          (ap (λ (q : BoardPhase). protocol.settle (boards.encode cfg) (boards.decode cfg) cfg (clientNumber (x .me)) (record { operation = x .operation; phase = q }))
+          (ap (protocol.counting (boards.order cfg) (phaseOf cfg (x .phase) (toWrite x (l .kept)) (slots x (l .elements)))) (sym says)
+          ∙ counting-is cfg (k .valid) h server-in tag-ok (x .phase) (phase-in cfg x (k .within)) (toWrite x (l .kept)) (slots x (l .elements)) message
+          (record { bytes = lengths cfg x message (sizesOf l) (k .lengths) .1; lengths = omega (arith, sixteen, k .valid .n-high) })
+          (omega (arith, message-length cfg x message (sizesOf l) (k .lengths), k .valid .e-high))
+          ∙ ap₂ (λ (q : Phase) (es : Slots). phaseOf cfg q (toWrite x (l .kept)) es) (counts .1)
+          (ap₂ slotsOf (sym (lengths-are cfg (k .valid) h server-in tag-ok message (x .lengths))) (sym taken))))
+
+      pub stepped : {sends′ board′ : List ℕ} {r : Moved} → SettlePost cfg later l₁ sends′ board′ r
+          → StepPost cfg x message l (lent (l .kept) es′ sends′ board′) r
+      unfolding countedOf
+      stepped s =
+          moves later refl refl
+          (lengths-are cfg (k .valid) h server-in tag-ok message (x .lengths) ∙ ap (λ (w : BoardMessage). lengthPlaced w (x .lengths)) says)
+          (taken ∙ ap (λ (w : BoardMessage). placed cfg w (l .elements)) says) (rw step-is s)

@@ -1,17 +1,20 @@
 -- What a client's calls show besides: a fresh client passes question 6, and every call keeps that; a record handed over again is not
--- counted again; none is taken in an operation that was not begun; a client that has q answers asks no more; an operation ends only on
--- answers of at least q distinct servers in its last phase, and a read on k elements; no answer depends on lengths and bytes that are not
--- in use, nor on what stands past the length in the board kept.
+-- counted again; none is taken in an operation that was not begun; a client that has q answers asks no more; a reader that is told that
+-- the element was cleared asks again, or ends spent at the last operation number; but for that an operation ends only on answers of at least q
+-- distinct servers in its last phase, and a read on k elements; no answer depends on lengths and bytes that are not in use, nor on what
+-- stands past the length in the board kept.
 -- Assumes nothing.
+use mathlib.Core.Logic.{_⊎_, inl, inr}
 use mathlib.Core.Path.{_≡_, refl, sym, ap, ap₂, _∙_, subst}
-use mathlib.Core.Bool.{Bool, true, false, cond, _&&_}
+use mathlib.Core.Bool.{Bool, true, false, cond, _&&_, false≢true}
 use mathlib.Core.List.{List, [], _∷_, _++_}
 use mathlib.Core.Option.{Option, none, some}
-use Prim.Native.Nat.{ℕ, _+_, _-_, _*_, _≤_}
+use Prim.Native.Nat.{ℕ, _+_, _-_, _*_, _≤_, _<_}
 use native.Mathlib.Omega.{arith}
-use borrow.Author.Tests.{eq-eqb}
+use borrow.Author.Tests.{eq-eqb, eqb-true}
 use lib.Dec.{eqb, ltb}
 use lib.ListN.{length, take, drop, length-append, length-drop, length-take}
+use Rattle.laws.proofs.Bools.{and-left}
 use Rattle.config.specs.declared.Client.{Client}
 use Rattle.config.specs.declared.Config.{Config}
 use Rattle.config.specs.Config.{questions, quorumOf}
@@ -19,35 +22,41 @@ use Rattle.config.specs.Number.{clientNumber, clientQuestions}
 use Rattle.config.specs.Questions.{ask, firstNo, within}
 use Rattle.config.proofs.Questions.{last-all, questions-numbered}
 use Rattle.tag.specs.declared.Tag.{Tag}
+use Rattle.tag.specs.Tag.{start}
 use Rattle.record.specs.Kinds.{isForClient}
-use Rattle.record.specs.Record.{elementIn, highestNumber, lengthAt, messageOf, presentAt, serverAt, tagAt, wellFormed}
-use Rattle.protocol.specs.Boards as boards
+use Rattle.record.specs.Record.{elementIn, highestNumber, kindAt, kindNumber, lengthAt, messageOf, presentAt, serverAt, tagAt, wellFormed}
 use Rattle.record.specs.Element.{Element, elementWith}
-use Rattle.protocol.specs.Boards.{Board, BoardClient, BoardEnded, BoardMessage, BoardMoved, cut}
+use Rattle.record.proofs.Clauses.{its-kind, kind-number}
+use Rattle.protocol.specs.Boards as boards
+use Rattle.protocol.specs.Boards.{Board, BoardClient, BoardEnded, BoardMessage, BoardMoved, BoardPhase, cut}
 use Rattle.protocol.specs.Client as protocol
-use Rattle.protocol.specs.Number.{count, present, upd}
-use Rattle.protocol.specs.Tags.{higher}
+use Rattle.protocol.specs.Number.{count, nobody, present, upd}
 use Rattle.protocol.proofs.Basics.{cond-elim}
 use Rattle.protocol.proofs.Cut.{length-cut}
 use Rattle.client.specs.declared.Ended.{Ended}
-use Rattle.client.specs.declared.Ended.the-variants.{Written, Spent, Read}
+use Rattle.client.specs.declared.Ended.the-variants.{Nothing, Written, Spent, Read}
 use Rattle.client.specs.declared.Moved.{Moved}
 use Rattle.client.specs.declared.Phase.{Phase}
 use Rattle.client.specs.declared.Phase.the-variants.{Idle, Asking, PreWriting, FinalisingWrite, FinalisingRead, Down}
 use Rattle.client.specs.declared.State.{State}
 use Rattle.client.specs.Calls.{BeginPost, CrashPost, StepPost, clientStep, endedOf, freshState, inPhase, shown, stepOf, unlessNo}
 use Rattle.client.specs.Questions.{callQuestions, crashQuestions, stepQuestions, stepSized}
-use Rattle.client.specs.Quorum.{AlikeStates, AlikeSteps, Elements, OwnTag, Quorum, phaseNumber}
+use Rattle.client.specs.Again.{AsksAgain, EndsSpent, Finalises, ReadSpent, Untouched, WriteSpent, isWrite}
+use Rattle.client.specs.Quorum.{AlikeStates, AlikeSteps, Elements, OwnTag, Quorum, countedIn, phaseNumber}
 use Rattle.client.specs.Send.{front, recordsOf}
-use Rattle.client.specs.Servers.{member}
-use Rattle.client.specs.State.{Lent, Slots, bare, lengthsWithin, phaseOf, phaseWithin, placed, placedAt, received, seen, slotAt, slots, stateWithin, toWrite, view}
+use Rattle.client.specs.Servers.{member, withinServers}
+use Rattle.client.specs.State.{Lent, Slots, bare, lengthPlacedAt, lengthsWithin, phaseOf, phaseWithin, placed, placedAt, received, seen, slotAt, slots, stateWithin, tagWithin, toWrite, view}
 use Rattle.client.specs.inner.Questions.{Received}
 use Rattle.client.proofs.Gathering.{has, present-count, sent-has}
-use Rattle.client.proofs.Once.{again}
-use Rattle.client.proofs.Phases.{self-in}
+use Rattle.protocol.proofs.Judged.{awaits-it, cleared-reads}
+use Rattle.client.proofs.Once.{again, new}
+use Rattle.client.proofs.Onward.{again-elim, step-again}
+use Rattle.client.proofs.Phases.{phase-in, self-in, tag-in}
 use Rattle.client.proofs.Quorum.{Fits, step-fits, step-on}
-use Rattle.client.proofs.Receiving.{all-yes, operation-begun, received-number, write-own}
-use Rattle.client.proofs.Seen.{asks-is, reads-is, within-alike, writes-is, writes-one}
+use Rattle.client.proofs.Receiving.{all-yes, cleared-bare, one-tag, operation-begun, received-number, write-own}
+use Rattle.client.proofs.Seen.{asks-is, idle-is, nothing-is, reads-is, spent-is, within-alike, writes-is, writes-one}
+use Rattle.client.proofs.Sets.{member-one, member-zero}
+use Rattle.client.proofs.Settling.{length-toEach}
 use Rattle.client.proofs.Stepping.{sizesOf}
 
 -- ---- question 6
@@ -161,14 +170,109 @@ module _ (cfg : Config) (x : State) (message : List ℕ) (l l′ : Lent) (r : Mo
       (step-on (boards.order cfg) (boards.encode cfg) (boards.decode cfg) cfg (clientNumber (x .me)) m (x .operation) b best (member counted)
       (subst (λ (y : BoardClient). boards.awaited cfg y m ≡ true) is (asked .1)) q)
 
+  -- ---- of kind 9: with k elements received or not
+
+  module _ (nine : kindAt message ≡ 9) where
+    told : protocol.isCleared (m .kind) ≡ true
+    unfolding messageOf
+    told = eq-eqb (kindNumber (m .kind)) 9 (kind-number (kindAt message) (its-kind cfg message (asked .0 .well-formed)) ∙ nine)
+
+    -- it is taken only of a reader that finalises its tag, and of a server not counted
+    pub finalises : Finalises message (x .phase)
+    unfolding view messageOf phaseWithin
+    finalises =
+        let awaits = awaits-it (boards.order cfg) m (seen cfg x l) (asked .1) in
+        let reads = cleared-reads (boards.order cfg) m told (seen cfg x l .phase) awaits in
+        let p = reads-is cfg (toWrite x (l .kept)) (slots x (l .elements)) (x .phase) (reads .tag) (reads .counted) (reads .elements) (reads .phase) in
+        let in-limits : phaseWithin cfg (FinalisingRead (reads .tag) (p .0) (p .1)) ≡ true =
+        ap (phaseWithin cfg) (sym (p .2)) ∙ phase-in cfg x (asked .0 .within) in
+        let allows = tag-in cfg (reads .tag) (p .0) (and-left (tagWithin cfg (reads .tag) (p .0)) (withinServers (cfg .n) (p .1)) in-limits) in
+        let tag : tagAt message ≡ reads .tag = one-tag cfg x message (sizesOf l) (asked .0) (reads .tag) allows (reads .same) in
+        record {
+          counted = p .0;
+          sent = p .1;
+          phase = p .2 ∙ ap (λ (t : Tag). FinalisingRead t (p .0) (p .1)) (sym tag);
+          new =
+              ap (λ (f : ℕ → Bool). f (serverAt message)) (p .3)
+              ∙ ap (λ (q : BoardPhase). countedIn q (serverAt message)) (sym (reads .phase)) ∙ new (boards.order cfg) m (seen cfg x l .phase) awaits;
+        }
+
+    -- the step is the protocol's
+    asks : stepOf cfg x message l ≡ protocol.askAgain cfg (clientNumber (x .me)) (x .operation)
+    unfolding view
+    asks =
+        rw (eq-eqb (firstNo (stepQuestions cfg x message l)) 0 taken)
+        (step-again (boards.order cfg) (boards.encode cfg) (boards.decode cfg) cfg (clientNumber (x .me)) m (seen cfg x l) (asked .1) told)
+
+    untouched : Untouched x l l′ r
+    unfolding placedAt lengthPlacedAt protocol.ends
+    untouched =
+        let is = eq-eqb (firstNo (stepQuestions cfg x message l)) 0 taken in
+        let bare-one : m .element ≡ none = cleared-bare cfg x message (sizesOf l) (asked .0) told in
+        record {
+          length = post .length;
+          lengths = post .lengths ∙ rw (is, bare-one);
+          kept = post .kept;
+          elements = post .elements ∙ rw (is, bare-one);
+          board =
+              post .lent ∙ ap (λ (z : BoardMoved). shown (z .ended) (l .board)) asks
+              ∙ again-elim cfg (clientNumber (x .me)) (x .operation) (λ (z : BoardMoved). shown (z .ended) (l .board) ≡ l .board) (λ below. refl) (λ last. refl);
+        }
+
+    -- below the last operation number it asks again
+    pub asks-again : x .operation < highestNumber → AsksAgain cfg x l l′ r
+    unfolding view protocol.sendEach
+    asks-again below =
+        let queries : BoardMoved = protocol.sendQueries cfg (clientNumber (x .me)) (x .operation + 1) none in
+        let move : stepOf cfg x message l ≡ queries =
+        asks ∙ again-elim cfg (clientNumber (x .me)) (x .operation) (λ (z : BoardMoved). z ≡ queries) (λ b. refl) (λ last. absurd (omega arith)) in
+        let client : seen cfg (r .state) l′ ≡ queries .client = post .answered .client ∙ ap (λ (z : BoardMoved). z .client) move in
+        let p = asks-is cfg (toWrite (r .state) (l′ .kept)) (slots (r .state) (l′ .elements)) (r .state .phase) none start nobody (ap (λ (y : BoardClient). y .phase) client) in
+        let reads : p .0 ≡ false = writes-one (toWrite (r .state) (l′ .kept)) (toWrite x []) (p .0) false (p .4) in
+        let nobody-counted : p .1 ≡ 0 = member-one (p .1) 0 (p .3 ∙ sym member-zero) in
+        record {
+          phase = p .2 ∙ ap₂ (λ (w : Bool) (c : ℕ). Asking w start c) reads nobody-counted;
+          operation = ap (λ (y : BoardClient). y .operation) client;
+          count = post .answered .count ∙ ap (λ (z : BoardMoved). length (z .sends)) move ∙ length-toEach (cfg .n) _;
+          out = post .answered .out ∙ ap (λ (z : BoardMoved). front (recordsOf cfg (z .sends)) (l .sends)) move;
+          ended = nothing-is (r .ended) (l′ .board) (post .ended ∙ ap (λ (z : BoardMoved). z .ended) move);
+          others = untouched;
+        }
+
+    -- at the last its read ends spent
+    pub ends-spent : highestNumber ≤ x .operation → EndsSpent x l l′ r
+    unfolding view protocol.ends recordsOf
+    ends-spent last =
+        let end : BoardMoved = protocol.ends (x .operation) protocol.spent in
+        let move : stepOf cfg x message l ≡ end =
+        asks ∙ again-elim cfg (clientNumber (x .me)) (x .operation) (λ (z : BoardMoved). z ≡ end) (λ below. absurd (omega arith)) (λ h. refl) in
+        let client : seen cfg (r .state) l′ ≡ end .client = post .answered .client ∙ ap (λ (z : BoardMoved). z .client) move in
+        record {
+          phase = idle-is cfg (toWrite (r .state) (l′ .kept)) (slots (r .state) (l′ .elements)) (r .state .phase) (ap (λ (y : BoardClient). y .phase) client);
+          operation = ap (λ (y : BoardClient). y .operation) client;
+          count = post .answered .count ∙ ap (λ (z : BoardMoved). length (z .sends)) move;
+          out = post .answered .out ∙ ap (λ (z : BoardMoved). front (recordsOf cfg (z .sends)) (l .sends)) move;
+          ended = spent-is (r .ended) (l′ .board) (post .ended ∙ ap (λ (z : BoardMoved). z .ended) move);
+          others = untouched;
+        }
+
 -- ---- an operation's end
 
 module _ (cfg : Config) (x : State) (message : List ℕ) (l l′ : Lent) (r : Moved) (post : StepPost cfg x message l l′ r) where
+  -- nothing ends on a refusal
+  pub ends-taken : (r .ended ≡ Nothing → ⊥) → firstNo (stepQuestions cfg x message l) ≡ 0
+  unfolding protocol.stays
+  ends-taken ends = eqb-true (firstNo (stepQuestions cfg x message l)) 0 (go (eqb (firstNo (stepQuestions cfg x message l)) 0) (post .ended))
+    where
+      go : (b : Bool) → endedOf (r .ended) (l′ .board) ≡ cond b (clientStep cfg x message l) (protocol.stays (seen cfg x l)) .ended → b ≡ true
+      go true e = refl
+      go false e = absurd (ends (nothing-is (r .ended) (l′ .board) e))
+
   abbrev msg : BoardMessage
   msg = messageOf cfg message
 
   abbrev Ends : BoardEnded → Type 0
-  Ends = Fits (boards.order cfg) (boards.encode cfg) (boards.decode cfg) cfg (clientNumber (x .me)) msg (phaseOf cfg (x .phase) (toWrite x (l .kept)) (slots x (l .elements)))
+  Ends = Fits (boards.order cfg) (boards.encode cfg) (boards.decode cfg) cfg (clientNumber (x .me)) msg (x .operation) (phaseOf cfg (x .phase) (toWrite x (l .kept)) (slots x (l .elements)))
 
   pub fits : (how : Ended) → r .ended ≡ how → Ends (endedOf how (l′ .board))
   unfolding protocol.stays view
@@ -204,18 +308,50 @@ module _ (cfg : Config) (x : State) (message : List ℕ) (l l′ : Lent) (r : Mo
       let p = writes-is cfg (toWrite x (l .kept)) (slots x (l .elements)) (x .phase) t (w .0) (w .1) in
       (p .0, p .1, quorum-is (p .0) (w .0) (p .2) (w .2))
 
-  -- it ends spent only so while asking, with the highest tag's number the last
-  pub spent-on-quorum : r .ended ≡ Spent
-      → (best : Tag) × (counted : ℕ) × (x .phase ≡ Asking true best counted) × Quorum cfg message counted
-      × (highestNumber ≤ higher (boards.order cfg) best (tagAt message) .number)
+  -- an operation ends spent as a write does, on a quorum, or as a read does, on a kind 9
+  pub spent-so : r .ended ≡ Spent → WriteSpent cfg message (x .phase) ⊎ ReadSpent message x
   unfolding messageOf
-  spent-on-quorum e =
-      let w = fits Spent e in
-      let p = asks-is cfg (toWrite x (l .kept)) (slots x (l .elements)) (x .phase) (some (w .0)) (w .1) (w .2) (w .3) in
-      let writes : p .0 ≡ true = writes-one (toWrite x (l .kept)) (w .0) (p .0) true (p .4) in
-      (w .1, p .1, p .2 ∙ ap (λ (b : Bool). Asking b (w .1) (p .1)) writes, quorum-is (p .1) (w .2) (p .3) (w .4), w .5)
+  spent-so e = go (fits Spent e)
+    where
+      taken : firstNo (stepQuestions cfg x message l) ≡ 0
+      taken = ends-taken (λ none. let z : _≡_ {A = ℕ} 0 1 = cc in omega arith)
 
-  -- and a read as a write, with at least k elements
+      formed : wellFormed cfg message ≡ true
+      formed = all-yes cfg x message (sizesOf l) (boards.awaited cfg (seen cfg x l) msg) taken .0 .well-formed
+
+      go : Ends protocol.spent → WriteSpent cfg message (x .phase) ⊎ ReadSpent message x
+      go (inl w) =
+          let p = asks-is cfg (toWrite x (l .kept)) (slots x (l .elements)) (x .phase) (some (w .0)) (w .1) (w .2) (w .3) in
+          let writes : p .0 ≡ true = writes-one (toWrite x (l .kept)) (w .0) (p .0) true (p .4) in
+          inl
+          (record {
+            best = w .1;
+            counted = p .1;
+            phase = p .2 ∙ ap (λ (b : Bool). Asking b (w .1) (p .1)) writes;
+            quorum = quorum-is (p .1) (w .2) (p .3) (w .4);
+            last = w .5;
+          })
+      go (inr w) =
+          let nine : kindAt message ≡ 9 = sym (kind-number (kindAt message) (its-kind cfg message formed)) ∙ eqb-true (kindNumber (msg .kind)) 9 (w .0) in
+          inr (record { kind = nine; finalises = finalises cfg x message l l′ r post taken nine; last = w .2 })
+
+  -- a write only as a write does
+  pub write-spent : r .ended ≡ Spent → isWrite (x .phase) ≡ true → WriteSpent cfg message (x .phase)
+  write-spent e write = go (spent-so e)
+    where
+      go : WriteSpent cfg message (x .phase) ⊎ ReadSpent message x → WriteSpent cfg message (x .phase)
+      go (inl w) = w
+      go (inr w) = absurd (false≢true (sym (ap isWrite (w .finalises .phase)) ∙ write))
+
+  -- and a read only as a read does
+  pub read-spent : r .ended ≡ Spent → isWrite (x .phase) ≡ false → ReadSpent message x
+  read-spent e read = go (spent-so e)
+    where
+      go : WriteSpent cfg message (x .phase) ⊎ ReadSpent message x → ReadSpent message x
+      go (inl w) = absurd (false≢true (sym read ∙ ap isWrite (w .phase)))
+      go (inr w) = w
+
+  -- a read ends with a board as a write ends, with at least k elements
   pub read-on-quorum : (t : Tag) (n : ℕ) → r .ended ≡ Read t n
       → (counted sent : ℕ) × (x .phase ≡ FinalisingRead t counted sent) × Quorum cfg message counted × Elements cfg message sent
   read-on-quorum t n e =

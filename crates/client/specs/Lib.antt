@@ -1,3 +1,4 @@
+pub mod Again
 pub mod Calls
 pub mod Questions
 pub mod Quorum

@@ -1,3 +1,4 @@
+pub mod Again
 pub mod Count
 pub mod Gather
 pub mod Next

@@ -1,26 +1,36 @@
-// An answer counted: the first half of a client's step.
+// An answer judged, and counted unless it is of kind 9: the first half of a client's step.
 use super::Phase;
 use super::State;
 use super::servers;
 use record::Header;
+use record::Kind;
 use tag::Tag;
 ghost use mathlib.Core.Path.{_≡_};
 ghost use mathlib.Core.Bool.{_&&_};
 ghost use Prim.Native.Nat.{_<_};
 ghost use Rattle.config.specs.Number.{serverNumber};
+ghost use Rattle.protocol.specs.Client.{judged as judgedAs};
 ghost use Rattle.protocol.specs.Tags.{higher as higherOf};
 ghost use Rattle.tag.specs.Tag.{key, same};
 ghost use Rattle.client.specs.inner.Count.{awaitsOf, countOf, countingOf, firstOf};
 
 // What an answer is to a client.
 pub(crate) enum Awaited {
-    // It is awaited: the phase with it counted.
-    Counted(Phase),
+    // It is awaited.
+    Answer(Taken),
     // It is not.
     Other,
 }
 
-// The phase with an answer counted, if the client awaits it.
+// How an awaited answer is taken.
+pub(crate) enum Taken {
+    // It tells that the element was cleared, and is not counted.
+    Cleared,
+    // The phase with the answer counted.
+    Counted(Phase),
+}
+
+// How an answer is taken, if the client awaits it.
 pub(crate) fn count(x: State, h: Header) -> Awaited
     requires { ⌜ serverNumber (h .server) < 32 ⌝ }
     ensures { λ r. ⌜ r ≡ countOf x h ⌝ }
@@ -32,10 +42,14 @@ pub(crate) fn count(x: State, h: Header) -> Awaited
     if !awaits(phase, h) {
         return Awaited::Other;
     }
-    Awaited::Counted(counting(phase, h))
+    let kind = h.kind;
+    if kind.number() == 9 {
+        return Awaited::Answer(Taken::Cleared);
+    }
+    Awaited::Answer(Taken::Counted(counting(phase, h)))
 }
 
-// Whether a phase awaits an answer: of its kind, of a server not counted yet and, for kinds 4, 6 and 8, of its tag.
+// Whether a phase awaits an answer: judged as of its kind, of a server not counted yet and, for kinds 4, 6 and 8, of its tag.
 fn awaits(phase: Phase, h: Header) -> bool
     requires { ⌜ serverNumber (h .server) < 32 ⌝ }
     ensures { λ r. ⌜ r ≡ awaitsOf phase h ⌝ }
@@ -57,13 +71,24 @@ fn awaits(phase: Phase, h: Header) -> bool
     }
 }
 
-// Whether the answer is of a kind, and the first of its server.
+// The number as which an answer's kind is judged: 9 is judged as 8.
+fn judged(kind: Kind) -> u8
+    ensures { λ r. ⌜ r ≡ judgedAs kind ⌝ }
+{
+    let number = kind.number();
+    if number == 9 {
+        return 8;
+    }
+    number
+}
+
+// Whether the answer is judged as of a kind, and the first of its server.
 fn first(kind: u8, counted: u32, h: Header) -> bool
     requires { ⌜ serverNumber (h .server) < 32 ⌝ }
     ensures { λ r. ⌜ r ≡ firstOf kind counted h ⌝ }
 {
     let k = h.kind;
-    if k.number() != kind {
+    if judged(k) != kind {
         return false;
     }
     let server = h.server;

@@ -5,6 +5,7 @@ use config::Config;
 use config::NewClient;
 use config::Verdict;
 use count::Awaited;
+use count::Taken;
 use outcome::accepted;
 use outcome::begun;
 use outcome::counted;
@@ -26,6 +27,7 @@ ghost use Rattle.client.specs.Questions.{askBeginQuestions, beginReadQue
 // The highest number of a tag, and of an operation.
 pub(crate) const HIGHEST_NUMBER: u32 = 4_294_967_295;
 
+mod again;
 mod count;
 mod gather;
 mod next;
@@ -173,11 +175,11 @@ pub fn begin_read(cfg: Config, state: State, sends: &mut [u8]) -> Moved
     if no != 0 {
         return refused(state, no);
     }
-    let nothing = [0u8; 1];
-    send::announce(cfg, begun(state, false, state.length), &nothing, sends)
+    again::ask_to_read(cfg, state, sends)
 }
 
-// The step on a record: questions 1 to 6, 12, 16 and 14. The answer is counted, and the client goes on if it has enough.
+// The step on a record: questions 1 to 6, 12, 16 and 14. The answer is counted, and the client goes on if it has enough; where it tells that
+// the element was cleared, the client asks again.
 pub fn step(
     cfg: Config,
     state: State,
@@ -199,11 +201,16 @@ pub fn step(
     match asked {
         Asked::No(no) => refused(state, no),
         Asked::Answer(h) => {
-            let Awaited::Counted(phase) = count::count(state, h) else {
+            let Awaited::Answer(taken) = count::count(state, h) else {
                 return refused(state, 14);
             };
-            place::take(cfg, h, message, elements);
-            settle::settle(cfg, counted(state, phase, h), kept, elements, sends, board)
+            match taken {
+                Taken::Cleared => again::ask_again(cfg, state, sends),
+                Taken::Counted(phase) => {
+                    place::take(cfg, h, message, elements);
+                    settle::settle(cfg, counted(state, phase, h), kept, elements, sends, board)
+                }
+            }
         }
     }
 }

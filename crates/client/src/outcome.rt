@@ -67,7 +67,7 @@ pub(crate) fn counted(x: State, phase: Phase, h: Header) -> State
     after
 }
 
-// The client in its next operation, asking, with the length of a board to write; nobody is counted.
+// The client with its next operation number, asking, with the length of a board to write; nobody is counted.
 pub(crate) fn begun(x: State, writes: bool, length: u16) -> State
     requires { ⌜ x .operation < highestNumber ⌝ }
     ensures { λ r. ⌜ r ≡ begunOf x writes length ⌝ }

@@ -131,7 +131,7 @@ fn is_for(x: State, h: Header) -> bool
         return false;
     }
     let kind = h.kind;
-    kind.number() % 2 == 0
+    !kind.is_for_server()
 }
 
 fn write_sized(cfg: Config, board: usize, kept: usize, sends: usize) -> bool

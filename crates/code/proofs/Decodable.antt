@@ -10,8 +10,8 @@ use lib.ListN.{length}
 use Rattle.laws.proofs.Bools.{and-left, and-right}
 use Rattle.config.specs.declared.Config.{Config}
 use Rattle.config.specs.Config.{questions, boardLength}
-use Rattle.config.specs.Questions.{ask, firstNo, lastQuestion, numbered}
-use Rattle.config.proofs.Questions.{early, firstNo-high, firstNo-pass, none-first, numbered-both, questions-numbered, firstNo-yes, firstNo-no}
+use Rattle.config.specs.Questions.{ask, firstNo, numbered}
+use Rattle.config.proofs.Questions.{Given, early, firstNo-given, firstNo-pass, none-first, numbered-both, questions-numbered, firstNo-yes, firstNo-no}
 use Rattle.config.proofs.Valid.{valid}
 use Rattle.code.specs.Decode.{decodeQuestions}
 use Rattle.code.specs.inner.Calls.{DecodePre}
@@ -62,9 +62,9 @@ module _ (cfg : Config) (servers : List ℕ) (elements buffer : ℕ) where
         enough = leb-true (cfg .k) (length servers) (y .2);
       }
 
-  pub answer-high : answer ≤ lastQuestion
+  pub answer-given : Given answer
   unfolding decodeQuestions numbered
-  answer-high = firstNo-high (questions cfg ++ ask 6 shape ∷ ask 17 up ∷ ask 18 many ∷ [])
+  answer-given = firstNo-given (questions cfg ++ ask 6 shape ∷ ask 17 up ∷ ask 18 many ∷ [])
       (numbered-both (questions cfg) (ask 6 shape ∷ ask 17 up ∷ ask 18 many ∷ []) (questions-numbered cfg) refl)
 
   module _ (none : firstNo (questions cfg) ≡ 0) where

@@ -9,8 +9,8 @@ use lib.Dec.{eqb}
 use Rattle.laws.proofs.Bools.{and-left, and-right}
 use Rattle.config.specs.declared.Config.{Config}
 use Rattle.config.specs.Config.{questions, boardLength}
-use Rattle.config.specs.Questions.{ask, within, firstNo, lastQuestion, numbered}
-use Rattle.config.proofs.Questions.{early, firstNo-high, firstNo-pass, none-first, numbered-both, questions-numbered, firstNo-yes, firstNo-no, within-low, within-high, within-true}
+use Rattle.config.specs.Questions.{ask, within, firstNo, numbered}
+use Rattle.config.proofs.Questions.{Given, early, firstNo-given, firstNo-pass, none-first, numbered-both, questions-numbered, firstNo-yes, firstNo-no, within-low, within-high, within-true}
 use Rattle.config.proofs.Valid.{valid}
 use Rattle.code.specs.Encode.{encodeQuestions}
 use Rattle.code.specs.inner.Calls.{EncodePre}
@@ -53,9 +53,9 @@ module _ (cfg : Config) (board s buffer : ℕ) where
         server-high = within-high 1 (cfg .n) s (y .1);
       }
 
-  pub answer-high : answer ≤ lastQuestion
+  pub answer-given : Given answer
   unfolding encodeQuestions numbered
-  answer-high = firstNo-high (questions cfg ++ ask 6 shape ∷ ask 18 server ∷ [])
+  answer-given = firstNo-given (questions cfg ++ ask 6 shape ∷ ask 18 server ∷ [])
       (numbered-both (questions cfg) (ask 6 shape ∷ ask 18 server ∷ []) (questions-numbered cfg) refl)
 
   module _ (none : firstNo (questions cfg) ≡ 0) where

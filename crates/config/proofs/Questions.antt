@@ -1,16 +1,16 @@
 -- A list of questions. In order: the test `within`; a question that is answered yes or no; a list and then another; questions 1 to 5
 -- and then the rest; the last question. Assumes nothing.
-use mathlib.Core.Path.{_≡_, refl, sym, _∙_}
-use mathlib.Core.Bool.{Bool, true, false, _&&_}
+use mathlib.Core.Path.{_≡_, refl, sym, _∙_, ap}
+use mathlib.Core.Bool.{Bool, true, false, not, _&&_, false≢true}
 use mathlib.Core.List.{List, [], _∷_, _++_}
 use Prim.Native.Nat.{ℕ, _≤_}
 use native.Mathlib.Omega.{arith}
-use borrow.Author.Tests.{leb-true, le-leb}
-use lib.Dec.{leb}
+use borrow.Author.Tests.{eq-eqb, leb-true, le-leb}
+use lib.Dec.{eqb, leb}
 use Rattle.laws.proofs.Bools.{and-left, and-right}
 use Rattle.config.specs.declared.Config.{Config}
 use Rattle.config.specs.Config.{questions, rigQuestions}
-use Rattle.config.specs.Questions.{Question, ask, within, firstNo, lastQuestion, numbered}
+use Rattle.config.specs.Questions.{Question, ask, within, firstNo, isQuestion, lastQuestion, numbered}
 
 -- ---- within
 
@@ -47,18 +47,26 @@ yes-next number false rest low h = absurd (omega arith)
 -- ---- a list of questions, and then another
 
 -- the numbers of a list's first question and of the others
-numbered-first : (number : ℕ) (first : List Question) → (within 1 lastQuestion number && numbered first) ≡ true → within 1 lastQuestion number ≡ true
-numbered-first number first = and-left (within 1 lastQuestion number) (numbered first)
+numbered-first : (number : ℕ) (first : List Question) → (isQuestion number && numbered first) ≡ true → isQuestion number ≡ true
+numbered-first number first = and-left (isQuestion number) (numbered first)
 
-numbered-rest : (number : ℕ) (first : List Question) → (within 1 lastQuestion number && numbered first) ≡ true → numbered first ≡ true
-numbered-rest number first = and-right (within 1 lastQuestion number) (numbered first)
+numbered-rest : (number : ℕ) (first : List Question) → (isQuestion number && numbered first) ≡ true → numbered first ≡ true
+numbered-rest number first = and-right (isQuestion number) (numbered first)
+
+-- a question's number is 1 to the last, and not 15
+pub question-within : (number : ℕ) → isQuestion number ≡ true → within 1 lastQuestion number ≡ true
+question-within number = and-left (within 1 lastQuestion number) (not (eqb number 15))
+
+pub question-not-15 : (number : ℕ) → isQuestion number ≡ true → number ≡ 15 → ⊥
+question-not-15 number known e =
+    false≢true (ap not (sym (eq-eqb number 15 e)) ∙ and-right (within 1 lastQuestion number) (not (eqb number 15)) known)
 
 -- where the first questions are all answered yes, the refusal is that of the rest
 pub firstNo-pass : (first rest : List Question) → numbered first ≡ true → firstNo first ≡ 0 → firstNo (first ++ rest) ≡ firstNo rest
 unfolding firstNo numbered
 firstNo-pass [] rest known none = refl
 firstNo-pass (ask number true ∷ first) rest known none = firstNo-pass first rest (numbered-rest number first known) none
-firstNo-pass (ask number false ∷ first) rest known none = absurd (omega (arith, within-low 1 lastQuestion number (numbered-first number first known)))
+firstNo-pass (ask number false ∷ first) rest known none = absurd (omega (arith, within-low 1 lastQuestion number (question-within number (numbered-first number first known))))
 
 -- where one of the first is answered no, it is that one's
 pub firstNo-stop : (first rest : List Question) → (firstNo first ≡ 0 → ⊥) → firstNo (first ++ rest) ≡ firstNo first
@@ -86,12 +94,17 @@ none-first (ask number false ∷ first) rest h = h
 pub none-rest : (first rest : List Question) → numbered first ≡ true → firstNo (first ++ rest) ≡ 0 → firstNo rest ≡ 0
 none-rest first rest known h = sym (firstNo-pass first rest known (none-first first rest h)) ∙ h
 
--- no refusal's number is above the last question's
-pub firstNo-high : (qs : List Question) → numbered qs ≡ true → firstNo qs ≤ lastQuestion
+-- what is given for questions: 0, or the number of one of them
+abbrev pub Given : ℕ → Type 0
+Given n = (n ≤ lastQuestion) × (n ≡ 15 → ⊥)
+
+pub firstNo-given : (qs : List Question) → numbered qs ≡ true → Given (firstNo qs)
 unfolding firstNo numbered
-firstNo-high [] known = omega arith
-firstNo-high (ask number true ∷ qs) known = firstNo-high qs (numbered-rest number qs known)
-firstNo-high (ask number false ∷ qs) known = within-high 1 lastQuestion number (numbered-first number qs known)
+firstNo-given [] known = (omega arith, λ e. omega arith)
+firstNo-given (ask number true ∷ qs) known = firstNo-given qs (numbered-rest number qs known)
+firstNo-given (ask number false ∷ qs) known =
+    let question = numbered-first number qs known in
+    (within-high 1 lastQuestion number (question-within number question), question-not-15 number question)
 
 pub numbered-both : (first rest : List Question) → numbered first ≡ true → numbered rest ≡ true → numbered (first ++ rest) ≡ true
 unfolding numbered

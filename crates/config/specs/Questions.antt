@@ -1,9 +1,9 @@
 -- A call's questions: a list of their numbers, each with the answer, in document 01's order. The first that is answered no is
 -- the refusal, and nothing else is.
 use Prim.Native.Nat.{ℕ}
-use mathlib.Core.Bool.{Bool, true, cond, _&&_}
+use mathlib.Core.Bool.{Bool, true, cond, not, _&&_}
 use mathlib.Core.List.{List, [], _∷_}
-use lib.Dec.{leb}
+use lib.Dec.{eqb, leb}
 
 pub data Question : Type 0 where
   ask : ℕ → Bool → Question
@@ -21,7 +21,11 @@ within low high x = leb low x && leb x high
 abbrev pub lastQuestion : ℕ
 lastQuestion = 28
 
+-- "Number 15 is no longer given.": the others of these are questions' numbers
+abbrev pub isQuestion : ℕ → Bool
+isQuestion n = within 1 lastQuestion n && not (eqb n 15)
+
 -- each number is a question's
 unfoldable pub numbered : List Question → Bool
 numbered [] = true
-numbered (ask number holds ∷ rest) = within 1 lastQuestion number && numbered rest
+numbered (ask number holds ∷ rest) = isQuestion number && numbered rest

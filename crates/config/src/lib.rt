@@ -6,7 +6,7 @@ ghost use Rattle.config.specs.Config.{quorumOf, questions, rigQuestions}
 ghost use Rattle.config.specs.Lengths.{lengthsOf, messagesLength};
 ghost use Rattle.config.specs.Number.{NewClientPost, NewServerPost, clientNumber, serverNumber};
 ghost use Rattle.config.specs.Questions.{ask as question, firstNo, lastQuestion, within as inside};
-ghost use Rattle.config.specs.Refusal.{clamped, refusalNumber, verdictNumber};
+ghost use Rattle.config.specs.Refusal.{clamped, passing15, refusalNumber, verdictNumber};
 ghost use Prim.Native.Nat.{min};
 
 // The most servers.
@@ -213,7 +213,7 @@ impl Client {
     }
 }
 
-// What the questions are about: a refusal names the first that was answered no. 1 to 18 are document 01's; 19 to 28 are document
+// What the questions are about: a refusal names the first that was answered no. 1 to 18, without 15, are document 01's; 19 to 28 are document
 // 02's.
 pub enum Refusal {
     // 1: N is out of range.
@@ -244,8 +244,6 @@ pub enum Refusal {
     Full,
     // 14: the answer is not awaited.
     NotAwaited,
-    // 15: the tag is at or below the floor, and not stored.
-    Cleared,
     // 16: the record is for another party, or of a kind that it does not receive.
     Misdirected,
     // 17: server numbers do not rise strictly within 1 to N.
@@ -274,7 +272,7 @@ pub enum Refusal {
     Uncorrectable,
 }
 
-// The refusals by their numbers; 0 is taken for 1.
+// The refusals by their numbers; 0 is taken for 1, and 15, which none has, for 16.
 const REFUSALS: [Refusal; 29] = [
     Refusal::Servers,
     Refusal::Servers,
@@ -291,7 +289,7 @@ const REFUSALS: [Refusal; 29] = [
     Refusal::IllFormed,
     Refusal::Full,
     Refusal::NotAwaited,
-    Refusal::Cleared,
+    Refusal::Misdirected,
     Refusal::Misdirected,
     Refusal::NotRising,
     Refusal::Elements,
@@ -327,7 +325,6 @@ impl Refusal {
             Refusal::IllFormed => 12,
             Refusal::Full => 13,
             Refusal::NotAwaited => 14,
-            Refusal::Cleared => 15,
             Refusal::Misdirected => 16,
             Refusal::NotRising => 17,
             Refusal::Elements => 18,
@@ -344,7 +341,7 @@ impl Refusal {
         }
     }
 
-    // The refusal of a number; a number past either end is taken for that end.
+    // The refusal of a number; a number past either end is taken for that end, and 15, which no refusal has, for 16.
     pub fn of(no: u8) -> Refusal
         ensures { λ r. ⌜ refusalNumber r ≡ clamped no ⌝ }
     {
@@ -364,7 +361,7 @@ pub enum Verdict {
 impl Verdict {
     // The verdict of a refusal's number, or of 0.
     pub fn of(no: u8) -> Verdict
-        ensures { λ r. ⌜ verdictNumber r ≡ min no lastQuestion ⌝ }
+        ensures { λ r. ⌜ verdictNumber r ≡ min (passing15 no) lastQuestion ⌝ }
     {
         if no == 0 {
             return Verdict::Accepted;

@@ -13,9 +13,10 @@ use Rattle.laws.proofs.Bools.{and-left, and-right}
 use Rattle.config.specs.declared.Config.{Config}
 use Rattle.config.specs.declared.Refusal.{Refusal}
 use Rattle.config.specs.Config.{Valid, boardLength, rigQuestions, storeLength}
-use Rattle.config.specs.Questions.{ask, firstNo, lastQuestion, numbered}
+use Rattle.config.specs.Questions.{ask, firstNo, numbered}
 use Rattle.config.specs.Refusal.{clamped, refusalNumber}
-use Rattle.config.proofs.Questions.{firstNo-high, firstNo-stop, last-all, last-no, last-yes, numbered-both, rigQuestions-numbered}
+use Rattle.config.proofs.Refusals.{refusal-given}
+use Rattle.config.proofs.Questions.{Given, firstNo-given, firstNo-stop, last-all, last-no, last-yes, numbered-both, rigQuestions-numbered}
 use Rattle.config.proofs.Valid.{rig-most, rig-valid}
 use Rattle.protocol.specs.Board.{refused}
 use Rattle.protocol.specs.Boards.{cut, writeFits}
@@ -70,11 +71,11 @@ left-of true true c d ec ed h z f = absurd (true≢false (sym (ap₂ _&&_ ec ed)
 left-of true false c d ec ed h z f = f refl
 left-of false b c d ec ed h z f = refl
 
--- no refusal's number is above the last question's
-six-high : (cfg : Config) (m : ℕ) (holds : Bool) → firstNo (rigQuestions cfg m ++ ask 6 holds ∷ []) ≤ lastQuestion
+-- it is a number that is given
+six-given : (cfg : Config) (m : ℕ) (holds : Bool) → Given (firstNo (rigQuestions cfg m ++ ask 6 holds ∷ []))
 unfolding numbered
-six-high cfg m holds =
-    firstNo-high (rigQuestions cfg m ++ ask 6 holds ∷ []) (numbered-both (rigQuestions cfg m) (ask 6 holds ∷ []) (rigQuestions-numbered cfg m) refl)
+six-given cfg m holds =
+    firstNo-given (rigQuestions cfg m ++ ask 6 holds ∷ []) (numbered-both (rigQuestions cfg m) (ask 6 holds ∷ []) (rigQuestions-numbered cfg m) refl)
 
 -- a board cut at a length is as long
 pub cut-sized : (cfg : Config) (m n : ℕ) (board read : List ℕ) (l : Lent) → allSized cfg m (cut n board) read l ≡ allSized cfg m board read l
@@ -101,9 +102,9 @@ module _ (cfg : Config) (m : ℕ) (p : Part) (a : Call) (board read : List ℕ) 
   module _ {got : ℕ} (e : got ≡ partNo cfg m p a board read l) (ne : got ≡ 0 → ⊥) {why : Refusal} (number : refusalNumber why ≡ clamped got)
       {x : Change} (refuses : x ≡ refusing why p)
     where
-      got-high : got ≤ lastQuestion
+      got-given : Given got
       unfolding partQuestions
-      got-high = omega (arith, e, six-high cfg m six)
+      got-given = subst Given (sym e) (six-given cfg m six)
 
       pub part-refused : ChangePost cfg m p a board read l x read l
       part-refused =
@@ -111,7 +112,7 @@ module _ (cfg : Config) (m : ℕ) (p : Part) (a : Call) (board read : List ℕ) 
           (record {
             server = refl;
             client = refl;
-            refuses = λ _. (ap refused (omega (arith, number, e, ne, got-high)), refl, refl, refl);
+            refuses = λ _. (ap refused (refusal-given got-given ne number ∙ e), refl, refl, refl);
             event = λ z. absurd (ne (e ∙ z));
           })
 
@@ -228,11 +229,10 @@ module _ (cfg : Config) (m : ℕ) (r : Rig) (a : Call) (board read : List ℕ) (
       → EventPost cfg m r (called a board) read l t read l
   unfolding rigWithin
   rig-refused {got} e ne {why} number {t} refuses =
-      let high : got ≤ lastQuestion = omega (arith, e, six-high cfg m (partiesWithin cfg r)) in
       let six-is : got ≡ firstNo (rigQuestions cfg m ++ ask 6 (all-long && rigWithin cfg m r) ∷ []) =
       stricter cfg m (partiesWithin cfg r) (all-long && rigWithin cfg m r) got
       (λ h. right-no all-long (rigWithin cfg m r) (right-no (leb (r .count) m) (partiesWithin cfg r) h)) e ne in
-      let its : refusalNumber why ≡ got = omega (arith, number, high, ne) in
+      let its : refusalNumber why ≡ got = refusal-given (subst Given (sym e) (six-given cfg m (partiesWithin cfg r))) ne number in
       subst (λ (z : Turn). EventPost cfg m r (called a board) read l z read l) (sym refuses)
       (refused-event cfg m r (called a board) read l (record { answer = Answer.No why; rig = r }) read l (refusalNumber why)
       (λ z. ne (sym its ∙ z)) (early six-is ne ∙ sym its) refl refl refl refl)

@@ -41,6 +41,7 @@ figures =
       not-stored = refl;
       acknowledged = refl;
       seen-3 = refl;
+      accepted-1-1 = refl;
       read-1-1 = refl;
       accepted-3-1 = refl;
       read-3-1 = refl;

@@ -4,7 +4,7 @@ use mathlib.Core.Path.{_≡_}
 use mathlib.Core.Bool.{true}
 use mathlib.Core.Option.{Option, none, some}
 use mathlib.Core.List.{List, [], _∷_, map}
-use lib.ListN.{replicate}
+use lib.ListN.{length, replicate}
 use Rattle.config.specs.declared.Config.{Config}
 use Rattle.config.specs.Config.{quorumOf}
 use Rattle.config.specs.Questions.{firstNo}
@@ -14,7 +14,7 @@ use Rattle.code.specs.Decoded.{decoded}
 use Rattle.tag.specs.declared.Tag.{Tag}
 use Rattle.tag.specs.Tag.{above, key, start}
 use Rattle.record.specs.declared.Kind.{Kind}
-use Rattle.record.specs.declared.Kind.the-variants.{PreWrite, PreWriteAnswer, ReadFinalise, ReadFinaliseAnswer}
+use Rattle.record.specs.declared.Kind.the-variants.{Cleared, PreWrite, PreWriteAnswer, ReadFinalise, ReadFinaliseAnswer}
 use Rattle.record.specs.Element.{Element, elementWith}
 use Rattle.record.specs.Message.{Message}
 use Rattle.record.specs.Record.{all, ofConfig, recordOf}
@@ -91,7 +91,7 @@ abbrev pub store-3 : List ℕ
 store-3 = 2 ∷ []
 
 abbrev pub gets : Message Element → ℕ
-gets m = firstNo (stepQuestions one state-3 (recordOf one m) store-3 (replicate 80 0))
+gets m = firstNo (stepQuestions one state-3 (recordOf one m) (length store-3) 80)
 
 pub record Figures : Type 0 where
   -- "(N, k) gives q: (5, 3) 4; (5, 5) 5; (6, 3) 5; (16, 1) 9."
@@ -123,9 +123,11 @@ pub record Figures : Type 0 where
   pub floor-3 : server-3 .server .floor ≡ some (tag 1 2)
   pub not-stored : elementOf key (tag 1 2) (server-3 .server .stored) ≡ none
   pub acknowledged : server-3 .answer ≡ some (message PreWriteAnswer 2 (tag 1 2) none)
-  -- "a read finalise of (1, 1) gets 15; one of (3, 1) is answered without an element."
+  -- "a read finalise of (1, 1) gets 15; one of (3, 1) is answered without an element." In document 02: "Where a server step gave 15 it now sends
+  -- a record of kind 9".
   pub seen-3 : view one state-3 store-3 ≡ server-3 .server
-  pub read-1-1 : gets (readFinalise 1 1) ≡ 15
+  pub accepted-1-1 : gets (readFinalise 1 1) ≡ 0
+  pub read-1-1 : step (server-3 .server) (readFinalise 1 1) .answer ≡ some (message Cleared 1 (tag 1 1) none)
   pub accepted-3-1 : gets (readFinalise 3 1) ≡ 0
   pub read-3-1 : step (server-3 .server) (readFinalise 3 1) .answer ≡ some (message ReadFinaliseAnswer 1 (tag 3 1) none)
   -- each of these messages is one of the configuration

@@ -1,1 +1,1 @@
-// No code: document 01's figures, as one theorem, and those of boards shorter than the block, as another.
+// No code: document 01's figures, those of boards shorter than the block, and those of a record of kind 9: a theorem each.

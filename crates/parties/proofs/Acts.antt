@@ -15,7 +15,6 @@ use Rattle.config.specs.declared.Verdict.{Verdict}
 use Rattle.config.specs.Number.{clientNumber, serverNumber}
 use Rattle.config.specs.Refusal.{refusalNumber, verdictNumber}
 use Rattle.record.proofs.Parties.{number-low}
-use Rattle.server.specs.declared.Stepped.{Stepped}
 use Rattle.config.specs.Config.{storeLength}
 use Rattle.server.specs.Within.{stateWithin as serverStateWithin}
 use Rattle.server.specs.View as serverView
@@ -36,7 +35,7 @@ use Rattle.parties.specs.declared.Acted.{Acted}
 use Rattle.parties.specs.declared.Pair.{Pair}
 use Rattle.parties.specs.Acts.{ActPost, Parts, among, answerOf, isRead, pairWithin}
 use Rattle.parties.specs.Sound.{Sound}
-use Rattle.parties.specs.inner.Acted.{endedBy, movedOn, quietly, refusing, steppedOn, withState}
+use Rattle.parties.specs.inner.Acted.{endedBy, movedOn, refusing}
 
 module _ (cfg : Config) (number : ℕ) (act : BoardParties → BoardActed) (x : Pair) (l : Parts) (sends read : List ℕ) where
   -- a refusal
@@ -162,14 +161,3 @@ module _ (cfg : Config) (number : ℕ) (act : BoardParties → BoardActed) (x : 
         by : (w : Verdict) → y .verdict ≡ w → ActPost cfg number act x l sends read (movedOn w x y) l′ sends′ read′
         by Verdict.Accepted h = moved h
         by (Verdict.No why) h = refuses why h
-
--- a server's step that gave a number: 15, or another
-module _ (x : Pair) (y : Stepped) (why : Refusal) (e : y .verdict ≡ Verdict.No why) where
-  abbrev by : Bool → Acted
-  by b = cond b (quietly (withState x y)) (refusing why x)
-
-  pub stepped-silent : refusalNumber why ≡ 15 → (r : Acted) → r ≡ quietly (withState x y) → r ≡ steppedOn (y .verdict) x y
-  stepped-silent h r f = f ∙ sym (ap (λ (v : Verdict). steppedOn v x y) e ∙ ap by (eq-eqb (refusalNumber why) 15 h))
-
-  pub stepped-refused : (refusalNumber why ≡ 15 → ⊥) → (r : Acted) → r ≡ refusing why x → r ≡ steppedOn (y .verdict) x y
-  stepped-refused h r f = f ∙ sym (ap (λ (v : Verdict). steppedOn v x y) e ∙ ap by (ne-eqb (refusalNumber why) 15 h))

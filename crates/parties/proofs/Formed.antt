@@ -3,13 +3,13 @@
 -- the states of question 6. Assumes nothing.
 use Prim.Native.Nat.{ℕ, zero, suc, _+_, _*_, _≤_, _<_}
 use mathlib.Core.Path.{_≡_, refl, sym, ap, ap₂, subst, _∙_}
-use mathlib.Core.Bool.{Bool, true, false, cond, not, _&&_, _||_}
+use mathlib.Core.Bool.{Bool, true, false, cond, _&&_, _||_}
 use mathlib.Core.Option.{Option, none, some}
 use mathlib.Core.List.{List, [], _∷_, _++_}
 use native.Mathlib.Nat.{mul-le-mul-right}
 use native.Mathlib.Omega.{arith}
 use borrow.Author.Tests.{eq-eqb, ne-eqb, eqb-true, le-leb, leb-true, ltb-true}
-use lib.Dec.{eqb, leb, ltb}
+use lib.Dec.{leb, ltb}
 use lib.ListN.{length, getD, take, drop, length-drop}
 use lib.Seq.{length-take-le}
 use Rattle.laws.proofs.Bools.{and-left, and-right}
@@ -23,7 +23,7 @@ use Rattle.tag.proofs.Order.{allowed-client, key-one}
 use Rattle.code.specs.Element.{element}
 use Rattle.code.proofs.Decoding.{length-element}
 use Rattle.record.specs.declared.Kind.{Kind}
-use Rattle.record.specs.declared.Kind.the-variants.{Query, QueryAnswer, PreWrite, PreWriteAnswer, WriteFinalise, WriteFinaliseAnswer, ReadFinalise, ReadFinaliseAnswer}
+use Rattle.record.specs.declared.Kind.the-variants.{Query, QueryAnswer, PreWrite, PreWriteAnswer, WriteFinalise, WriteFinaliseAnswer, ReadFinalise, ReadFinaliseAnswer, Cleared}
 use Rattle.record.specs.Kinds.{isForServer}
 use Rattle.record.specs.Element.{Element}
 use Rattle.record.specs.Record.{all, highestNumber, isPresent, kindNumber, messageClauses, ofConfig, ownTag, presence, queryTag, sized}
@@ -50,6 +50,7 @@ use Rattle.protocol.specs.Server as server
 use Rattle.protocol.specs.Server.{addLast, answerTo, atOrBelowFloor, dropSmallest, elementOf, finalised, freshServer, inPlaceOf, isStored, noServer, others, readAnswer, serverStepOf, smallest, store, storeElement}
 use Rattle.protocol.specs.Tags.{higher, sameKey}
 use Rattle.protocol.proofs.Basics.{cond-elim, upd-elim}
+use Rattle.protocol.proofs.Judged.{awaits-it, first-kind, of-operation, of-tag}
 use Rattle.parties.specs.Sound.{Sound}
 use Rattle.parties.proofs.Sound.{sound-none, sound-one, sound-toEach}
 
@@ -213,11 +214,10 @@ module _ (cfg : Config) (c : ℕ) (own : within 1 (cfg .c) c ≡ true) (o : ℕ)
   module _ (valid : Valid cfg) (m : BoardMessage) (good : ofConfig cfg m ≡ true) (mine : m .client ≡ c) where
     -- an awaited answer to a pre-write has the client's own tag
     own-tag : (t : Tag) (cs : ℕ → Bool) → TagFits cfg t → (isFirst 4 cs m && sameKey key (m .tag) t) ≡ true → t .client ≡ c
-    unfolding isFirst
     own-tag t cs h a =
-        let first = and-left (eqb (kindNumber (m .kind)) 4 && not (cs (m .server))) (sameKey key (m .tag) t) a in
-        let four = eqb-true (kindNumber (m .kind)) 4 (and-left (eqb (kindNumber (m .kind)) 4) (not (cs (m .server))) first) in
-        let one = one-tag cfg valid (m .tag) t (message-fits cfg m good) h (and-right (isFirst 4 cs m) (sameKey key (m .tag) t) a) in
+        let parts = of-tag key 4 cs m t a in
+        let four = first-kind 4 cs m (λ e. omega arith) (parts .0) in
+        let one = one-tag cfg valid (m .tag) t (message-fits cfg m good) h (parts .1) in
         let own : ownTag 4 (m .client) (m .tag) ≡ true = subst (λ k. ownTag k (m .client) (m .tag) ≡ true) four (own-clause cfg m good) in
         sym (ap (λ u. u .client) one) ∙ eqb-true (m .tag .client) (m .client) own ∙ mine
 
@@ -247,17 +247,25 @@ module _ (cfg : Config) (c : ℕ) (own : within 1 (cfg .c) c ≡ true) (x : Boar
   unfolding client.beginClient PhaseFits
   begun-fits h board fits = record { sends = begun-sound h board; phase = (start-fits cfg, fits) }
 
+  -- it asks again
+  again-fits : MovedFits cfg (client.askAgain cfg c (x .operation))
+  unfolding client.askAgain client.beginClient
+  again-fits =
+      cond-elim (MovedFits cfg) (ltb (x .operation) highestNumber) (client.sendQueries cfg c (x .operation + 1) none) (ends (x .operation) client.spent)
+      (λ h. begun-fits (ltb-true (x .operation) highestNumber h) none tt) (λ _. ends-fits cfg (x .operation) client.spent)
+
   -- it is handed an answer
   pub step-fits : Valid cfg → PhaseFits cfg (x .phase) → (m : BoardMessage) → ofConfig cfg m ≡ true → m .client ≡ c
       → MovedFits cfg (clientStep cfg c x m)
-  unfolding client.clientStep client.settle client.counted awaited
+  unfolding client.clientStep client.receives client.settle client.counted awaited
   step-fits valid fits m good mine =
-      cond-elim (MovedFits cfg) (awaited key x m)
-      (settling (encode cfg) (decode cfg) cfg c (x .operation) (counting key (x .phase) m)) (stays x)
+      cond-elim (MovedFits cfg) (awaited key x m) (client.receives key (encode cfg) (decode cfg) cfg c x m) (stays x)
       (λ a.
-      let same = eqb-true (m .operation) (x .operation) (and-left (eqb (m .operation) (x .operation)) (awaits key (x .phase) m) a) in
-      settled-fits cfg c own (x .operation) (subst (λ n. within 1 highestNumber n ≡ true) same (operation-within cfg m good)) valid m good mine
-      (x .phase) fits (and-right (eqb (m .operation) (x .operation)) (awaits key (x .phase) m) a))
+      cond-elim (MovedFits cfg) (client.isCleared (m .kind)) (client.askAgain cfg c (x .operation))
+      (settling (encode cfg) (decode cfg) cfg c (x .operation) (counting key (x .phase) m))
+      (λ _. again-fits)
+      (λ _. settled-fits cfg c own (x .operation) (subst (λ n. within 1 highestNumber n ≡ true) (of-operation key m x a) (operation-within cfg m good)) valid m good mine
+      (x .phase) fits (awaits-it key m x a)))
       (λ _. stays-fits cfg x fits)
 
 -- ---- a server
@@ -319,11 +327,11 @@ module _ (cfg : Config) (s : ℕ) (v : BoardServer) (fits : ServerFits cfg v) (m
   own-of : (kind : Kind) → m .kind ≡ kind → ownTag (kindNumber kind) (m .client) (m .tag) ≡ true
   own-of kind e = subst (λ (k : Kind). ownTag (kindNumber k) (m .client) (m .tag) ≡ true) e (own-clause cfg m good)
 
-  read-sound : (e : Option Element) → sized cfg e ≡ true → Sound cfg (toList (readAnswer key s (v .floor) m e))
+  read-sound : (e : Option Element) → sized cfg e ≡ true → Sound cfg (toList (some (readAnswer key s (v .floor) m e)))
   unfolding readAnswer toList
   read-sound none h =
-      cond-elim (λ (o : Option BoardMessage). Sound cfg (toList o)) (atOrBelowFloor key (m .tag) (v .floor)) none
-      (some (answerTo s m ReadFinaliseAnswer (m .tag) none)) (λ _. sound-none)
+      cond-elim (λ (kind : Kind). Sound cfg (toList (some (answerTo s m kind (m .tag) none)))) (atOrBelowFloor key (m .tag) (v .floor)) Cleared ReadFinaliseAnswer
+      (λ _. answer-is-of Cleared (m .tag) none (message-fits cfg m good) refl refl refl refl)
       (λ _. answer-is-of ReadFinaliseAnswer (m .tag) none (message-fits cfg m good) refl refl refl refl)
   read-sound (some e) h = answer-is-of ReadFinaliseAnswer (m .tag) (some e) (message-fits cfg m good) h refl refl refl
 
@@ -337,6 +345,7 @@ module _ (cfg : Config) (s : ℕ) (v : BoardServer) (fits : ServerFits cfg v) (m
   sound-of WriteFinaliseAnswer e = sound-none
   sound-of ReadFinalise e = read-sound (elementOf key (m .tag) (v .stored)) (stored-sized cfg (m .tag) (v .stored) (fits .stored))
   sound-of ReadFinaliseAnswer e = sound-none
+  sound-of Cleared e = sound-none
 
   fits-of : (kind : Kind) → ServerFits cfg (serverStepOf kind key (cfg .d) s v m .server)
   unfolding serverStepOf server.query server.preWrite server.writeFinalise server.readFinalise
@@ -348,6 +357,7 @@ module _ (cfg : Config) (s : ℕ) (v : BoardServer) (fits : ServerFits cfg v) (m
   fits-of WriteFinaliseAnswer = fits
   fits-of ReadFinalise = finalised-fits cfg v (m .tag) fits (message-fits cfg m good)
   fits-of ReadFinaliseAnswer = fits
+  fits-of Cleared = fits
 
   -- what a server answers
   pub answer-sound : Sound cfg (toList (serverStep cfg s v m .answer))

@@ -1,6 +1,6 @@
 -- Fresh parties: a server's element is encoded and put into its store; what the questions of a making show. Assumes nothing.
 use Prim.Native.Nat.{ℕ, _≤_, min}
-use mathlib.Core.Path.{_≡_, refl, sym, ap, ap₂, _∙_}
+use mathlib.Core.Path.{_≡_, refl, sym, ap, ap₂, subst, _∙_}
 use mathlib.Core.Bool.{Bool, true, false, cond, _&&_}
 use mathlib.Core.List.{List, [], _∷_}
 use native.Mathlib.Omega.{arith}
@@ -17,9 +17,9 @@ use Rattle.config.specs.declared.Verdict.{Verdict}
 use Rattle.config.specs.Config.{Valid, boardLength, questions, storeLength}
 use Rattle.config.specs.Number.{NewClientPost, clientNumber, clientQuestions, newClientNumber, serverNumber}
 use Rattle.config.specs.Questions.{Question, ask, firstNo, lastQuestion, numbered, within}
-use Rattle.config.specs.Refusal.{refusalNumber, verdictNumber}
-use Rattle.config.proofs.Questions.{firstNo-high, firstNo-no, firstNo-pass, firstNo-yes, last-yes, later, none-first, none-rest, numbered-both, questions-numbered, within-high, within-low, yes-next}
-use Rattle.config.proofs.Refusals.{refusal-low}
+use Rattle.config.specs.Refusal.{passing15, refusalNumber, verdictNumber}
+use Rattle.config.proofs.Questions.{Given, firstNo-given, firstNo-no, firstNo-pass, firstNo-yes, last-yes, later, none-first, none-rest, numbered-both, questions-numbered, within-high, within-low, yes-next}
+use Rattle.config.proofs.Refusals.{refusal-low, verdict-given}
 use Rattle.config.proofs.Valid.{valid, valid-asked}
 use Rattle.code.specs.Element.{element}
 use Rattle.code.specs.Encode.{EncodePost, encodeQuestions}
@@ -79,15 +79,15 @@ module _ (cfg : Config) (s : ℕ) (start store : List ℕ) where
       sym (none-no cfg s (length start) (length store) refl (valid-asked cfg v)
       (ap₂ _&&_ (eq-eqb (length start) (boardLength cfg) a) (eq-eqb (length store) (storeLength cfg) b)) inside)
 
-  number-high : serverNo cfg s start store ≤ lastQuestion
+  number-given : Given (serverNo cfg s start store)
   unfolding freshServerQuestions numbered
-  number-high = firstNo-high (freshServerQuestions cfg s (length start) (length store)) (numbered-both (questions cfg) _ (questions-numbered cfg) refl)
+  number-given = firstNo-given (freshServerQuestions cfg s (length start) (length store)) (numbered-both (questions cfg) _ (questions-numbered cfg) refl)
 
   pub server-refused : (got : ℕ) → got ≡ serverNo cfg s start store → (got ≡ 0 → ⊥) → (verdict : Verdict) (x : Node)
-      → verdictNumber verdict ≡ min got lastQuestion → x ≡ freshNode 1 1 → FreshServerPost cfg s start store store (record { verdict = verdict; node = x })
+      → verdictNumber verdict ≡ min (passing15 got) lastQuestion → x ≡ freshNode 1 1 → FreshServerPost cfg s start store store (record { verdict = verdict; node = x })
   server-refused got e ne verdict x number least =
       record {
-        number = number ∙ omega (arith, e, number-high);
+        number = verdict-given (subst Given (sym e) number-given) number ∙ e;
         made = λ z. absurd (ne (e ∙ z));
         seen = λ z. absurd (ne (e ∙ z));
         long = refl;

@@ -1,12 +1,12 @@
 -- A record handed to a client: its questions, and what is left of them.
-use Prim.Native.Nat.{ℕ, _≤_}
+use Prim.Native.Nat.{ℕ, _+_, _≤_}
 use mathlib.Core.Path.{_≡_, refl, sym, ap, ap₂, subst, _∙_}
 use mathlib.Core.Bool.{Bool, true, false, cond, not, _&&_, true≢false}
 use mathlib.Core.List.{List, [], _∷_, _++_, append-assoc}
 use mathlib.Core.Option.{Option, none, some}
 use native.Mathlib.Omega.{arith}
 use native.Mathlib.Decide.{ℕ-discrete}
-use borrow.Author.Tests.{ne-eqb, eqb-true}
+use borrow.Author.Tests.{eq-eqb, ne-eqb, eqb-true}
 use lib.Dec.{eqb, ltb}
 use lib.ListN.{length}
 use Rattle.laws.proofs.Bools.{and-left, and-right}
@@ -43,10 +43,11 @@ use Rattle.client.specs.State.{lent, placed, placedAt, stateWithin}
 use Rattle.client.proofs.Phases.{self-in}
 use Rattle.protocol.specs.Boards.{Board, BoardClient, BoardMessage, BoardMoved, BoardParties, BoardPhase, decode, encode, order}
 use Rattle.protocol.specs.Client as protocol
-use Rattle.protocol.specs.Client.{idle, asking, preWriting, finalisingWrite, finalisingRead, down, asked, awaited, awaits, counted, counting, endRead, ends, enough, enoughToRead, isFirst, nothing, sendPreWrites, sendReadFinalises, sendWriteFinalises, settle, settling, spent, stays}
+use Rattle.protocol.specs.Client.{idle, asking, preWriting, finalisingWrite, finalisingRead, down, askAgain, asked, awaited, awaits, counted, counting, endRead, ends, enough, enoughToRead, nothing, sendPreWrites, sendReadFinalises, sendWriteFinalises, settle, settling, spent, stays, isCleared, receives, sendQueries}
 use Rattle.protocol.specs.Parties as parties
 use Rattle.protocol.specs.Parties.{withPair}
 use Rattle.protocol.proofs.Basics.{cond-elim}
+use Rattle.protocol.proofs.Judged.{awaits-it, first-kind, of-tag}
 use Rattle.protocol.proofs.Pairs.{deliver-client}
 use Rattle.parties.specs.declared.Acted.{Acted}
 use Rattle.parties.specs.declared.Pair.{Pair}
@@ -54,7 +55,6 @@ use Rattle.parties.specs.Acts.{ActPost, ClientPost, Parts, among, answer
 use Rattle.parties.specs.inner.Acted.{endedBy, movedOn, quietly, refusing}
 use Rattle.parties.proofs.Acts.{accepted-act, its-answer, not-read, refused-act}
 use Rattle.parties.proofs.Formed.{NumberedPhase, client-seen-fits, step-fits}
-use Rattle.parties.proofs.ToServer.{lacks, no-such}
 
 -- ---- a step that sends takes no element and ends nothing
 
@@ -72,17 +72,12 @@ module _ (cfg : Config) (c : ℕ) (w : BoardMessage) (of : ofConfig cfg w ≡ tr
   abbrev Sends : BoardMoved → Type 0
   Sends y = length (y .sends) ≡ 0 → ⊥
 
-  bare-2 : kindNumber (w .kind) ≡ 2 → w .element ≡ none
+  -- a kind that has no element
+  bare : (k : ℕ) → ((b : Bool) → presence k b ≡ not b) → kindNumber (w .kind) ≡ k → w .element ≡ none
   unfolding ofConfig messageClauses
-  bare-2 e = absent (w .element) (ap (λ k. presence k (isPresent (w .element))) (sym e) ∙ all-at (messageClauses cfg w) of 5)
-
-  bare-4 : kindNumber (w .kind) ≡ 4 → w .element ≡ none
-  unfolding ofConfig messageClauses
-  bare-4 e = absent (w .element) (ap (λ k. presence k (isPresent (w .element))) (sym e) ∙ all-at (messageClauses cfg w) of 5)
-
-  of-kind : (k : ℕ) (cs : ℕ → Bool) → isFirst k cs w ≡ true → kindNumber (w .kind) ≡ k
-  unfolding isFirst
-  of-kind k cs h = eqb-true (kindNumber (w .kind)) k (and-left (eqb (kindNumber (w .kind)) k) (not (cs (w .server))) h)
+  bare k lacks-one e =
+      absent (w .element)
+      (sym (lacks-one (isPresent (w .element))) ∙ ap (λ n. presence n (isPresent (w .element))) (sym e) ∙ all-at (messageClauses cfg w) of 5)
 
   abbrev Quiet : BoardMoved → Type 0
   Quiet y = Sends y → y .ended ≡ nothing
@@ -102,21 +97,43 @@ module _ (cfg : Config) (c : ℕ) (w : BoardMessage) (of : ofConfig cfg w ≡ tr
   unfolding awaits counting settling stays sendWriteFinalises ends endRead
   by-phase o idle h s = absurd (s refl)
   by-phase o (asking b t cs) h s =
-      (bare-2 (of-kind 2 cs h), cond-elim Quiet (enough cfg _) _ _ (λ _. asked-quiet o b _) (λ _ _. refl) s)
+      (bare 2 (λ b. refl) (first-kind 2 cs w (λ e. omega arith) h), cond-elim Quiet (enough cfg _) _ _ (λ _. asked-quiet o b _) (λ _ _. refl) s)
   by-phase o (preWriting t cs) h s =
-      (bare-4 (of-kind 4 cs (and-left (isFirst 4 cs w) _ h)), cond-elim Quiet (enough cfg _) _ _ (λ _ _. refl) (λ _ _. refl) s)
+      (bare 4 (λ b. refl) (first-kind 4 cs w (λ e. omega arith) (of-tag key 4 cs w t h .0)), cond-elim Quiet (enough cfg _) _ _ (λ _ _. refl) (λ _ _. refl) s)
   by-phase o (finalisingWrite t cs) h s = absurd (cond-elim Silent (enough cfg _) _ _ (λ _ n. n refl) (λ _ n. n refl) s)
   by-phase o (finalisingRead t cs es) h s = absurd (cond-elim Silent (enoughToRead cfg _ _) _ _ (λ _ n. n refl) (λ _ n. n refl) s)
   by-phase o down h s = absurd (s refl)
 
+  again-bare : (o : ℕ) → isCleared (w .kind) ≡ true → Sends (askAgain cfg c o) → Bare (askAgain cfg c o)
+  unfolding askAgain ends
+  again-bare o nine s = (
+    bare 9 (λ b. refl) (eqb-true (kindNumber (w .kind)) 9 nine),
+    cond-elim Quiet (ltb o highestNumber) (sendQueries cfg c (o + 1) none) (ends o spent) (λ _ _. refl) (λ _ n. absurd (n refl)) s,
+  )
+
   pub sends-bare : (x : BoardClient) → Sends (step x) → Bare (step x)
-  unfolding protocol.clientStep settle counted stays awaited
+  unfolding protocol.clientStep receives settle counted stays awaited
   sends-bare x =
-      cond-elim (λ y. Sends y → Bare y) (awaited key x w) (settles (x .operation) (counting key (x .phase) w)) (stays x)
-      (λ e. by-phase (x .operation) (x .phase) (and-right (eqb (w .operation) (x .operation)) (awaits key (x .phase) w) e))
+      cond-elim (λ y. Sends y → Bare y) (awaited key x w) (receives key (encode cfg) (decode cfg) cfg c x w) (stays x)
+      (λ e.
+      cond-elim (λ y. Sends y → Bare y) (isCleared (w .kind)) (askAgain cfg c (x .operation)) (settles (x .operation) (counting key (x .phase) w))
+      (again-bare (x .operation))
+      (λ _. by-phase (x .operation) (x .phase) (awaits-it key w x e)))
       (λ _ s. absurd (s refl))
 
 -- ---- the questions
+
+-- no question of a list has this number
+unfoldable lacks : ℕ → List Question → Bool
+lacks k [] = true
+lacks k (ask n h ∷ qs) = not (eqb n k) && lacks k qs
+
+no-such : (k : ℕ) (qs : List Question) → lacks k qs ≡ true → 1 ≤ k → firstNo qs ≡ k → ⊥
+unfolding firstNo lacks
+no-such k [] h low e = omega (arith, low, e)
+no-such k (ask n true ∷ qs) h low e = no-such k qs (and-right (not (eqb n k)) (lacks k qs) h) low e
+no-such k (ask n false ∷ qs) h low e =
+    true≢false (sym (and-left (not (eqb n k)) (lacks k qs) h) ∙ ap not (eq-eqb n k e))
 
 -- the kinds that a client receives are no server's
 not-server : (k : Kind) → isForClient k ≡ true → isForServer k ≡ false
@@ -259,8 +276,8 @@ module _ (cfg : Config) (x : Pair) (handed store kept es es′ sends sends′ re
         ap (λ k. cond (eqb k 0) move (stays before)) (step-pass cfg me handed kept es sends read none-no)
         ∙ told (awaited key before m)
       where
-        told : (z : Bool) → cond (eqb (cond z 0 14) 0) (cond z (settle (encode cfg) (decode cfg) cfg c (counted key before m)) (stays before)) (stays before)
-            ≡ cond z (settle (encode cfg) (decode cfg) cfg c (counted key before m)) (stays before)
+        told : (z : Bool) → cond (eqb (cond z 0 14) 0) (cond z (receives key (encode cfg) (decode cfg) cfg c before m) (stays before)) (stays before)
+            ≡ cond z (receives key (encode cfg) (decode cfg) cfg c before m) (stays before)
         told true = refl
         told false = refl
 

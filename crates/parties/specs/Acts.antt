@@ -7,13 +7,11 @@ use mathlib.Core.List.{List, [], _∷_, _++_}
 use lib.Dec.{eqb}
 use lib.ListN.{length}
 use Rattle.config.specs.declared.Config.{Config}
-use Rattle.config.specs.Config.{questions, recordLength, storeLength}
+use Rattle.config.specs.Config.{questions, storeLength}
 use Rattle.config.specs.Number.{clientNumber, serverNumber}
 use Rattle.config.specs.Questions.{Question, ask}
 use Rattle.config.specs.Refusal.{refusalNumber}
 use Rattle.record.specs.Record.{messageOf, wellFormed}
-use Rattle.server.specs.declared.State as serverState
-use Rattle.server.specs.Calls.{forServer}
 use Rattle.server.specs.Within.{stateWithin as serverStateWithin}
 use Rattle.server.specs.View as serverView
 use Rattle.client.specs.declared.State as clientState
@@ -103,15 +101,6 @@ crashesServer x p = protocol.crashServer p (serverNumber (x .node .state .me))
 
 abbrev pub crashesClient : Pair → BoardParties → BoardActed
 crashesClient x p = protocol.crashClient p (clientNumber (x .client .me))
-
--- A record for the server: questions 1 to 5; 6, of the record, the store, the answer and the state; 12; 16.
-unfoldable pub toServerQuestions : Config → serverState.State → List ℕ → ℕ → ℕ → List Question
-toServerQuestions cfg s handed store answer =
-    questions cfg
-    ++ ask 6 (eqb (length handed) recordLength && eqb store (storeLength cfg) && eqb answer recordLength && serverStateWithin cfg s)
-    ∷ ask 12 (wellFormed cfg handed)
-    ∷ ask 16 (forServer (serverNumber (s .me)) (messageOf cfg handed))
-    ∷ []
 
 -- A record for the client: questions 1 to 5; 6, of the record, the lent buffers and the state; 12; 16.
 unfoldable pub toClientQuestions : Config → clientState.State → List ℕ → ℕ → ℕ → ℕ → ℕ → List Question

@@ -78,20 +78,17 @@ pub(crate) fn stepped(pair: Pair, y: Stepped) -> Acted
     ensures { λ r. ⌜ r ≡ steppedOn (y .verdict) pair y ⌝ }
 {
     let verdict = y.verdict;
-    let state = y.state;
-    let old = pair.node;
-    let client = pair.client;
-    let node = Node { state, up: old.up };
-    let after = Pair { node, client };
     let Verdict::No(why) = verdict else {
+        let state = y.state;
+        let old = pair.node;
+        let client = pair.client;
+        let node = Node { state, up: old.up };
+        let pair = Pair { node, client };
         return Acted {
             answer: Answer::Nothing,
-            pair: after,
+            pair,
             sent: 1,
         };
     };
-    if why.number() == 15 {
-        return quiet(after);
-    }
     refused(pair, why)
 }

@@ -92,7 +92,7 @@ module _ (cfg : Config) (valid : Valid cfg) (start : Board) (isBoard : IsBoard c
         filled = boards a i one .1;
       })
 
-  -- each answer that names a client ends exactly one operation of that client, begun before: written or spent a write, read a read
+  -- each answer that names a client ends exactly one operation of that client, begun before: written a write, read a read, spent either
   pub ends-one : {r : BoardRig} {events : List BoardEvent} → BoardExecution cfg start r events → EndsOne events
   ends-one =
       theorem.ends-one cfg (order cfg) (tag-order cfg valid) (IsBoard cfg) (encode cfg) (decode cfg) (coding cfg valid) (valid .k-low) start isBoard

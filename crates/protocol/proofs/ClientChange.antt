@@ -1,9 +1,9 @@
--- A client goes on, takes a tag, ends, begins: the changes of the world that its moves are made of.
+-- A client goes on, takes a tag, ends, begins, asks again, ends spent: the changes of the world that its moves are made of.
 use Prim.Native.Nat.{ℕ, _+_, _≤_}
-use mathlib.Core.Path.{_≡_, refl, sym, _∙_, ap}
+use mathlib.Core.Path.{_≡_, refl, sym, _∙_, ap, subst}
 use mathlib.Core.Bool.{false≢true}
 use mathlib.Core.Option.{Option, none, some}
-use mathlib.Core.List.{List, _++_, List·Memᴰ}
+use mathlib.Core.List.{List, [], _++_, List·Memᴰ, List·Memᴰ·not-nil}
 use native.Mathlib.Nat.{le-refl}
 use native.Mathlib.Omega.{arith}
 use Rattle.tag.specs.declared.Tag.{Tag}
@@ -11,16 +11,17 @@ use Rattle.record.specs.Message.{Message}
 use Rattle.protocol.specs.Number.{upd, nobody}
 use Rattle.tag.specs.Tag.{start as startingTag}
 use Rattle.protocol.specs.Client.{Client, asking}
-use Rattle.protocol.specs.Board.{Answer}
+use Rattle.protocol.specs.Board.{Answer, spentBy}
 use Rattle.protocol.specs.Parties.{Parties, withClient}
 use Rattle.protocol.proofs.Basics.{upd-elim, upd-same, upd-other, none≢some, some-injective}
 use Rattle.protocol.proofs.Quorum.{quorum-map}
-use Rattle.protocol.proofs.World.{Setting, Ghost, know, GoodMessage, GoodPhase, Idle, Asking, Good}
+use Rattle.protocol.proofs.World.{Setting, Ghost, know, Current, GoodMessage, GoodPhase, GoodLog, Idle, Asking, Good}
 use Rattle.protocol.proofs.Monotone.{Below, Keeps, keeps-refl, message-up, phase-up}
 use Rattle.protocol.proofs.LogUp.{log-up}
 use Rattle.protocol.proofs.LogChose.{chose, Choice, log-chose}
 use Rattle.protocol.proofs.LogEnded.{ended, End, log-ended}
 use Rattle.protocol.proofs.LogBegan.{began, log-began}
+use Rattle.protocol.proofs.LogWithdrew.{withdrew, chosen-before, log-withdrew}
 use Rattle.protocol.proofs.Change.{below-refl, client-changed}
 
 module _ (S : Setting) where
@@ -106,37 +107,72 @@ module _ (S : Setting) where
                   upd-other (g .ending) (g .latest c) (some (now, answer)) p (λ i. none≢some (sym (end .unended) ∙ ap (g .ending) (sym i) ∙ e)) ∙ e;
             }
 
-    -- client c begins an operation, with the board to write or none
-    module _ (c : ℕ) (board : Option Value) (idle : Idle S g c) (low : 1 ≤ c) (within : c ≤ Setting.cfg S .c) (isBoard : (v : Value) → board ≡ some v → Setting.IsBoard S v) where
-      abbrev high : ℕ → ℕ
-      high s = key (ps .servers s .highest)
-
-      abbrev pub begins : Ghost S
-      begins = began S g now c board high
-
+    -- client c asks, in its next operation number: the base is what the servers have now, and all that has ended and has a tag had both before
+    module _ (c : ℕ) (board : Option Value) (g′ : Ghost S) where
       abbrev pub asks : Client Value Element
       asks = record { operation = ps .clients c .operation + 1; phase = asking board startingTag nobody }
 
-      pub begins-up : Below S (know S ps g) (know S (withClient ps c asks) begins)
-      unfolding know withClient
-      begins-up =
-          record {
-            high = λ s. le-refl _;
-            number = λ d.
-                upd-elim (λ (y : Client Value Element). ps .clients d .operation ≤ y .operation) (ps .clients) c asks d
-                (λ e. omega (arith, ap (λ (z : ℕ). ps .clients z .operation) e))
-                (λ n. le-refl _);
-            base = λ d e s.
-                upd-elim (λ (f : ℕ → ℕ). f s ≡ g .base d s) (g .base) c high d
-                (λ i.
-                let now-is : upd (ps .clients) c asks d .operation ≡ ps .clients c .operation + 1 = ap (λ (z : ℕ). upd (ps .clients) c asks z .operation) i ∙ ap (λ (y : Client Value Element). y .operation) (upd-same (ps .clients) c asks) in
-                absurd (omega (arith, e, now-is, ap (λ (z : ℕ). ps .clients z .operation) i)))
-                (λ n. refl);
-            bytes = λ n v e. e;
-          }
+      abbrev pub highs : ℕ → ℕ
+      highs s = key (ps .servers s .highest)
 
-      keeps : (d : ℕ) → (d ≡ c → ⊥) → Keeps S g begins d
-      keeps d n =
+      pub record Asks : Type 0 where
+        pub base : g′ .base ≡ upd (g .base) c highs
+        pub bytes : g′ .bytes ≡ g .bytes
+        pub current : Current S g′ c board none
+        pub isBoard : (v : Value) → board ≡ some v → Setting.IsBoard S v
+        pub earlier : (p : ℕ) (x : ℕ × Answer Value) (t : Tag) → g′ .ending p ≡ some x → g′ .chosen p ≡ some t → (g .ending p ≡ some x) × (g .chosen p ≡ some t)
+
+      module _ (new : Asks) where
+        pub asks-up : Below S (know S ps g) (know S (withClient ps c asks) g′)
+        unfolding know withClient
+        asks-up =
+            record {
+              high = λ s. le-refl _;
+              number = λ d.
+                  upd-elim (λ (y : Client Value Element). ps .clients d .operation ≤ y .operation) (ps .clients) c asks d
+                  (λ e. omega (arith, ap (λ (z : ℕ). ps .clients z .operation) e))
+                  (λ n. le-refl _);
+              base = λ d e s. ap (λ (f : ℕ → ℕ → ℕ). f d s) (new .base) ∙
+                  upd-elim (λ (f : ℕ → ℕ). f s ≡ g .base d s) (g .base) c highs d
+                  (λ i.
+                  let now-is : upd (ps .clients) c asks d .operation ≡ ps .clients c .operation + 1 = ap (λ (z : ℕ). upd (ps .clients) c asks z .operation) i ∙ ap (λ (y : Client Value Element). y .operation) (upd-same (ps .clients) c asks) in
+                  absurd (omega (arith, e, now-is, ap (λ (z : ℕ). ps .clients z .operation) i)))
+                  (λ n. refl);
+              bytes = λ n v e. ap (λ (f : ℕ → Option Value). f n) (new .bytes) ∙ e;
+            }
+
+        based : (s : ℕ) → g′ .base c s ≡ highs s
+        based s = ap (λ (f : ℕ → ℕ → ℕ). f c s) (new .base) ∙ ap (λ (f : ℕ → ℕ). f s) (upd-same (g .base) c highs)
+
+        phase : Asking S (know S (withClient ps c asks) g′) g′ c board startingTag nobody
+        unfolding know withClient
+        phase =
+            record {
+              current = new .current;
+              isBoard = new .isBoard;
+              known = record { board = Setting.start S; is = ap (λ (f : ℕ → Option Value). f (key startingTag)) (new .bytes) ∙ a .log .startBytes; within = omega arith };
+              start = le-refl _;
+              answers = λ s e. absurd (false≢true e);
+              earlier = λ p x t e f h.
+                  let old = new .earlier p x t e f in
+                  quorum-map {P = λ s. key t ≤ highs s} {Q = λ s. key t ≤ g′ .base c s} (λ s l. omega (arith, l, based s)) (a .log .endingQuorum p x t (old .0) (old .1));
+            }
+
+        pub client-asks : (sends : List (Message Element)) → ((m : Message Element) → List·Memᴰ m sends → GoodMessage S (know S (withClient ps c asks) g′) m) → ((d : ℕ) → (d ≡ c → ⊥) → Keeps S g g′ d) → GoodLog S (know S (withClient ps c asks) g′) g′ (now + 1) → Good S (withClient ps c asks) (ms ++ sends) g′ (now + 1)
+        unfolding know withClient
+        client-asks sends sent keeps log =
+            client-changed S a c asks sends g′ asks-up keeps
+            (λ d s. subst (λ (f : ℕ → ℕ → ℕ). f d s ≤ highs s) (sym (new .base))
+            (upd-elim (λ (f : ℕ → ℕ). f s ≤ highs s) (g .base) c highs d (λ e. le-refl _) (λ e. a .base d s)))
+            sent phase log
+
+    -- client c begins an operation, with the board to write or none
+    module _ (c : ℕ) (board : Option Value) (idle : Idle S g c) (low : 1 ≤ c) (within : c ≤ Setting.cfg S .c) (isBoard : (v : Value) → board ≡ some v → Setting.IsBoard S v) where
+      abbrev pub begins : Ghost S
+      begins = began S g now c board (λ s. key (ps .servers s .highest))
+
+      keeps-begin : (d : ℕ) → (d ≡ c → ⊥) → Keeps S g begins d
+      keeps-begin d n =
           record {
             latest = upd-other (g .latest) c now d n;
             current = λ b e. (upd-other (g .begun) now (some (c, board)) (g .latest d) (λ h. omega (arith, a .log .begunBefore (g .latest d) (d, b) e, h)), refl, refl);
@@ -159,10 +195,11 @@ module _ (S : Setting) where
       unended none e = refl
       unended (some x) e = absurd (omega (arith, a .log .endingAfter now x e, a .log .endingBefore now x e))
 
-      phase : Asking S (know S (withClient ps c asks) begins) begins c board startingTag nobody
-      unfolding know withClient
-      phase =
+      pub asks-begun : Asks c board begins
+      asks-begun =
           record {
+            base = refl;
+            bytes = refl;
             current = record {
               begun = rw (upd-same (g .latest) c now) (upd-same (g .begun) now (some (c, board)));
               chosen = rw (upd-same (g .latest) c now) (unchosen (g .chosen now) refl);
@@ -171,16 +208,78 @@ module _ (S : Setting) where
               high = within;
             };
             isBoard = isBoard;
-            known = record { board = Setting.start S; is = a .log .startBytes; within = omega arith };
-            start = le-refl _;
-            answers = λ s e. absurd (false≢true e);
-            earlier = λ p x t e f h.
-                quorum-map {P = λ s. key t ≤ high s} {Q = λ s. key t ≤ upd (g .base) c high c s} (λ s l. rw (upd-same (g .base) c high) l) (a .log .endingQuorum p x t e f);
+            earlier = λ p x t e f. (e, f);
           }
 
-      pub client-began : (sends : List (Message Element)) → ((m : Message Element) → List·Memᴰ m sends → GoodMessage S (know S (withClient ps c asks) begins) m) → Good S (withClient ps c asks) (ms ++ sends) begins (now + 1)
-      unfolding know withClient
+      pub client-began : (sends : List (Message Element)) → ((m : Message Element) → List·Memᴰ m sends → GoodMessage S (know S (withClient ps c (asks c board begins)) begins) m) → Good S (withClient ps c (asks c board begins)) (ms ++ sends) begins (now + 1)
+      unfolding know
       client-began sends sent =
-          client-changed S a c asks sends begins begins-up keeps
-          (λ d s. upd-elim (λ (f : ℕ → ℕ). f s ≤ key (ps .servers s .highest)) (g .base) c high d (λ e. le-refl _) (λ e. a .base d s))
-          sent phase (log-began S c board high begins-up (λ n. refl) idle (a .log))
+          client-asks c board begins asks-begun sends sent keeps-begin
+          (log-began S c board (λ s. key (ps .servers s .highest)) (asks-up c board begins asks-begun) (λ n. refl) idle (a .log))
+
+    -- client c, which reads, gives up the tag that it took
+    module _ (c : ℕ) (t : Tag) (reads : Current S g c none (some t)) where
+      -- to ask again: one read, begun once
+      abbrev pub again : Ghost S
+      again = withdrew S g (g .latest c) (upd (g .base) c (λ s. key (ps .servers s .highest)))
+
+      given-up : (base : ℕ → ℕ → ℕ) (d : ℕ) → (d ≡ c → ⊥) → Keeps S g (withdrew S g (g .latest c) base) d
+      given-up base d n =
+          record {
+            latest = refl;
+            current = λ b e. (refl, upd-other (g .chosen) (g .latest c) none (g .latest d) (apart g (g .latest c) c d none b n (reads .begun) e), refl);
+            earlier = λ p y u e f h. (e, chosen-before S g (g .latest c) p u f);
+            begun = λ p b e. e;
+            ending = λ p y e. e;
+          }
+
+      pub asks-again : Asks c none again
+      asks-again =
+          record {
+            base = refl;
+            bytes = refl;
+            current = record {
+              begun = reads .begun;
+              chosen = upd-same (g .chosen) (g .latest c) none;
+              ending = reads .ending;
+              low = reads .low;
+              high = reads .high;
+            };
+            isBoard = λ v e. absurd (none≢some e);
+            earlier = λ p x u e f. (e, chosen-before S g (g .latest c) p u f);
+          }
+
+      pub client-again : (sends : List (Message Element)) → ((m : Message Element) → List·Memᴰ m sends → GoodMessage S (know S (withClient ps c (asks c none again)) again) m) → Good S (withClient ps c (asks c none again)) (ms ++ sends) again (now + 1)
+      unfolding know
+      client-again sends sent =
+          client-asks c none again asks-again sends sent (given-up (again .base))
+          (log-withdrew S (g .latest c) (again .base) (asks-up c none again asks-again) (λ n. refl) (omega arith) (reads .begun) (reads .ending) (a .log))
+
+      -- or to end spent
+      abbrev pub spends : Ghost S
+      spends = ended S (withdrew S g (g .latest c) (g .base)) (g .latest c) (now, spentBy c)
+
+      spent-keeps : (d : ℕ) → (d ≡ c → ⊥) → Keeps S g spends d
+      spent-keeps d n =
+          record {
+            latest = refl;
+            current = λ b e. (refl, given-up (g .base) d n .current b e .1, upd-other (g .ending) (g .latest c) (some (now, spentBy c)) (g .latest d) (apart g (g .latest c) c d none b n (reads .begun) e));
+            earlier = λ p y u e f h. (
+              upd-elim (λ (o : Option (ℕ × Answer Value)). o ≡ some y → g .ending p ≡ some y) (g .ending) (g .latest c) (some (now, spentBy c)) p
+                  (λ i j. absurd (none≢some (sym (upd-same (g .chosen) (g .latest c) none) ∙ ap (upd (g .chosen) (g .latest c) none) (sym i) ∙ f))) (λ i j. j) e,
+              chosen-before S g (g .latest c) p u f,
+            );
+            begun = λ p b e. e;
+            ending = λ p y e.
+                upd-other (g .ending) (g .latest c) (some (now, spentBy c)) p (λ i. none≢some (sym (reads .ending) ∙ ap (g .ending) (sym i) ∙ e)) ∙ e;
+          }
+
+      pub client-spent : (x : Client Value Element) → Onward c x → GoodPhase S (know S (withClient ps c x) spends) spends c (x .phase) → Good S (withClient ps c x) (ms ++ []) spends (now + 1)
+      unfolding know withClient
+      client-spent x same phase =
+          let up = onward-up c x spends same (λ d s. refl) (λ n v e. e) in
+          let unchosen = upd-same (g .chosen) (g .latest c) none in
+          client-changed S a c x [] spends up spent-keeps (a .base) (λ m i. absurd (List·Memᴰ·not-nil i)) phase
+          (log-ended S up (λ n. refl)
+          (record { begun = reads .begun; unended = reads .ending; how = unchosen; quorum = λ u e. absurd (none≢some (sym unchosen ∙ e)) })
+          (log-withdrew S (g .latest c) (g .base) (below-refl S (know S ps g)) (λ n. refl) (le-refl _) (reads .begun) (reads .ending) (a .log)))

@@ -2,6 +2,7 @@ pub mod Evaluate
 mod Example
 mod Coded
 pub mod Basics
+pub mod Judged
 mod Quorum
 pub mod Pairs
 mod World
@@ -10,6 +11,7 @@ mod LogUp
 mod LogChose
 mod LogEnded
 mod LogBegan
+mod LogWithdrew
 mod Change
 mod Store
 mod ServerMove
@@ -40,3 +42,4 @@ pub mod Boards
 pub mod Decoded
 mod ShortBoards
 mod Lengths
+mod Cleared

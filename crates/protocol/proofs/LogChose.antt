@@ -72,7 +72,7 @@ module _ (S : Setting) where
     how-chose r b (refused n) e f h = h
     how-chose r b nothingEnded e f h = h
     how-chose r b (writtenBy d u) e f h = (e ∙ h .0, h .1)
-    how-chose r b (spentBy d) e f h = (e ∙ h .0, h .1)
+    how-chose r b (spentBy d) e f h = e ∙ h
     how-chose r b (readBy d u v) e f h = (e ∙ h .0, h .1, f (key u) v (h .2))
 
     pub log-chose : ((n : ℕ) (v : Value) → g .bytes n ≡ some v → bytes n ≡ some v) → GoodLog S k′ (chose g p t bytes) now

@@ -173,14 +173,14 @@ module _ (S : Setting) where
     after = begins S (a .good) c board was-idle low high isBoard
 
     abbrev asking-now : Parties Value Element
-    asking-now = withClient ps c (asks S (a .good) c board was-idle low high isBoard)
+    asking-now = withClient ps c (asks S (a .good) c board after)
 
     abbrev event : Event Value
     event = record { call = call; answer = nothingEnded }
 
     number : ps .clients c .operation + 1 ≤ know S asking-now after .number c
     unfolding know withClient
-    number = rw (upd-same (ps .clients) c (asks S (a .good) c board was-idle low high isBoard)) (le-refl _)
+    number = rw (upd-same (ps .clients) c (asks S (a .good) c board after)) (le-refl _)
 
     start-known : Known S (know S asking-now after) startingTag
     unfolding know

@@ -119,7 +119,7 @@ module _ (S : Setting) where
         go (refused n) how = absurd how
         go nothingEnded how = absurd how
         go (writtenBy d u) how = (refl, sym (how .0) ∙ w .chosen)
-        go (spentBy d) how = absurd (none≢some (sym (how .0) ∙ w .chosen))
+        go (spentBy d) how = absurd (none≢some (sym how ∙ w .chosen))
         go (readBy d u z) how = absurd (none≢some (sym (how .1)))
 
     read-ended : (p c : ℕ) (t : Tag) (y : ℕ × Answer Value) → g .chosen p ≡ some t → g .begun p ≡ some (c, none) → g .ending p ≡ some y → (v : Value) × (history h p ≡ showed v (y .0)) × (g .bytes (key t) ≡ some v)
@@ -132,7 +132,7 @@ module _ (S : Setting) where
         go (refused n) how = absurd how
         go nothingEnded how = absurd how
         go (writtenBy d u) how = absurd (none≢some (how .1 .1))
-        go (spentBy d) how = absurd (none≢some (how .1 .1))
+        go (spentBy d) how = absurd (none≢some (sym how ∙ e))
         go (readBy d u z) how = (z, refl, ap (λ (x : Tag). g .bytes (key x)) (some-injective (sym e ∙ how .0)) ∙ how .2)
 
     write-open : (p : ℕ) (v : Value) (t : Tag) (w : Wrote S g p v t) → g .ending p ≡ none → history h p ≡ unendedWrite v

@@ -11,7 +11,7 @@ use borrow.Author.Tests.{eqb-false, eqb-true, le-ltb, lt-ltb, ltb-false, ltb-tru
 use native.Mathlib.Omega.{arith}
 use Rattle.tag.specs.declared.Tag.{Tag}
 use Rattle.record.specs.declared.Kind.{Kind}
-use Rattle.record.specs.declared.Kind.the-variants.{Query, QueryAnswer, PreWrite, PreWriteAnswer, WriteFinalise, WriteFinaliseAnswer, ReadFinalise, ReadFinaliseAnswer}
+use Rattle.record.specs.declared.Kind.the-variants.{Query, QueryAnswer, PreWrite, PreWriteAnswer, WriteFinalise, WriteFinaliseAnswer, ReadFinalise, ReadFinaliseAnswer, Cleared}
 use Rattle.record.specs.Message.{Message}
 use Rattle.protocol.specs.Tags.{lower, sameKey}
 use Rattle.protocol.specs.Server.{Server, Stored, addLast, answerTo, atOrBelowFloor, dropSmallest, elementOf, finalised, inPlaceOf, isStored, others, preWrite, query, readAnswer, readFinalise, serverStep, serverStepOf, smallest, store, storeElement, writeFinalise}
@@ -234,6 +234,7 @@ module _ {Element : Type 0} (key : Tag → ℕ) (d : ℕ) (v w : Server Element)
     server-by WriteFinaliseAnswer = alike
     server-by ReadFinalise = finalised-same key (m .tag) alike
     server-by ReadFinaliseAnswer = alike
+    server-by Cleared = alike
 
     answer-by : (kind : Kind) → serverStepOf kind key d s v m .answer ≡ serverStepOf kind key d s w m .answer
     unfolding serverStepOf query preWrite writeFinalise readFinalise
@@ -243,8 +244,9 @@ module _ {Element : Type 0} (key : Tag → ℕ) (d : ℕ) (v w : Server Element)
     answer-by PreWriteAnswer = refl
     answer-by WriteFinalise = refl
     answer-by WriteFinaliseAnswer = refl
-    answer-by ReadFinalise = ap₂ (λ (f : Option Tag) (e : Option Element). readAnswer key s f m e) (alike .floor) (element-reordered key (m .tag) (alike .stored) o)
+    answer-by ReadFinalise = ap₂ {C = Option (Message Element)} (λ (f : Option Tag) (e : Option Element). some (readAnswer key s f m e)) (alike .floor) (element-reordered key (m .tag) (alike .stored) o)
     answer-by ReadFinaliseAnswer = refl
+    answer-by Cleared = refl
 
     pub server-same : SameButOrder (serverStep key d s v m .server) (serverStep key d s w m .server)
     unfolding serverStep
@@ -324,6 +326,7 @@ module _ {Element : Type 0} (key : Tag → ℕ) where
       by-kind WriteFinaliseAnswer = o
       by-kind ReadFinalise = o
       by-kind ReadFinaliseAnswer = o
+      by-kind Cleared = o
 
       -- a server's step
       pub step-once : StoredOnce key (serverStep key d s v m .server .stored)

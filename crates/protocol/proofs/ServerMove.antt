@@ -2,13 +2,14 @@
 use Prim.Native.Nat.{ℕ, _+_, _≤_}
 use mathlib.Core.Path.{_≡_, refl, sym, _∙_, ap, subst}
 use mathlib.Core.Logic.{⊎-elim}
+use mathlib.Core.Bool.{cond}
 use mathlib.Core.Option.{Option, none, some}
 use mathlib.Core.List.{List, _++_, List·Memᴰ, List·Memᴰ·not-nil, List·Memᴰ·eq-of-singleton}
 use native.Mathlib.Nat.{le-refl}
 use native.Mathlib.Omega.{arith}
 use Rattle.tag.specs.declared.Tag.{Tag}
 use Rattle.record.specs.declared.Kind.{Kind}
-use Rattle.record.specs.declared.Kind.the-variants.{Query, QueryAnswer, PreWrite, PreWriteAnswer, WriteFinalise, WriteFinaliseAnswer, ReadFinalise, ReadFinaliseAnswer}
+use Rattle.record.specs.declared.Kind.the-variants.{Query, QueryAnswer, PreWrite, PreWriteAnswer, WriteFinalise, WriteFinaliseAnswer, ReadFinalise, ReadFinaliseAnswer, Cleared}
 use Rattle.record.specs.Message.{Message}
 use Rattle.protocol.specs.Number.{toList}
 use Rattle.record.specs.Record.{kindNumber}
@@ -130,16 +131,17 @@ module _ (S : Setting) where
         let boards : st .board ≡ good .known .board = some-injective (sym (st .is) ∙ ap (g .bytes) (x .2) ∙ good .known .is) in
         sym (x .3) ∙ st .element ∙ ap (λ (b : Value). encode b s) boards
 
-    read-answer-good : (w : Server Element) → key (v .highest) ≤ key (w .highest) → key (m .tag) ≤ key (w .highest) → (e : Option Element) → elementOf key (m .tag) (v .stored) ≡ e → (x : Message Element) → readAnswer key s (v .floor) m e ≡ some x → GoodMessage S (know S (withServer ps s w) g) x
+    -- without an element it is kind 8 or 9
+    bare-kind : kindNumber (cond (atOrBelowFloor key (m .tag) (v .floor)) Cleared ReadFinaliseAnswer) ≡ 2 → ⊥
+    bare-kind =
+        cond-elim (λ (kind : Kind). kindNumber kind ≡ 2 → ⊥) (atOrBelowFloor key (m .tag) (v .floor)) Cleared ReadFinaliseAnswer (λ e h. omega arith) (λ e h. omega arith)
+
+    read-answer-good : (w : Server Element) → key (v .highest) ≤ key (w .highest) → key (m .tag) ≤ key (w .highest) → (e : Option Element) → elementOf key (m .tag) (v .stored) ≡ e → GoodMessage S (know S (withServer ps s w) g) (readAnswer key s (v .floor) m e)
     unfolding readAnswer
-    read-answer-good w rises has (some e) h x i =
-        subst (GoodMessage S (know S (withServer ps s w) g)) (some-injective i)
-        (reply-good w ReadFinaliseAnswer (m .tag) (some e) (good .known) rises (λ y j. sym (some-injective j) ∙ found-good e h) (λ j. absurd (omega arith)) (λ j. has) (λ j. has))
-    read-answer-good w rises has none h x i =
-        cond-elim (λ (o : Option (Message Element)). o ≡ some x → GoodMessage S (know S (withServer ps s w) g) x) (atOrBelowFloor key (m .tag) (v .floor)) none (some (answerTo s m ReadFinaliseAnswer (m .tag) none)) (λ j l. absurd (none≢some l))
-        (λ j q. subst (GoodMessage S (know S (withServer ps s w) g)) (some-injective q)
-        (reply-good w ReadFinaliseAnswer (m .tag) none (good .known) rises (λ y l. absurd (none≢some l)) (λ l. absurd (omega arith)) (λ l. has) (λ l. has)))
-        i
+    read-answer-good w rises has (some e) h =
+        reply-good w ReadFinaliseAnswer (m .tag) (some e) (good .known) rises (λ y j. sym (some-injective j) ∙ found-good e h) (λ j. absurd (omega arith)) (λ j. has) (λ j. has)
+    read-answer-good w rises has none h =
+        reply-good w (cond (atOrBelowFloor key (m .tag) (v .floor)) Cleared ReadFinaliseAnswer) (m .tag) none (good .known) rises (λ y l. absurd (none≢some l)) (λ l. absurd (bare-kind l)) (λ l. has) (λ l. has)
 
     -- the server has the tag once it was told to finalise it for a read
     read-finalised-has : key (m .tag) ≤ key (readFinalise key s v m .server .highest)
@@ -154,10 +156,15 @@ module _ (S : Setting) where
     unfolding readFinalise
     read-finalised-good = finalised-good
 
+    read-answered : (x : Message Element) → readFinalise key s v m .answer ≡ some x → readAnswer key s (v .floor) m (elementOf key (m .tag) (v .stored)) ≡ x
+    unfolding readFinalise
+    read-answered x e = some-injective e
+
     read-finalise-good : Left (readFinalise key s v m)
     read-finalise-good =
         turn (readFinalise key s v m .server) (readFinalise key s v m .answer) read-finalised-rises read-finalised-good
-        (unfold readFinalise in read-answer-good (readFinalise key s v m .server) read-finalised-rises read-finalised-has (elementOf key (m .tag) (v .stored)) refl)
+        (λ x e. subst (GoodMessage S (know S (withServer ps s (readFinalise key s v m .server)) g)) (read-answered x e)
+        (read-answer-good (readFinalise key s v m .server) read-finalised-rises read-finalised-has (elementOf key (m .tag) (v .stored)) refl))
 
     silent-good : Left (record { server = v; answer = none })
     silent-good = turn v none (le-refl _) (a .servers s) (λ x e. absurd (none≢some e))
@@ -172,6 +179,7 @@ module _ (S : Setting) where
     step-good WriteFinaliseAnswer = silent-good
     step-good ReadFinalise = read-finalise-good
     step-good ReadFinaliseAnswer = silent-good
+    step-good Cleared = silent-good
 
     pub server-good : Left (serverStep key (cfg .d) s v m)
     unfolding serverStep

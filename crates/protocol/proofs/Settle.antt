@@ -12,20 +12,22 @@ use native.Mathlib.Nat.{le-refl}
 use native.Mathlib.Omega.{arith}
 use Rattle.config.specs.Config.{quorumOf}
 use Rattle.tag.specs.declared.Tag.{Tag}
-use Rattle.record.specs.declared.Kind.the-variants.{WriteFinalise}
+use Rattle.record.specs.declared.Kind.the-variants.{Query, WriteFinalise}
 use Rattle.record.specs.Message.{Message}
+use Rattle.tag.specs.Tag.{start as startingTag}
 use Rattle.protocol.specs.Number.{upd, count, present, nobody, nothingYet}
-use Rattle.protocol.specs.Client.{Phase, Moved, Ended, idle, asking, preWriting, finalisingWrite, finalisingRead, down, sendEach, enough, enoughToRead, highestNumber, nextTag, stays, ends, asked, endRead, sendPreWrites, sendReadFinalises, sendWriteFinalises, settling, settle, counting, counted, awaited, awaits, clientStep}
-use Rattle.protocol.specs.Board.{Answer, nothingEnded, names}
+use Rattle.protocol.specs.Client.{Phase, Moved, Ended, idle, asking, preWriting, finalisingWrite, finalisingRead, down, isCleared, sendEach, sendQueries, askAgain, receives, enough, enoughToRead, highestNumber, nextTag, stays, ends, asked, endRead, sendPreWrites, sendReadFinalises, sendWriteFinalises, settling, settle, counting, counted, awaited, awaits, clientStep}
+use Rattle.protocol.specs.Board.{Answer, nothingEnded, spentBy, names}
 use Rattle.protocol.specs.Parties.{Parties, withClient, answerOf}
-use Rattle.protocol.proofs.Basics.{cond-elim, and-true, upd-elim, none≢some, some-injective}
+use Rattle.protocol.proofs.Basics.{cond-elim, and-true, upd-elim, upd-same, none≢some, some-injective}
 use Rattle.protocol.proofs.Quorum.{Quorum}
 use Rattle.protocol.proofs.World.{Setting, Ghost, know, Current, Idle, Asking, GoodMessage, GoodPhase, Good}
 use Rattle.protocol.proofs.LogEnded.{ended, End}
 use Rattle.protocol.proofs.Send.{sent-good}
 use Rattle.protocol.proofs.Count.{phase-counted}
+use Rattle.protocol.proofs.Judged.{awaits-it, cleared-reads, of-operation}
 use Rattle.protocol.proofs.Present.{decoded}
-use Rattle.protocol.proofs.ClientChange.{client-moved, client-ended}
+use Rattle.protocol.proofs.ClientChange.{client-moved, client-ended, asks, again, client-again, spends, client-spent}
 use Rattle.protocol.proofs.Choose.{read-chose, write-chose, afterRead, afterWrite}
 
 module _ (S : Setting) where
@@ -71,6 +73,16 @@ module _ (S : Setting) where
     ends-good board tag how current end naming =
         (ended S g (g .latest c) (now, answerOf c how), client-ended S a c (record { operation = o; phase = idle }) [] (answerOf c how) refl end (λ m i. absurd (List·Memᴰ·not-nil i)) (idle-after (answerOf c how)), closes c board (current .begun) (current .ending) refl refl naming)
 
+    -- the queries of a read that asks again
+    asked-again : (t : Tag) (reads : Current S g c none (some t)) → Good S (withClient ps c (asks S a c none (again S a c t reads))) (ms ++ sendEach cfg Query c (o + 1) startingTag nothingYet) (again S a c t reads) (now + 1)
+    unfolding know withClient
+    asked-again t reads =
+        client-again S a c t reads (sendEach cfg Query c (o + 1) startingTag nothingYet)
+        (sent-good S Query c (o + 1) startingTag nothingYet (λ i. omega arith, λ i. omega arith, λ i. omega arith)
+        (rw (upd-same (ps .clients) c (asks S a c none (again S a c t reads))) (le-refl _))
+        (record { board = Setting.start S; is = a .log .startBytes; within = omega arith })
+        (λ s x e. absurd (none≢some e)))
+
     naming-one : (d : ℕ) → eqb c d ≡ true → d ≡ c
     naming-one d e = sym (eqb-true c d e)
 
@@ -81,7 +93,7 @@ module _ (S : Setting) where
         (record {
           begun = current .begun;
           unended = current .ending;
-          how = (current .chosen, (board, refl));
+          how = current .chosen;
           quorum = λ t e. absurd (none≢some (sym (current .chosen) ∙ e));
         })
         (eq-eqb c c refl, naming-one)
@@ -138,6 +150,18 @@ module _ (S : Setting) where
       still refl refl refl,
     )
 
+    -- a read asks again, or ends spent
+    again-good : (t : Tag) → Current S g c none (some t) → Result (askAgain cfg c o)
+    unfolding askAgain answerOf names ends
+    again-good t reads =
+        cond-elim Result (ltb o highestNumber) (sendQueries cfg c (o + 1) none) (ends o Ended.spent)
+        (λ e. (again S a c t reads, asked-again t reads, still refl refl refl))
+        (λ e. (
+          spends S a c t reads,
+          client-spent S a c t reads (record { operation = o; phase = idle }) refl (record { closed = idle-after (spentBy c) .closed }),
+          closes c none (reads .begun) (reads .ending) refl refl (eq-eqb c c refl, naming-one),
+        ))
+
     settle-good : (ph : Phase Value Element) → GoodPhase S (know S ps g) g c ph → Result (settling encode decode cfg c o ph)
     unfolding settling
     settle-good idle h = stays-good idle h
@@ -151,13 +175,21 @@ module _ (S : Setting) where
         cond-elim Result (enoughToRead cfg cs es) (endRead decode cfg o t es) (stays (record { operation = o; phase = finalisingRead t cs es })) (read-good t cs es h) (λ e. stays-good (finalisingRead t cs es) h)
     settle-good down h = stays-good down h
 
+    -- an awaited kind 9 finds the client finalising a read
+    cleared-good : (m : Message Element) (ph : Phase Value Element) → isCleared (m .kind) ≡ true → awaits key ph m ≡ true → GoodPhase S (know S ps g) g c ph → Result (askAgain cfg c o)
+    cleared-good m ph nine h good =
+        let reads = cleared-reads key m nine ph h in
+        again-good (reads .tag) (subst (GoodPhase S (know S ps g) g c) (reads .phase) good .current)
+
   -- client c is handed a good message
   pub client-good : {ps : Parties Value Element} {ms : List (Message Element)} {g : Ghost S} {now : ℕ} (a : Good S ps ms g now) (m : Message Element) → GoodMessage S (know S ps g) m → Result a (m .client) (clientStep key encode decode cfg (m .client) (ps .clients (m .client)) m)
-  unfolding clientStep awaited counted settle know
+  unfolding clientStep receives awaited counted settle know
   client-good {ps} {g = g} a m good =
       let x = ps .clients (m .client) in
-      cond-elim (Result a (m .client)) (awaited key x m) (settle encode decode cfg (m .client) (counted key x m)) (stays x)
+      cond-elim (Result a (m .client)) (awaited key x m) (receives key encode decode cfg (m .client) x m) (stays x)
       (λ e.
-      let parts = and-true (eqb (m .operation) (x .operation)) (awaits key (x .phase) m) e in
-      settle-good a (m .client) (counting key (x .phase) m) (phase-counted S g m good (eqb-true (m .operation) (x .operation) (parts .0)) (x .phase) (parts .1) (a .clients (m .client))))
+      let due = awaits-it key m x e in
+      cond-elim (Result a (m .client)) (isCleared (m .kind)) (askAgain cfg (m .client) (x .operation)) (settle encode decode cfg (m .client) (counted key x m))
+      (λ nine. cleared-good a (m .client) m (x .phase) nine due (a .clients (m .client)))
+      (λ other. settle-good a (m .client) (counting key (x .phase) m) (phase-counted S g m good (of-operation key m x e) other (x .phase) due (a .clients (m .client)))))
       (λ e. stays-good a (m .client) (x .phase) (a .clients (m .client)))

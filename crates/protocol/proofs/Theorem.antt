@@ -47,7 +47,7 @@ module _ {Value Element : Type 0} (cfg : Config) (key : Tag → ℕ) (tags : Tag
         let found = ordered setting (a .good .log) (a .recorded) (λ n. refl) in
         record { order = found .0; fits = found .1; tagsRise = found .2 }
 
-    -- Each answer that names a client ends exactly one operation of that client, begun before: written or spent a write, read a read.
+    -- Each answer that names a client ends exactly one operation of that client, begun before: written a write, read a read, spent either.
     pub ends-one : {r : Rig Value Element} {events : List (Event Value)} → Execution key encode decode cfg IsBoard start r events → EndsOne events
     ends-one runs =
         let a = invariant setting runs in

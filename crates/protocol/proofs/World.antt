@@ -149,7 +149,7 @@ module _ (S : Setting) where
   How g p board (refused n) = ⊥
   How g p board nothingEnded = ⊥
   How g p board (writtenBy c t) = (g .chosen p ≡ some t) × ((v : Value) × (board ≡ some v))
-  How g p board (spentBy c) = (g .chosen p ≡ none) × ((v : Value) × (board ≡ some v))
+  How g p board (spentBy c) = g .chosen p ≡ none
   How g p board (readBy c t v) = (g .chosen p ≡ some t) × (board ≡ none) × (g .bytes (key t) ≡ some v)
 
   -- what is so of the operations, with as many events so far as `now` says

@@ -56,9 +56,17 @@ unfoldable pub sendEach : {Element : Type 0} → Config → Kind → ℕ → ℕ
 sendEach cfg kind c o t e =
     toEach (cfg .n) (λ s. record { kind = kind; client = c; server = s; operation = o; tag = t; element = e s })
 
--- "A client counts one answer per server and phase": the answer is of this kind, and its server is not counted yet
+-- kind 9: the element was cleared
+abbrev pub isCleared : Kind → Bool
+isCleared kind = eqb (kindNumber kind) 9
+
+-- the number as which an answer's kind is judged: kind 9 is "judged as a kind 8 is"
+abbrev pub judged : Kind → ℕ
+judged kind = cond (isCleared kind) 8 (kindNumber kind)
+
+-- "A client counts one answer per server and phase": the answer is judged as of this kind, and its server is not counted yet
 unfoldable pub isFirst : {Element : Type 0} → ℕ → (ℕ → Bool) → Message Element → Bool
-isFirst kind cs m = eqb (kindNumber (m .kind)) kind && not (cs (m .server))
+isFirst kind cs m = eqb (judged (m .kind)) kind && not (cs (m .server))
 
 -- at least q answers
 unfoldable pub enough : Config → (ℕ → Bool) → Bool
@@ -101,17 +109,21 @@ module _ {Value Element : Type 0} where
   beginQuestions x =
       ask 9 (isUp (x .phase)) ∷ ask 10 (isIdle (x .phase)) ∷ ask 11 (ltb (x .operation) highestNumber) ∷ []
 
-  -- "Beginning adds 1 to its operation number (0 when fresh) and sends a query to each server, 1 to N." The board to write, or
-  -- none for a read, is kept while asking.
-  unfoldable pub beginClient : Config → ℕ → Client Value Element → Option Value → Moved Value Element
-  beginClient cfg c x board =
+  -- client c asks with operation number o: it "sends a query to each server, 1 to N". The board to write, or none for a read, is kept while asking; nobody
+  -- is counted.
+  abbrev pub sendQueries : Config → ℕ → ℕ → Option Value → Moved Value Element
+  sendQueries cfg c o board =
       record {
-        client = record { operation = x .operation + 1; phase = asking board start nobody };
-        sends = sendEach cfg Query c (x .operation + 1) start nothingYet;
+        client = record { operation = o; phase = asking board start nobody };
+        sends = sendEach cfg Query c o start nothingYet;
         ended = nothing;
       }
 
-  -- the phase awaits the answer: its kind, a server not yet counted and, for kinds 4, 6 and 8, its tag
+  -- "Beginning adds 1 to its operation number (0 when fresh) and sends a query to each server, 1 to N."
+  unfoldable pub beginClient : Config → ℕ → Client Value Element → Option Value → Moved Value Element
+  beginClient cfg c x board = sendQueries cfg c (x .operation + 1) board
+
+  -- the phase awaits the answer: judged as of its kind, of a server not yet counted and, for kinds 4, 6 and 8, of its tag
   unfoldable pub awaits : (Tag → ℕ) → Phase Value Element → Message Element → Bool
   awaits key idle m = false
   awaits key (asking b t cs) m = isFirst 2 cs m
@@ -125,7 +137,7 @@ module _ {Value Element : Type 0} where
   unfoldable pub awaited : (Tag → ℕ) → Client Value Element → Message Element → Bool
   awaited key x m = eqb (m .operation) (x .operation) && awaits key (x .phase) m
 
-  -- the phase with the answer counted: while asking the highest tag is kept, while finalising a read the element
+  -- the phase with the answer counted, which kind 9 is not: while asking the highest tag is kept, while finalising a read the element
   unfoldable pub counting : (Tag → ℕ) → Phase Value Element → Message Element → Phase Value Element
   counting key idle m = idle
   counting key (asking b t cs) m = asking b (higher key t (m .tag)) (upd cs (m .server) true)
@@ -202,7 +214,17 @@ module _ {Value Element : Type 0} where
   unfoldable pub settle : (Value → ℕ → Element) → (List (ℕ × Element) → Value) → Config → ℕ → Client Value Element → Moved Value Element
   settle encode decode cfg c x = settling encode decode cfg c (x .operation) (x .phase)
 
-  -- The step of client c on an answer: "An answer that isn't awaited changes nothing and sends nothing (14)"; one that is gets
-  -- counted, and then the client settles.
+  -- "A reader in its finalise phase that receives an awaited kind 9 .. raises its operation number by 1 and queries again. If the number is
+  -- already 4,294,967,295 the read ends spent." It is client c, with operation number o.
+  unfoldable pub askAgain : Config → ℕ → ℕ → Moved Value Element
+  askAgain cfg c o = cond (ltb o highestNumber) (sendQueries cfg c (o + 1) none) (ends o spent)
+
+  -- what client c does on an answer that is awaited: kind 9 is not counted, the client asks again; any other is counted, and then the client
+  -- settles
+  unfoldable pub receives : (Tag → ℕ) → (Value → ℕ → Element) → (List (ℕ × Element) → Value) → Config → ℕ → Client Value Element → Message Element → Moved Value Element
+  receives key encode decode cfg c x m =
+      cond (isCleared (m .kind)) (askAgain cfg c (x .operation)) (settle encode decode cfg c (counted key x m))
+
+  -- The step of client c on an answer: "An answer that isn't awaited changes nothing and sends nothing (14)".
   unfoldable pub clientStep : (Tag → ℕ) → (Value → ℕ → Element) → (List (ℕ × Element) → Value) → Config → ℕ → Client Value Element → Message Element → Moved Value Element
-  clientStep key encode decode cfg c x m = cond (awaited key x m) (settle encode decode cfg c (counted key x m)) (stays x)
+  clientStep key encode decode cfg c x m = cond (awaited key x m) (receives key encode decode cfg c x m) (stays x)

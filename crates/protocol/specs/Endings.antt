@@ -2,6 +2,7 @@
 use Prim.Native.Nat.{ℕ, _<_}
 use mathlib.Core.Path.{_≡_}
 use mathlib.Core.Bool.{true}
+use mathlib.Core.Logic.{_⊎_}
 use mathlib.Core.Option.{some}
 use mathlib.Core.List.{List}
 use lib.ListN.{getElem?}
@@ -11,12 +12,12 @@ use Rattle.protocol.specs.Board.{Answer, Event, refused, nothingEnded, w
 abbrev pub Begins : {Value : Type 0} → ℕ → Event Value → Type 0
 Begins code x = (isAccepted (x .answer) ≡ true) × (x .call .code ≡ code)
 
--- what the answer ends began with this event: written or spent ends a write, read ends a read
+-- what the answer ends began with this event: written ends a write, read ends a read, spent ends either
 abbrev pub BeganWith : {Value : Type 0} → Answer Value → Event Value → Type 0
 BeganWith (refused n) x = ⊥
 BeganWith nothingEnded x = ⊥
 BeganWith (writtenBy c t) x = Begins 1 x
-BeganWith (spentBy c) x = Begins 1 x
+BeganWith (spentBy c) x = Begins 1 x ⊎ Begins 2 x
 BeganWith (readBy c t v) x = Begins 2 x
 
 -- the answer of the event at place q ends the operation of client c that was begun at place p

@@ -59,7 +59,7 @@ module _ {Value Element : Type 0} where
   unfoldable pub quiet : Parties Value Element → Acted Value Element
   quiet p = record { parties = p; sends = []; answer = nothingEnded }
 
-  -- server s does its step; 15 inside it counts as accepted
+  -- server s does its step
   unfoldable pub serverActs : Parties Value Element → ℕ → Served Element → Acted Value Element
   serverActs p s o = record { parties = withServer p s (o .server); sends = toList (o .answer); answer = nothingEnded }
 

@@ -9,7 +9,7 @@ use lib.ListN.{length}
 use Rattle.tag.specs.declared.Tag.{Tag}
 use Rattle.tag.specs.Tag.{start}
 use Rattle.record.specs.declared.Kind.{Kind}
-use Rattle.record.specs.declared.Kind.the-variants.{Query, QueryAnswer, PreWrite, PreWriteAnswer, WriteFinalise, WriteFinaliseAnswer, ReadFinalise, ReadFinaliseAnswer}
+use Rattle.record.specs.declared.Kind.the-variants.{Query, QueryAnswer, PreWrite, PreWriteAnswer, WriteFinalise, WriteFinaliseAnswer, ReadFinalise, ReadFinaliseAnswer, Cleared}
 use Rattle.record.specs.Message.{Message}
 use Rattle.protocol.specs.Tags.{sameKey, higher, lower}
 
@@ -24,7 +24,7 @@ pub record Server (Element : Type 0) : Type 0 where
   pub floor : Option Tag
   pub stored : List (Stored Element)
 
--- what a step leaves: the server, and its answer; to the kinds that a server receives, no answer is number 15
+-- what a step leaves: the server, and its answer, which only a kind that no server receives is without
 pub record Served (Element : Type 0) : Type 0 where
   pub server : Server Element
   pub answer : Option (Message Element)
@@ -116,21 +116,22 @@ module _ {Element : Type 0} where
   writeFinalise key s v m =
       record { server = finalised key v (m .tag); answer = some (answerTo s m WriteFinaliseAnswer (m .tag) none) }
 
-  -- "If t is stored, answer with its element. Else if t is at or below the floor, send nothing (15). Else answer without one."
-  unfoldable pub readAnswer : (Tag → ℕ) → ℕ → Option Tag → Message Element → Option Element → Option (Message Element)
-  readAnswer key s floor m (some e) = some (answerTo s m ReadFinaliseAnswer (m .tag) (some e))
+  -- "If t is stored, answer with its element. Else if t is at or below the floor, send nothing (15). Else answer without one." And: "Where a
+  -- server step gave 15 it now sends a record of kind 9, which repeats client, operation number and tag and has no element."
+  unfoldable pub readAnswer : (Tag → ℕ) → ℕ → Option Tag → Message Element → Option Element → Message Element
+  readAnswer key s floor m (some e) = answerTo s m ReadFinaliseAnswer (m .tag) (some e)
   readAnswer key s floor m none =
-      cond (atOrBelowFloor key (m .tag) floor) none (some (answerTo s m ReadFinaliseAnswer (m .tag) none))
+      answerTo s m (cond (atOrBelowFloor key (m .tag) floor) Cleared ReadFinaliseAnswer) (m .tag) none
 
   -- "Read finalise of t: H likewise. .."
   unfoldable pub readFinalise : (Tag → ℕ) → ℕ → Server Element → Message Element → Served Element
   readFinalise key s v m =
       record {
         server = finalised key v (m .tag);
-        answer = readAnswer key s (v .floor) m (elementOf key (m .tag) (v .stored));
+        answer = some (readAnswer key s (v .floor) m (elementOf key (m .tag) (v .stored)));
       }
 
-  -- the step of server s on a message of a given kind; the other four kinds are a client's
+  -- the step of server s on a message of a given kind; the other five kinds are a client's
   unfoldable pub serverStepOf : Kind → (Tag → ℕ) → ℕ → ℕ → Server Element → Message Element → Served Element
   serverStepOf Query key d s v m = query s v m
   serverStepOf QueryAnswer key d s v m = record { server = v; answer = none }
@@ -140,6 +141,7 @@ module _ {Element : Type 0} where
   serverStepOf WriteFinaliseAnswer key d s v m = record { server = v; answer = none }
   serverStepOf ReadFinalise key d s v m = readFinalise key s v m
   serverStepOf ReadFinaliseAnswer key d s v m = record { server = v; answer = none }
+  serverStepOf Cleared key d s v m = record { server = v; answer = none }
 
   -- the step of server s on a message: by the tags' key, with D, of server s in the state v
   unfoldable pub serverStep : (Tag → ℕ) → ℕ → ℕ → Server Element → Message Element → Served Element

@@ -1,5 +1,5 @@
 -- The answers of reading and of writing, by the question that decides. Assumes nothing.
-use mathlib.Core.Path.{_≡_, sym, _∙_, ap}
+use mathlib.Core.Path.{_≡_, sym, _∙_, ap, subst}
 use mathlib.Core.Bool.{Bool, true, false, cond}
 use mathlib.Core.List.{List, _++_}
 use mathlib.Core.Option.{Option, none, some}
@@ -14,7 +14,8 @@ use Rattle.config.specs.declared.Verdict.{Verdict}
 use Rattle.config.specs.Config.{questions}
 use Rattle.config.specs.Questions.{Question, firstNo, numbered}
 use Rattle.config.specs.Refusal.{clamped, refusalNumber, verdictNumber}
-use Rattle.config.proofs.Questions.{firstNo-high, firstNo-pass, firstNo-stop, questions-numbered}
+use Rattle.config.proofs.Refusals.{refusal-given}
+use Rattle.config.proofs.Questions.{Given, firstNo-given, firstNo-pass, firstNo-stop, questions-numbered}
 use Rattle.record.specs.declared.Header.{Header}
 use Rattle.record.specs.declared.Reading.{Reading}
 use Rattle.record.specs.Calls.{ReadPost, WritePost, isHeader, readQuestions, withElement, writeQuestions}
@@ -39,7 +40,7 @@ module _ (cfg : Config) (bs : List ℕ) where
 pub first-stops : (first rest : List Question) (asked number : ℕ) → numbered first ≡ true → asked ≡ firstNo first → (asked ≡ 0 → ⊥)
     → number ≡ clamped asked → (firstNo (first ++ rest) ≡ asked) × (number ≡ asked)
 first-stops first rest asked number known e refuses c =
-    (firstNo-stop first rest (λ z. refuses (e ∙ z)) ∙ sym e, omega (arith, firstNo-high first known))
+    (firstNo-stop first rest (λ z. refuses (e ∙ z)) ∙ sym e, refusal-given (subst Given (sym e) (firstNo-given first known)) refuses c)
 
 module _ (cfg : Config) (bs : List ℕ) where
   -- reading: by the number of the first question that is answered no

@@ -17,7 +17,7 @@ use Rattle.record.specs.declared.Header.{Header}
 use Rattle.record.specs.Element.{elementWith}
 use Rattle.record.specs.Calls.{isSound, soundClauses, withElement}
 use Rattle.record.specs.inner.Parse.{laidOut, layoutClauses}
-use Rattle.record.specs.Record.{all, clauses, clientAt, elementIn, kindAt, kindNumber, kindOf, lengthAt, lengthFits, messageOf, operationAt, presentAt, serverAt, tagAt, wellFormed}
+use Rattle.record.specs.Record.{all, clauses, clientAt, elementIn, isKind, kindAt, kindNumber, kindOf, lengthAt, lengthFits, messageOf, operationAt, presentAt, serverAt, tagAt, wellFormed}
 
 -- of clauses that all hold each holds
 pub all-at : (bs : List Bool) → all bs ≡ true → (i : ℕ) → getD bs i true ≡ true
@@ -31,8 +31,8 @@ pub not-so : (a b : Bool) → (a ≡ true → b ≡ true) → b ≡ false → a 
 not-so true b f h = sym (f refl) ∙ h
 not-so false b f h = refl
 
--- the kind of a number, 1 to 8, has that number
-numbered : (n : ℕ) → 1 ≤ n → n ≤ 8 → kindNumber (kindOf n) ≡ n
+-- the kind of a number, 1 to 9, has that number
+numbered : (n : ℕ) → 1 ≤ n → n ≤ 9 → kindNumber (kindOf n) ≡ n
 unfolding kindOf
 numbered zero low high = absurd (omega arith)
 numbered (suc zero) low high = refl
@@ -43,10 +43,11 @@ numbered (suc (suc (suc (suc (suc zero))))) low high = refl
 numbered (suc (suc (suc (suc (suc (suc zero)))))) low high = refl
 numbered (suc (suc (suc (suc (suc (suc (suc zero))))))) low high = refl
 numbered (suc (suc (suc (suc (suc (suc (suc (suc zero)))))))) low high = refl
-numbered (suc (suc (suc (suc (suc (suc (suc (suc (suc n))))))))) low high = absurd (omega arith)
+numbered (suc (suc (suc (suc (suc (suc (suc (suc (suc zero))))))))) low high = refl
+numbered (suc (suc (suc (suc (suc (suc (suc (suc (suc (suc n)))))))))) low high = absurd (omega arith)
 
-pub kind-number : (n : ℕ) → within 1 8 n ≡ true → kindNumber (kindOf n) ≡ n
-kind-number n h = numbered n (within-low 1 8 n h) (within-high 1 8 n h)
+pub kind-number : (n : ℕ) → isKind n ≡ true → kindNumber (kindOf n) ≡ n
+kind-number n h = numbered n (within-low 1 9 n h) (within-high 1 9 n h)
 
 -- the clauses on what a header says, of the record's bytes
 abbrev soundAt : List ℕ → List Bool
@@ -66,7 +67,7 @@ module _ (cfg : Config) (bs : List ℕ) where
   unfolding clauses laidOut all
   its-layout h = rw (clause 1 h, clause 2 h, clause 5 h, clause 6 h)
 
-  pub its-kind : wellFormed cfg bs ≡ true → within 1 8 (kindAt bs) ≡ true
+  pub its-kind : wellFormed cfg bs ≡ true → isKind (kindAt bs) ≡ true
   unfolding clauses
   its-kind h = clause 1 h
 
@@ -111,7 +112,7 @@ module _ (cfg : Config) (bs : List ℕ) where
 
   module _ (h : Header) (s : Says h) where
     -- the header's clauses, of the record's bytes
-    says-sound : within 1 8 (kindAt bs) ≡ true → isSound h ≡ all (soundAt bs)
+    says-sound : isKind (kindAt bs) ≡ true → isSound h ≡ all (soundAt bs)
     unfolding isSound
     says-sound k = rw (s .kind, s .client, s .operation, s .tag, s .present, kind-number (kindAt bs) k)
 

@@ -15,21 +15,20 @@ use lib.ListN.{length, getD, take, drop, replicate, length-append, length-drop, 
 use lib.Seq.{drop-cons, drop-drop, getD-drop, take-at, drop-at}
 use Rattle.config.specs.declared.Config.{Config}
 use Rattle.config.specs.Config.{Valid, boardLength}
-use Rattle.config.specs.Questions.{within}
 use Rattle.config.proofs.Sizes.{board-small}
 use Rattle.config.proofs.Questions.{within-high}
 use Rattle.laws.specs.Bytes.{Bytes}
 use Rattle.laws.proofs.Bools.{and-left, and-right}
 use Rattle.record.specs.declared.Kind.{Kind}
-use Rattle.record.specs.declared.Kind.the-variants.{Query, QueryAnswer, PreWrite, PreWriteAnswer, WriteFinalise, WriteFinaliseAnswer, ReadFinalise, ReadFinaliseAnswer}
+use Rattle.record.specs.declared.Kind.the-variants.{Query, QueryAnswer, PreWrite, PreWriteAnswer, WriteFinalise, WriteFinaliseAnswer, ReadFinalise, ReadFinaliseAnswer, Cleared}
 use Rattle.record.specs.Element.{Element, elementWith}
 use Rattle.record.specs.Message.{Message}
-use Rattle.record.specs.Record.{all, allZero, clauses, clientAt, elementIn, elementBytes, elementEnd, fourBytes, headerBytes, highestNumber, isPresent, kindAt, kindNumber, kindOf, lengthAt, lengthFits, lengthOf, littleEndian, littleTwo, messageClauses, messageOf, numberAt, ofConfig, operationAt, presentAt, recordOf, serverAt, sized, tagAt, twoBytes, wellFormed}
+use Rattle.record.specs.Record.{all, allZero, clauses, clientAt, elementIn, elementBytes, elementEnd, fourBytes, headerBytes, highestNumber, isKind, isPresent, kindAt, kindNumber, kindOf, lengthAt, lengthFits, lengthOf, littleEndian, littleTwo, messageClauses, messageOf, numberAt, ofConfig, operationAt, presentAt, recordOf, serverAt, sized, tagAt, twoBytes, wellFormed}
 use Rattle.record.proofs.Clauses.{all-at, clause, its-fit, its-length, kind-number}
 use Rattle.record.proofs.Written.{its-length-is, present-is, sized-is}
 
--- the number of a kind names it, and is 1 to 8
-kind-is : (k : Kind) → (kindOf (kindNumber k) ≡ k) × (within 1 8 (kindNumber k) ≡ true)
+-- the number of a kind names it, and is 1 to 9
+kind-is : (k : Kind) → (kindOf (kindNumber k) ≡ k) × (isKind (kindNumber k) ≡ true)
 unfolding kindOf
 kind-is Query = (refl, refl)
 kind-is QueryAnswer = (refl, refl)
@@ -39,6 +38,7 @@ kind-is WriteFinalise = (refl, refl)
 kind-is WriteFinaliseAnswer = (refl, refl)
 kind-is ReadFinalise = (refl, refl)
 kind-is ReadFinaliseAnswer = (refl, refl)
+kind-is Cleared = (refl, refl)
 
 -- a number's four bytes give it back, and four bytes are those of their number
 joined : (n p q r a b c d : ℕ) → p * 256 + a ≡ n → q * 256 + b ≡ p → r * 256 + c ≡ q → d ≡ r → littleEndian a b c d ≡ n

@@ -21,6 +21,15 @@ use Rattle.record.specs.Calls.{isHeader, isSound, limits, withElement}
 use Rattle.record.specs.Record.{all, elementIn, elementBytes, elementEnd, fourBytes, headerBytes, highestNumber, isPresent, kindNumber, lengthFits, lengthOf, messageClauses, ofConfig, presence, recordOf, sized, twoBytes}
 use Rattle.record.proofs.Clauses.{all-at}
 
+-- what is cleared from a place on is zeros
+zeros-over : (bs : List ℕ) (end : ℕ) → length bs ≡ 80 → end ≤ 80
+    → replicate (length (take (length bs - end) (drop end bs))) 0 ++ drop (length bs - end) (drop end bs) ≡ replicate (80 - end) 0
+zeros-over bs end long h =
+    let t : length (take (length bs - end) (drop end bs)) ≡ 80 - end = length-take (length bs - end) (drop end bs) ∙ omega (arith, length-drop end bs) in
+    ap (λ (n : ℕ). replicate n 0 ++ drop (length bs - end) (drop end bs)) t
+    ∙ ap (λ (l : List ℕ). replicate (80 - end) 0 ++ l) (drop-of-length-le (drop end bs) {i = length bs - end} (omega (arith, length-drop end bs)))
+    ∙ append-nil (replicate (80 - end) 0)
+
 module _ (cfg : Config) (bs head : List ℕ) (sixteen : length head ≡ 16) (eighty : length bs ≡ 80) where
   -- the header over the first 16 bytes
   abbrev headed : List ℕ
@@ -31,12 +40,7 @@ module _ (cfg : Config) (bs head : List ℕ) (sixteen : length head ≡ 16) (eig
 
   -- zeros from the element's end on
   zeros-from : (end : ℕ) → end ≤ 80 → replicate (length (take (length headed - end) (drop end headed))) 0 ++ drop (length headed - end) (drop end headed) ≡ replicate (80 - end) 0
-  zeros-from end h =
-      let d : length (drop end headed) ≡ 80 - end = omega (arith, length-drop end headed, headed-long) in
-      let t : length (take (length headed - end) (drop end headed)) ≡ 80 - end = length-take (length headed - end) (drop end headed) ∙ omega (arith, headed-long) in
-      ap (λ (n : ℕ). replicate n 0 ++ drop (length headed - end) (drop end headed)) t
-      ∙ ap (λ (l : List ℕ). replicate (80 - end) 0 ++ l) (drop-of-length-le (drop end headed) {i = length headed - end} (omega (arith, headed-long)))
-      ∙ append-nil (replicate (80 - end) 0)
+  zeros-from end h = zeros-over headed end headed-long h
 
   taken : (n : ℕ) → take (16 + n) headed ≡ head ++ take n (drop 16 bs)
   taken n = ap (λ (m : ℕ). take (m + n) headed) (sym sixteen) ∙ take-append-add head (drop 16 bs) n

@@ -1,7 +1,7 @@
 -- Which party receives a message: "in a kind it receives".
 use mathlib.Core.Bool.{Bool, true, false, not}
 use Rattle.record.specs.declared.Kind.{Kind}
-use Rattle.record.specs.declared.Kind.the-variants.{Query, QueryAnswer, PreWrite, PreWriteAnswer, WriteFinalise, WriteFinaliseAnswer, ReadFinalise, ReadFinaliseAnswer}
+use Rattle.record.specs.declared.Kind.the-variants.{Query, QueryAnswer, PreWrite, PreWriteAnswer, WriteFinalise, WriteFinaliseAnswer, ReadFinalise, ReadFinaliseAnswer, Cleared}
 
 -- the kinds that a server receives
 abbrev pub isForServer : Kind → Bool
@@ -13,6 +13,7 @@ isForServer WriteFinalise = true
 isForServer WriteFinaliseAnswer = false
 isForServer ReadFinalise = true
 isForServer ReadFinaliseAnswer = false
+isForServer Cleared = false
 
 -- a client receives the others
 abbrev pub isForClient : Kind → Bool

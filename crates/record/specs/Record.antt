@@ -11,7 +11,7 @@ use Rattle.config.specs.Questions.{within}
 use Rattle.tag.specs.declared.Tag.{Tag}
 use Rattle.tag.specs.Tag.{allowed, same, start}
 use Rattle.record.specs.declared.Kind.{Kind}
-use Rattle.record.specs.declared.Kind.the-variants.{Query, QueryAnswer, PreWrite, PreWriteAnswer, WriteFinalise, WriteFinaliseAnswer, ReadFinalise, ReadFinaliseAnswer}
+use Rattle.record.specs.declared.Kind.the-variants.{Query, QueryAnswer, PreWrite, PreWriteAnswer, WriteFinalise, WriteFinaliseAnswer, ReadFinalise, ReadFinaliseAnswer, Cleared}
 use Rattle.record.specs.Element.{Element, elementWith}
 use Rattle.record.specs.Message.{Message}
 
@@ -46,7 +46,8 @@ twoBytes n = n % 256 ∷ n / 256 % 256 ∷ []
 abbrev pub highestNumber : ℕ
 highestNumber = 4294967295
 
--- "Kinds: 1 query, 2 its answer, 3 pre-write, 4 its answer, 5 write finalise, 6 its answer, 7 read finalise, 8 its answer."
+-- "Kinds: 1 query, 2 its answer, 3 pre-write, 4 its answer, 5 write finalise, 6 its answer, 7 read finalise, 8 its answer." And "a record of kind 9,
+-- which repeats client, operation number and tag and has no element", where the element was cleared.
 abbrev pub kindNumber : Kind → ℕ
 kindNumber Query = 1
 kindNumber QueryAnswer = 2
@@ -56,8 +57,13 @@ kindNumber WriteFinalise = 5
 kindNumber WriteFinaliseAnswer = 6
 kindNumber ReadFinalise = 7
 kindNumber ReadFinaliseAnswer = 8
+kindNumber Cleared = 9
 
--- the kind of a number, 1 to 8
+-- a number is a kind's
+abbrev pub isKind : ℕ → Bool
+isKind n = within 1 9 n
+
+-- the kind of a number, 1 to 9
 unfoldable pub kindOf : ℕ → Kind
 kindOf n =
     cond (eqb n 1) Query
@@ -67,7 +73,8 @@ kindOf n =
     (cond (eqb n 5) WriteFinalise
     (cond (eqb n 6) WriteFinaliseAnswer
     (cond (eqb n 7) ReadFinalise
-    ReadFinaliseAnswer))))))
+    (cond (eqb n 8) ReadFinaliseAnswer
+    Cleared)))))))
 
 -- "Offset 0 kind, 1 client, 2 server, 3 element present (0 or 1), 4 to 7 operation number (at least 1), 8 to 11 tag number, 12 tag's
 -- client, 13 to 15 zero, 16 to 79 element, zero past E and zero when absent." Of these, "offsets 13 and 14 hold the length in kind 3, and in
@@ -121,7 +128,7 @@ lengthFits cfg present length = cond present (leb length (boardLength cfg)) (eqb
 unfoldable pub clauses : Config → List ℕ → List Bool
 clauses cfg bs =
     eqb (length bs) recordLength
-    ∷ within 1 8 (kindAt bs)
+    ∷ isKind (kindAt bs)
     ∷ leb (getD bs 3 0) 1
     ∷ leb 1 (operationAt bs)
     ∷ lengthFits cfg (presentAt bs) (lengthAt bs)

@@ -95,7 +95,7 @@ pub(crate) fn laid_out(cfg: Config, buf: &[u8]) -> bool
     if buf[0] == 0 {
         return false;
     }
-    if 8 < buf[0] {
+    if 9 < buf[0] {
         return false;
     }
     if 1 < buf[3] {

@@ -19,7 +19,7 @@ ghost use Rattle.record.specs.Kinds.{isForServer};
 ghost use Rattle.record.specs.inner.Parse.{ParsePost, RecordPre};
 ghost use Rattle.record.specs.Record.{kindNumber, kindOf, lengthFits, recordOf};
 
-// The eight kinds of message, in document 01's order: their numbers are 1 to 8.
+// The nine kinds of message, in the documents' order: their numbers are 1 to 9. The ninth tells a reader that the element was cleared.
 pub enum Kind {
     Query,
     QueryAnswer,
@@ -29,6 +29,7 @@ pub enum Kind {
     WriteFinaliseAnswer,
     ReadFinalise,
     ReadFinaliseAnswer,
+    Cleared,
 }
 
 // What a record says besides the element's bytes. The length is that of the board which the element is of, 0 where none is present.
@@ -48,7 +49,7 @@ pub enum Reading {
 }
 
 impl Kind {
-    // The number of a kind in document 01.
+    // The number of a kind.
     pub fn number(self) -> u8
         ensures { λ r. ⌜ r ≡ kindNumber self ⌝ }
     {
@@ -61,6 +62,7 @@ impl Kind {
             Kind::WriteFinaliseAnswer => 6,
             Kind::ReadFinalise => 7,
             Kind::ReadFinaliseAnswer => 8,
+            Kind::Cleared => 9,
         }
     }
 
@@ -77,10 +79,11 @@ impl Kind {
             Kind::WriteFinaliseAnswer => false,
             Kind::ReadFinalise => true,
             Kind::ReadFinaliseAnswer => false,
+            Kind::Cleared => false,
         }
     }
 
-    // The kind of a number; one that is no kind's is taken for 8.
+    // The kind of a number; one that is no kind's is taken for 9.
     pub fn of(number: u8) -> Kind
         ensures { λ r. ⌜ r ≡ kindOf number ⌝ }
     {
@@ -92,7 +95,8 @@ impl Kind {
             5 => Kind::WriteFinalise,
             6 => Kind::WriteFinaliseAnswer,
             7 => Kind::ReadFinalise,
-            _ => Kind::ReadFinaliseAnswer,
+            8 => Kind::ReadFinaliseAnswer,
+            _ => Kind::Cleared,
         }
     }
 }

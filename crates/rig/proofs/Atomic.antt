@@ -92,7 +92,7 @@ module _ (cfg : Config) (m : ℕ) (start : List ℕ) where
       let o = origin runs in
       boards.atomic cfg (o .0) origin-board (o .1) (execution runs)
 
-  -- Each answer that names a client ends exactly one operation of that client, begun before: written or spent a write, read a read.
+  -- Each answer that names a client ends exactly one operation of that client, begun before: written a write, read a read, spent either.
   pub ends-one : {r : Rig} {l : Lent} {events : List BoardEvent} → Runs cfg m start r l events → EndsOne events
   ends-one runs =
       let o = origin runs in

@@ -17,8 +17,9 @@ use Rattle.config.specs.declared.Config.{Config}
 use Rattle.config.specs.declared.Verdict.{Verdict}
 use Rattle.config.specs.Config.{Valid, boardLength, rigQuestions, storeLength}
 use Rattle.config.specs.Questions.{firstNo, lastQuestion, numbered, within}
-use Rattle.config.specs.Refusal.{verdictNumber}
-use Rattle.config.proofs.Questions.{firstNo-high, none-first, within-high, within-low, within-true}
+use Rattle.config.specs.Refusal.{passing15, verdictNumber}
+use Rattle.config.proofs.Refusals.{verdict-given}
+use Rattle.config.proofs.Questions.{Given, firstNo-given, none-first, within-high, within-low, within-true}
 use Rattle.server.specs.Calls as server
 use Rattle.client.specs.declared.State as client
 use Rattle.client.specs.State as clientView
@@ -113,16 +114,16 @@ module _ (cfg : Config) (start : List ℕ) (i : ℕ) (nodes : List Node) (x : No
 -- ---- the rig
 
 module _ (cfg : Config) (m : ℕ) (start : List ℕ) (l : Lent) (got : ℕ) (asked : got ≡ makeNo cfg m start l) where
-  number-high : makeNo cfg m start l ≤ lastQuestion
+  number-given : Given (makeNo cfg m start l)
   unfolding makeQuestions rigQuestions numbered
-  number-high = firstNo-high (makeQuestions cfg m start l) refl
+  number-given = firstNo-given (makeQuestions cfg m start l) refl
 
   -- a making that is refused
-  pub make-refused : (got ≡ 0 → ⊥) → (verdict : Verdict) (r : Rig) → verdictNumber verdict ≡ min got lastQuestion → r ≡ leastRig
+  pub make-refused : (got ≡ 0 → ⊥) → (verdict : Verdict) (r : Rig) → verdictNumber verdict ≡ min (passing15 got) lastQuestion → r ≡ leastRig
       → MakePost cfg m start l (record { verdict = verdict; rig = r }) l
   make-refused some-no verdict r e least =
       record {
-        number = e ∙ omega (arith, asked, number-high);
+        number = verdict-given (subst Given (sym asked) number-given) e ∙ asked;
         seen = λ z. absurd (some-no (asked ∙ z));
         within = λ z. absurd (some-no (asked ∙ z));
         lengths = refl;

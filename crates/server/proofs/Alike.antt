@@ -2,39 +2,36 @@
 -- alike, a step gives one number and one answer, and leaves two such states, and a call that lends gives one element. Assumes nothing.
 use mathlib.Core.Path.{_≡_, refl, sym, _∙_, ap, ap₂, subst, subst₂}
 use mathlib.Core.Bool.{Bool, true, false, cond, not, _&&_, _||_}
-use mathlib.Core.List.{List, [], _∷_, _++_}
+use mathlib.Core.List.{List, [], _∷_}
 use mathlib.Core.Option.{Option, none, some}
 use Prim.Native.Nat.{ℕ, _+_, _≤_}
 use native.Mathlib.Decide.{ℕ-discrete}
-use native.Mathlib.Omega.{arith}
 use borrow.Author.Tests.{eqb-true, not-true}
 use lib.Dec.{eqb, leb}
 use lib.ListN.{length}
 use Rattle.config.specs.declared.Config.{Config}
-use Rattle.config.specs.Config.{boardLength, questions, recordLength, storeLength}
+use Rattle.config.specs.Config.{boardLength}
 use Rattle.config.specs.Number.{serverNumber}
-use Rattle.config.specs.Questions.{Question, ask, firstNo, within}
-use Rattle.config.proofs.Questions.{firstNo-behind, none-first, none-rest, questions-numbered, yes-next}
-use Rattle.config.proofs.Valid.{valid}
+use Rattle.config.specs.Questions.{firstNo, within}
 use Rattle.laws.proofs.Bools.{and-left, and-right}
 use Rattle.tag.specs.declared.Tag.{Tag}
 use Rattle.tag.specs.Tag.{above, allowed, key, same}
 use Rattle.record.specs.Element.{Element}
 use Rattle.record.specs.Message.{Message}
-use Rattle.record.specs.Record.{messageOf, wellFormed}
+use Rattle.record.specs.Record.{messageOf}
 use Rattle.protocol.specs.Alike.{StoredOnce, Reordered, SameButOrder, next, swap, then}
 use Rattle.protocol.specs.Server.{Server, Stored, elementOf, serverStep}
-use Rattle.protocol.proofs.Reordered.{answer-same, element-reordered, finalised-same, or-swap, reordered-long, server-same}
+use Rattle.protocol.proofs.Reordered.{answer-same, element-reordered, or-swap, reordered-long, server-same}
 use Rattle.server.specs.declared.State.{State}
 use Rattle.server.specs.declared.Stepped.{Stepped}
 use Rattle.server.specs.Alike.{AlikeStates, AlikeSteps}
-use Rattle.server.specs.Calls.{LendPost, StepPost, answerBytes, answers, forServer, lentBytes, outcome, raised, stateQuestions, stepQuestions}
+use Rattle.server.specs.Calls.{LendPost, StepPost, answerBytes, lentBytes, outcome, stateQuestions, stepQuestions}
 use Rattle.server.specs.View.{view}
 use Rattle.server.specs.Within.{among, every, floorWithin, storedLengths, lengthsWithin, once, serverWithin, stateWithin, tagsOf, tagsWithin}
-use Rattle.server.proofs.Asked.{state-valid}
+use Rattle.server.proofs.Asked.{state-valid, step-accepted}
 use Rattle.server.proofs.Invariant.{tags-of, tags-stored}
 use Rattle.server.proofs.Keys.{small}
-use Rattle.server.proofs.Laws.{raised-view, server-within, state-view}
+use Rattle.server.proofs.Laws.{server-within, state-view}
 use Rattle.server.proofs.Limits.{within-allowed, within-once}
 use Rattle.server.proofs.Tags.{same-turned}
 
@@ -187,25 +184,21 @@ module _ (cfg : Config) (s z : State) (storeS storeZ : List ℕ) (alike : AlikeS
       got = messageOf cfg handed
 
       abbrev firstS : ℕ
-      firstS = firstNo (stepQuestions cfg s handed storeS answer)
+      firstS = firstNo (stepQuestions cfg s handed (length storeS) (length answer))
 
       abbrev firstZ : ℕ
-      firstZ = firstNo (stepQuestions cfg z handed storeZ answer)
+      firstZ = firstNo (stepQuestions cfg z handed (length storeZ) (length answer))
 
-      -- question 6
-      abbrev lengths : ℕ → Bool → Bool
-      lengths n holds = eqb (length handed) recordLength && eqb n (storeLength cfg) && eqb (length answer) recordLength && holds
+      first-one : firstS ≡ firstZ
+      unfolding stepQuestions
+      first-one = rw (alike .long, state-alike, alike .me)
 
-      -- 12, 16 and 15
-      abbrev later : ℕ → Option (Message Element) → List Question
-      later n x = ask 12 (wellFormed cfg handed) ∷ ask 16 (forServer n got) ∷ ask 15 (answers x) ∷ []
-
-      -- once questions 1 to 6 are answered yes, the protocol's answers are one
-      module _ (five : firstNo (questions cfg) ≡ 0) (six : lengths (length storeS) (stateWithin cfg s) ≡ true) where
+      -- an accepted step: the protocol's answers are one, and so are its servers
+      module _ (e : firstS ≡ 0) where
         its-once : StoredOnce key (v .stored)
         its-once =
-            view-once (valid cfg five .c-high)
-            (and-right (eqb (length handed) recordLength && eqb (length storeS) (storeLength cfg) && eqb (length answer) recordLength) (stateWithin cfg s) six)
+            let held = step-accepted cfg s handed (length storeS) (length answer) e .0 in
+            view-once (held .valid .c-high) (held .within)
 
         answers-one : outcome cfg s storeS got .answer ≡ outcome cfg z storeZ got .answer
         answers-one =
@@ -216,44 +209,20 @@ module _ (cfg : Config) (s z : State) (storeS storeZ : List ℕ) (alike : AlikeS
             subst (λ n. SameButOrder (outcome cfg s storeS got .server) (serverStep key (cfg .d) n w got .server)) (alike .me)
             (server-same key (cfg .d) v w (alike .seen) its-once (serverNumber (s .me)) got)
 
-      first-one : firstS ≡ firstZ
-      unfolding stepQuestions
-      first-one =
-          firstNo-behind (questions cfg) 6 (lengths (length storeS) (stateWithin cfg s)) (later (serverNumber (s .me)) (outcome cfg s storeS got .answer))
-          (later (serverNumber (z .me)) (outcome cfg z storeZ got .answer)) (λ five six. ap₂ (λ n x. firstNo (later n x)) (alike .me) (answers-one five six))
-          ∙ ap₂ (λ n holds. firstNo (questions cfg ++ ask 6 (lengths n holds) ∷ later (serverNumber (z .me)) (outcome cfg z storeZ got .answer))) (alike .long) state-alike
-
-      -- an accepted step
-      module _ (e : firstS ≡ 0) where
-        five : firstNo (questions cfg) ≡ 0
-        unfolding stepQuestions
-        five = none-first (questions cfg) _ e
-
-        six : lengths (length storeS) (stateWithin cfg s) ≡ true
-        unfolding stepQuestions
-        six = yes-next 6 (lengths (length storeS) (stateWithin cfg s)) _ (omega arith) (none-rest (questions cfg) _ (questions-numbered cfg) e) .0
-
       answer-by : (b : Bool) → eqb firstS 0 ≡ b
           → cond b (answerBytes cfg (outcome cfg s storeS got .answer) answer) answer ≡ cond b (answerBytes cfg (outcome cfg z storeZ got .answer) answer) answer
-      answer-by true e =
-          let n = eqb-true firstS 0 e in
-          ap (λ x. answerBytes cfg x answer) (answers-one (five n) (six n))
+      answer-by true e = ap (λ x. answerBytes cfg x answer) (answers-one (eqb-true firstS 0 e))
       answer-by false e = refl
 
       -- what is left, on a refusal too
-      seen-by : (d : Bool) → eqb firstS 15 ≡ d → SameButOrder (view cfg (cond d (raised s (got .tag)) s) storeS) (view cfg (cond d (raised z (got .tag)) z) storeZ)
-      seen-by true e =
-          subst₂ SameButOrder (sym (raised-view cfg s storeS (got .tag))) (sym (raised-view cfg z storeZ (got .tag))) (finalised-same key (got .tag) (alike .seen))
-      seen-by false e = alike .seen
-
       seen-one : SameButOrder (view cfg (a .state) storeA) (view cfg (b .state) storeB)
       seen-one = elim (ℕ-discrete firstS 0) as (λ _. SameButOrder (view cfg (a .state) storeA) (view cfg (b .state) storeB)) [
-        | yes e ↦ subst₂ SameButOrder (sym (postA .seen e)) (sym (postB .seen (sym first-one ∙ e))) (servers-one (five e) (six e))
+        | yes e ↦ subst₂ SameButOrder (sym (postA .seen e)) (sym (postB .seen (sym first-one ∙ e))) (servers-one e)
         | no ne ↦
             let nz : firstZ ≡ 0 → ⊥ = λ x. ne (first-one ∙ x) in
             let left = ap₂ (λ x l. view cfg x l) (postA .state ne) (postA .store ne) in
-            let right = ap₂ (λ x l. view cfg x l) (postB .state nz ∙ ap (λ n. cond (eqb n 15) (raised z (got .tag)) z) (sym first-one)) (postB .store nz) in
-            subst₂ SameButOrder (sym left) (sym right) (seen-by (eqb firstS 15) refl)
+            let right = ap₂ (λ x l. view cfg x l) (postB .state nz) (postB .store nz) in
+            subst₂ SameButOrder (sym left) (sym right) (alike .seen)
       ]
 
       pub step-alike : AlikeSteps cfg a b storeA storeB answerA answerB

@@ -3,31 +3,28 @@ use mathlib.Core.Path.{_≡_, refl, sym, _∙_, ap, subst}
 use mathlib.Core.Bool.{true, false}
 use mathlib.Core.List.{List, [], _++_, append-nil}
 use mathlib.Core.Option.{Option, none, some}
-use Prim.Native.Nat.{ℕ, _+_, _-_, _≤_}
+use Prim.Native.Nat.{ℕ, _-_, _≤_}
 use native.Mathlib.Omega.{arith}
 use lib.Dec.{leb}
 use lib.ListN.{length, take, drop, drop-of-length-le, length-append, length-drop, length-take}
 use lib.Seq.{drop-at, length-take-le, take-at, take-length}
 use Rattle.config.specs.declared.Config.{Config}
-use Rattle.config.specs.declared.Refusal.the-variants.{Cleared}
 use Rattle.config.specs.declared.Server.{Server as ServerNumber}
 use Rattle.config.specs.Config.{Valid}
 use Rattle.config.specs.Number.{clientNumber, serverNumber}
 use Rattle.config.specs.Questions.{within}
-use Rattle.config.specs.Refusal.{verdictNumber}
 use Rattle.tag.specs.declared.Tag.{Tag}
 use Rattle.tag.specs.Tag.{allowed, key}
 use Rattle.record.specs.declared.Header.{Header}
 use Rattle.record.specs.declared.Kind.{Kind}
-use Rattle.record.specs.declared.Kind.the-variants.{ReadFinaliseAnswer}
+use Rattle.record.specs.declared.Kind.the-variants.{Cleared, ReadFinaliseAnswer}
 use Rattle.record.specs.Element.{Element}
 use Rattle.record.specs.Record.{all, highestNumber, isPresent, kindNumber, messageClauses, ofConfig, ownTag, presence, queryTag, recordOf, sized}
 use Rattle.protocol.specs.Server.{answerTo, atOrBelowFloor, elementOf, readAnswer}
 use Rattle.server.specs.declared.serve.Reply.{Reply}
 use Rattle.server.specs.declared.State.{State}
 use Rattle.server.specs.declared.Stepped.{Stepped}
-use Rattle.server.specs.Calls.{raised}
-use Rattle.server.specs.inner.Serve.{ReadFinalisePost, ReadFinalisePre, RespondPost, RespondPre, bareOf, readAnswered, reply, replyOf, unchanged}
+use Rattle.server.specs.inner.Serve.{ReadFinalisePost, ReadFinalisePre, RespondPost, RespondPre, bareOf, raised, readAnswered, reply, replyOf}
 use Rattle.server.specs.View.{floorOf, view}
 use Rattle.server.proofs.Limits.{state-me}
 
@@ -49,12 +46,21 @@ module _ (cfg : Config) (me : ServerNumber) (h : Header) (kind : Kind) (t : Tag)
   pub bare-post : (s : State) (after : List ℕ) (x : Stepped) → RespondPost cfg s (replyOf cfg me h r bs) after x → RespondPost cfg s (reply me h kind t none) after x
   bare-post s after x p = subst (λ (y : Reply). RespondPost cfg s (replyOf cfg me h y bs) after x) is p
 
--- the answer to a read finalise
-pub read-reply : (cfg : Config) (s : State) (h : Header) (store answer : List ℕ) → ReadFinalisePre cfg s h store answer → (me : ServerNumber) → me ≡ s .me
-    → (o : Option Element) → sized cfg o ≡ true → ofConfig cfg (reply me h ReadFinaliseAnswer (h .tag) o) ≡ true
-read-reply cfg s h store answer f me is o e =
-    reply-of-config cfg me h ReadFinaliseAnswer (h .tag) o (f .operation) (f .number) e refl refl refl (f .client)
-    (ap (λ (x : ServerNumber). within 1 (cfg .n) (serverNumber x)) is ∙ state-me cfg s (f .held .within)) (f .allowed)
+-- a raised state is of the same server
+pub raised-me : (s : State) (t : Tag) {r : State} → r ≡ raised s t → r .me ≡ s .me
+unfolding raised
+raised-me s t e = ap (λ (x : State). x .me) e
+
+-- the answers to a read finalise: kind 8, with an element or without one, and kind 9
+module _ (cfg : Config) (s : State) (h : Header) (store answer : List ℕ) (f : ReadFinalisePre cfg s h store answer) (me : ServerNumber) (is : me ≡ s .me) where
+  within-me : within 1 (cfg .n) (serverNumber me) ≡ true
+  within-me = ap (λ (x : ServerNumber). within 1 (cfg .n) (serverNumber x)) is ∙ state-me cfg s (f .held .within)
+
+  pub read-reply : (o : Option Element) → sized cfg o ≡ true → ofConfig cfg (reply me h ReadFinaliseAnswer (h .tag) o) ≡ true
+  read-reply o e = reply-of-config cfg me h ReadFinaliseAnswer (h .tag) o (f .operation) (f .number) e refl refl refl (f .client) within-me (f .allowed)
+
+  pub cleared-reply : ofConfig cfg (reply me h Cleared (h .tag) none) ≡ true
+  cleared-reply = reply-of-config cfg me h Cleared (h .tag) none (f .operation) (f .number) refl refl refl refl (f .client) within-me (f .allowed)
 
 -- an element copied into the answer's bytes
 module _ (e : ℕ) (high : e ≤ 64) (answer src part : List ℕ) (eighty : length answer ≡ 80) (sized-src : length src ≡ e)
@@ -92,39 +98,28 @@ module _ (e : ℕ) (high : e ≤ 64) (answer src part : List ℕ) (eighty : leng
       ∙ take-at src (drop (length src) (take (length answer - 16) (drop 16 answer))) e sized-src
 
 -- what a read finalise leaves, by what is stored
-module _ (cfg : Config) (s after : State) (h : Header) (store answer : List ℕ) (is : after ≡ raised s (h .tag)) where
-  me-is : after .me ≡ s .me
-  unfolding raised
-  me-is = ap (λ (x : State). x .me) is
-
-  replied : (o : Option Element) → readAnswered s h store cfg ≡ some (reply (s .me) h ReadFinaliseAnswer (h .tag) o) → (bs : List ℕ) (r : Stepped)
-      → RespondPost cfg after (reply (after .me) h ReadFinaliseAnswer (h .tag) o) bs r → ReadFinalisePost cfg s h store answer bs r
-  replied o e bs r p =
+module _ (cfg : Config) (s after : State) (h : Header) (store : List ℕ) (is : after ≡ raised s (h .tag)) where
+  replied : (kind : Kind) (o : Option Element) → readAnswered s h store cfg ≡ reply (s .me) h kind (h .tag) o → (bs : List ℕ) (r : Stepped)
+      → RespondPost cfg after (reply (after .me) h kind (h .tag) o) bs r → ReadFinalisePost cfg s h store bs r
+  replied kind o e bs r p =
       record {
-        number = p .number ∙ rw e;
+        number = p .number;
         state = p .state ∙ is;
-        answer = p .answer ∙ ap (λ (x : ServerNumber). recordOf cfg (reply x h ReadFinaliseAnswer (h .tag) o)) me-is ∙ rw e;
+        answer = p .answer ∙ ap (λ (x : ServerNumber). recordOf cfg (reply x h kind (h .tag) o)) (raised-me s (h .tag) is) ∙ ap (recordOf cfg) (sym e);
       }
 
   pub finalised-element : (element : Element) → elementOf key (h .tag) (view cfg s store .stored) ≡ some element → (bs : List ℕ) (r : Stepped)
-      → RespondPost cfg after (reply (after .me) h ReadFinaliseAnswer (h .tag) (some element)) bs r → ReadFinalisePost cfg s h store answer bs r
+      → RespondPost cfg after (reply (after .me) h ReadFinaliseAnswer (h .tag) (some element)) bs r → ReadFinalisePost cfg s h store bs r
   unfolding readAnswer answerTo reply
-  finalised-element element e bs r p = replied (some element) (rw e) bs r p
+  finalised-element element e bs r p = replied ReadFinaliseAnswer (some element) (rw e) bs r p
 
   module _ (missing : elementOf key (h .tag) (view cfg s store .stored) ≡ none) where
     pub finalised-none : atOrBelowFloor key (h .tag) (floorOf (s .floor)) ≡ false → (bs : List ℕ) (r : Stepped)
-        → RespondPost cfg after (reply (after .me) h ReadFinaliseAnswer (h .tag) none) bs r → ReadFinalisePost cfg s h store answer bs r
+        → RespondPost cfg after (reply (after .me) h ReadFinaliseAnswer (h .tag) none) bs r → ReadFinalisePost cfg s h store bs r
     unfolding readAnswer answerTo reply view
-    finalised-none b bs r p = replied none (rw (missing, b)) bs r p
+    finalised-none b bs r p = replied ReadFinaliseAnswer none (rw (missing, b)) bs r p
 
-    silent : atOrBelowFloor key (h .tag) (floorOf (s .floor)) ≡ true → readAnswered s h store cfg ≡ none
-    unfolding readAnswer reply view
-    silent b = rw (missing, b)
-
-    pub finalised-silent : atOrBelowFloor key (h .tag) (floorOf (s .floor)) ≡ true → (r : Stepped) → r ≡ unchanged after Cleared → ReadFinalisePost cfg s h store answer answer r
-    finalised-silent b r e =
-        record {
-          number = ap (λ (x : Stepped). verdictNumber (x .verdict)) e ∙ rw (silent b);
-          state = ap (λ (x : Stepped). x .state) e ∙ is;
-          answer = rw (silent b);
-        }
+    pub finalised-cleared : atOrBelowFloor key (h .tag) (floorOf (s .floor)) ≡ true → (bs : List ℕ) (r : Stepped)
+        → RespondPost cfg after (reply (after .me) h Cleared (h .tag) none) bs r → ReadFinalisePost cfg s h store bs r
+    unfolding readAnswer answerTo reply view
+    finalised-cleared b bs r p = replied Cleared none (rw (missing, b)) bs r p

@@ -1,8 +1,9 @@
 -- Document 01's figures of a server, of its calls: "D 0, fresh: pre-write (1, 1) gives floor (0, 0); then (2, 1) gives floor (1, 1); then
 -- (1, 2) gives floor (1, 2), not stored, acknowledged; a read finalise of (1, 1) gets 15; one of (3, 1) is answered without an element."
+-- "Where a server step gave 15 it now sends a record of kind 9".
 use Prim.Native.Nat.{ℕ}
-use mathlib.Core.Path.{_≡_, refl, _∙_, ap, ap₂, subst}
-use mathlib.Core.Bool.{true, cond}
+use mathlib.Core.Path.{_≡_, refl, sym, _∙_, ap, ap₂, subst}
+use mathlib.Core.Bool.{true}
 use mathlib.Core.List.{List, [], _∷_}
 use mathlib.Core.Option.{Option, none, some}
 use lib.ListN.{length}
@@ -13,15 +14,16 @@ use Rattle.config.specs.Refusal.{verdictNumber}
 use Rattle.tag.specs.declared.Tag.{Tag}
 use Rattle.tag.specs.Tag.{key, start}
 use Rattle.record.specs.declared.Kind.{Kind}
-use Rattle.record.specs.declared.Kind.the-variants.{PreWrite, PreWriteAnswer, ReadFinalise, ReadFinaliseAnswer}
+use Rattle.record.specs.declared.Kind.the-variants.{Cleared, PreWrite, PreWriteAnswer, ReadFinalise, ReadFinaliseAnswer}
 use Rattle.record.specs.Element.{Element, elementWith}
 use Rattle.record.specs.Message.{Message}
 use Rattle.record.specs.Record.{all, messageClauses, ofConfig, recordOf}
 use Rattle.protocol.specs.Server.{Served, Server, answerTo, atOrBelowFloor, dropSmallest, elementOf, finalised, freshServer, inPlaceOf, isStored, others, preWrite, readAnswer, readFinalise, serverStep, serverStepOf, smallest, store, storeElement}
 use Rattle.protocol.specs.Tags.{higher, lower}
+use Rattle.protocol.proofs.Basics.{some-injective}
 use Rattle.server.specs.declared.State.{State}
 use Rattle.server.specs.declared.Stepped.{Stepped}
-use Rattle.server.specs.Calls.{FreshPost, StepPost, answerBytes, answers, forServer, freshState}
+use Rattle.server.specs.Calls.{FreshPost, StepPost, forServer, freshState}
 use Rattle.server.specs.Within.{ValidState}
 use Rattle.server.specs.View.{view}
 use Rattle.server.proofs.Laws.{fresh-valid, fresh-view, on-message}
@@ -51,21 +53,21 @@ record Known (s : State) (store : List ℕ) (v : Server Element) : Type 0 where
   me : serverNumber (s .me) ≡ 1
   seen : view cfg s store ≡ v
 
-record After (v : Server Element) (m : Message Element) (before after storeAfter : List ℕ) (r : Stepped) : Type 0 where
-  number : verdictNumber (r .verdict) ≡ cond (answers (serverStep key 0 1 v m .answer)) 0 15
-  answer : after ≡ answerBytes cfg (serverStep key 0 1 v m .answer) before
+record After (v : Server Element) (m : Message Element) (after storeAfter : List ℕ) (r : Stepped) : Type 0 where
+  number : verdictNumber (r .verdict) ≡ 0
+  answer : (x : Message Element) → serverStep key 0 1 v m .answer ≡ some x → after ≡ recordOf cfg x
   known : Known (r .state) storeAfter (serverStep key 0 1 v m .server)
 
 step-known : (s : State) (store : List ℕ) (v : Server Element) → Known s store v → (m : Message Element) → ofConfig cfg m ≡ true → forServer 1 m ≡ true
     → (answer storeAfter answerAfter : List ℕ) (r : Stepped) → length answer ≡ 80 → StepPost cfg s (recordOf cfg m) store answer storeAfter answerAfter r
-    → After v m answer answerAfter storeAfter r
+    → After v m answerAfter storeAfter r
 step-known s store v k m ok mine answer storeAfter answerAfter r eighty post =
     let p = on-message cfg s m store answer storeAfter answerAfter r (k .held) ok (ap (λ (n : ℕ). forServer n m) (k .me) ∙ mine) eighty post in
     let o : serverStep key 0 (serverNumber (s .me)) (view cfg s store) m ≡ serverStep key 0 1 v m =
     ap₂ {A = ℕ} (λ (n : ℕ) (w : Server Element). serverStep key 0 n w m) (k .me) (k .seen) in
     record {
-      number = p .number ∙ ap (λ (x : Served Element). cond (answers (x .answer)) 0 15) o;
-      answer = p .answer ∙ ap (λ (x : Served Element). answerBytes cfg (x .answer) answer) o;
+      number = p .number;
+      answer = λ x e. p .answer ∙ ap (recordOf cfg) (some-injective (sym (p .sends) ∙ ap (λ (y : Served Element). y .answer) o ∙ e));
       known =
           record {
             held = p .held;
@@ -106,8 +108,8 @@ unfolding serverStep serverStepOf preWrite storeElement store isStored atOrBelow
 three = refl
 
 four : serverStep key 0 1 (holding start (tag 2 1) 9 (tag 1 2)) (message ReadFinalise 1 1 none)
-    ≡ record { server = holding (tag 1 1) (tag 2 1) 9 (tag 1 2); answer = none }
-unfolding serverStep serverStepOf readFinalise readAnswer elementOf atOrBelowFloor finalised higher key
+    ≡ record { server = holding (tag 1 1) (tag 2 1) 9 (tag 1 2); answer = some (message Cleared 1 1 none) }
+unfolding serverStep serverStepOf readFinalise readAnswer elementOf atOrBelowFloor finalised higher answerTo key
 four = refl
 
 five : serverStep key 0 1 (holding (tag 1 1) (tag 2 1) 9 (tag 1 2)) (message ReadFinalise 3 1 none)
@@ -116,12 +118,13 @@ unfolding serverStep serverStepOf readFinalise readAnswer elementOf atOrBelowFlo
 five = refl
 
 -- The table, of a fresh server 1 with element 7 and five calls of `step`, each on what the one before left.
-pub record Table (r1 r2 r3 r4 r5 : Stepped) (store1 store2 store3 answer3 answer5 : List ℕ) : Type 0 where
+pub record Table (r1 r2 r3 r4 r5 : Stepped) (store1 store2 store3 answer3 answer4 answer5 : List ℕ) : Type 0 where
   pub first : view cfg (r1 .state) store1 ≡ holding start (tag 1 1) 8 (tag 0 0)
   pub second : view cfg (r2 .state) store2 ≡ holding start (tag 2 1) 9 (tag 1 1)
   pub third : view cfg (r3 .state) store3 ≡ holding start (tag 2 1) 9 (tag 1 2)
   pub acknowledged : answer3 ≡ recordOf cfg (message PreWriteAnswer 1 2 none)
-  pub cleared : verdictNumber (r4 .verdict) ≡ 15
+  pub accepted : verdictNumber (r4 .verdict) ≡ 0
+  pub cleared : answer4 ≡ recordOf cfg (message Cleared 1 1 none)
   pub answered : answer5 ≡ recordOf cfg (message ReadFinaliseAnswer 3 1 none)
 
 pub table : (me : ServerNumber) → serverNumber me ≡ 1 → (before store0 store1 store2 store3 store4 store5 answer answer1 answer2 answer3 answer4 answer5 : List ℕ)
@@ -131,7 +134,7 @@ pub table : (me : ServerNumber) → serverNumber me ≡ 1 → (before store0 sto
     → StepPost cfg (r2 .state) (recordOf cfg (message PreWrite 1 2 (some (full 5)))) store2 answer store3 answer3 r3
     → StepPost cfg (r3 .state) (recordOf cfg (message ReadFinalise 1 1 none)) store3 answer store4 answer4 r4
     → StepPost cfg (r4 .state) (recordOf cfg (message ReadFinalise 3 1 none)) store4 answer store5 answer5 r5
-    → Table r1 r2 r3 r4 r5 store1 store2 store3 answer3 answer5
+    → Table r1 r2 r3 r4 r5 store1 store2 store3 answer3 answer4 answer5
 table me is before store0 store1 store2 store3 store4 store5 answer answer1 answer2 answer3 answer4 answer5 eighty r0 r1 r2 r3 r4 r5 fresh accepted p1 p2 p3 p4 p5 =
     let k0 = fresh-known me (7 ∷ []) before store0 r0 is fresh accepted in
     let a1 = step-known (r0 .state) store0 _ k0 (message PreWrite 1 1 (some (full 8))) (of-config .0) refl answer store1 answer1 r1 eighty p1 in
@@ -147,7 +150,8 @@ table me is before store0 store1 store2 store3 store4 store5 answer answer1 answ
       first = k1 .seen;
       second = k2 .seen;
       third = k3 .seen;
-      acknowledged = a3 .answer ∙ ap (λ (x : Served Element). answerBytes cfg (x .answer) answer) three;
-      cleared = a4 .number ∙ ap (λ (x : Served Element). cond (answers (x .answer)) 0 15) four;
-      answered = a5 .answer ∙ ap (λ (x : Served Element). answerBytes cfg (x .answer) answer) five;
+      acknowledged = a3 .answer _ (ap (λ (x : Served Element). x .answer) three);
+      accepted = a4 .number;
+      cleared = a4 .answer _ (ap (λ (x : Served Element). x .answer) four);
+      answered = a5 .answer _ (ap (λ (x : Served Element). x .answer) five);
     }

@@ -2,7 +2,7 @@
 use mathlib.Core.Path.{_≡_, refl, sym, _∙_, ap, ap₂}
 use mathlib.Core.Bool.{Bool, true, false, cond, _&&_, _||_, true≢false}
 use mathlib.Core.List.{List, [], _∷_, _++_}
-use mathlib.Core.Logic.{_⊎_, ⊎-elim}
+use mathlib.Core.Logic.{⊎-elim}
 use mathlib.Core.Option.{Option, none, some}
 use Prim.Native.Nat.{ℕ, suc, _+_, _≤_, _<_}
 use native.Mathlib.Omega.{arith}
@@ -16,7 +16,7 @@ use Rattle.tag.specs.declared.Tag.{Tag}
 use Rattle.tag.specs.Tag.{above, allowed, key, start}
 use Rattle.tag.proofs.Order.{Small, key-above, key-one}
 use Rattle.record.specs.declared.Kind.{Kind}
-use Rattle.record.specs.declared.Kind.the-variants.{Query, QueryAnswer, PreWrite, PreWriteAnswer, WriteFinalise, WriteFinaliseAnswer, ReadFinalise, ReadFinaliseAnswer}
+use Rattle.record.specs.declared.Kind.the-variants.{Query, QueryAnswer, PreWrite, PreWriteAnswer, WriteFinalise, WriteFinaliseAnswer, ReadFinalise, ReadFinaliseAnswer, Cleared}
 use Rattle.record.specs.Element.{Element}
 use Rattle.record.specs.Message.{Message}
 use Rattle.record.specs.Record.{all, lengthOf}
@@ -252,6 +252,7 @@ module _ {Element : Type 0} (cfg : Config) (high : cfg .c ≤ 16) (s : ℕ) (v :
   tags-by-kind WriteFinaliseAnswer = k
   tags-by-kind ReadFinalise = finalised-tags
   tags-by-kind ReadFinaliseAnswer = k
+  tags-by-kind Cleared = k
 
   pub step-tags : serverTags cfg (serverStep key (cfg .d) s v m .server) ≡ true
   unfolding serverStep
@@ -324,6 +325,7 @@ module _ (cfg : Config) where
     lengths-by-kind WriteFinaliseAnswer = k
     lengths-by-kind ReadFinalise = k
     lengths-by-kind ReadFinaliseAnswer = k
+    lengths-by-kind Cleared = k
 
     step-lengths : serverLengths (serverStep key (cfg .d) s v m .server .stored) ≡ true
     unfolding serverStep
@@ -347,16 +349,12 @@ module _ (cfg : Config) (v : Server Element) where
 -- a step keeps question 6
 module _ (cfg : Config) (high : cfg .c ≤ 16) (s : ℕ) (v : Server Element) (k : serverWithin cfg v ≡ true) (m : Message Element)
     (ok : allowed (cfg .c) (m .tag) ≡ true) where
-  pub finalised-within : serverWithin cfg (finalised key v (m .tag)) ≡ true
-  unfolding finalised
-  finalised-within = both-within cfg (finalised key v (m .tag)) (finalised-tags cfg high s v (tags-of cfg v k) m ok) (lengths-of cfg v k)
-
   pub step-within : leb (lengthOf (m .element)) (boardLength cfg) ≡ true → serverWithin cfg (serverStep key (cfg .d) s v m .server) ≡ true
   step-within fits =
       both-within cfg (serverStep key (cfg .d) s v m .server) (step-tags cfg high s v (tags-of cfg v k) m ok) (step-lengths cfg s v (lengths-of cfg v k) m fits)
 
 -- H never falls
-pub rises-by : (b : Bool) (h t : Tag) → ltb (key h) (key t) ≡ b → key h ≤ key (cond b t h)
+rises-by : (b : Bool) (h t : Tag) → ltb (key h) (key t) ≡ b → key h ≤ key (cond b t h)
 rises-by true h t e = omega (arith, ltb-true (key h) (key t) e)
 rises-by false h t e = omega arith
 
@@ -390,6 +388,7 @@ module _ {Element : Type 0} (d s : ℕ) (v : Server Element) (m : Message Elemen
   rises-of WriteFinaliseAnswer = omega arith
   rises-of ReadFinalise = finalised-rises
   rises-of ReadFinaliseAnswer = omega arith
+  rises-of Cleared = omega arith
 
   pub highest-rises : key (v .highest) ≤ key (serverStep key d s v m .server .highest)
   unfolding serverStep

@@ -6,12 +6,12 @@ use mathlib.Core.Bool.{Bool, true, false, cond, _&&_}
 use mathlib.Core.List.{List, [], _∷_, _++_}
 use mathlib.Core.Logic.{_⊎_, ⊎-elim}
 use mathlib.Core.Option.{Option, none, some}
-use Prim.Native.Nat.{ℕ, zero, suc, _+_, _-_, _*_, _≤_}
+use Prim.Native.Nat.{ℕ, zero, suc, _+_, _*_, _≤_}
 use native.Mathlib.Decide.{ℕ-discrete}
 use native.Mathlib.Nat.{mul-le-mul-right, zero-mul}
 use native.Mathlib.Omega.{arith}
-use borrow.Author.Tests.{eq-eqb, eqb-true, le-leb, ne-eqb}
-use lib.Dec.{eqb, leb, ltb}
+use borrow.Author.Tests.{eq-eqb, eqb-true, le-leb}
+use lib.Dec.{eqb, leb}
 use lib.ListN.{length, drop, length-append, length-drop, take}
 use lib.Seq.{take-at}
 use Rattle.config.specs.declared.Config.{Config}
@@ -25,24 +25,23 @@ use Rattle.config.proofs.Valid.{valid}
 use Rattle.laws.proofs.Bools.{and-left, and-right}
 use Rattle.tag.specs.declared.Tag.{Tag}
 use Rattle.tag.specs.Tag.{allowed, key, start}
-use Rattle.record.specs.declared.Kind.{Kind}
-use Rattle.record.specs.declared.Kind.the-variants.{Query, QueryAnswer, PreWrite, PreWriteAnswer, WriteFinalise, WriteFinaliseAnswer, ReadFinalise, ReadFinaliseAnswer}
+use Rattle.record.specs.declared.Kind.the-variants.{PreWrite}
 use Rattle.record.specs.Element.{Element, elementWith}
 use Rattle.record.specs.Kinds.{isForServer}
 use Rattle.record.specs.Message.{Message}
 use Rattle.record.specs.Record.{elementIn, lengthAt, lengthFits, lengthOf, messageOf, ofConfig, presentAt, recordOf, wellFormed}
 use Rattle.record.proofs.Clauses.{its-fit, its-tag}
 use Rattle.record.proofs.Laws.{reads-back, record-long, written-well-formed}
-use Rattle.protocol.specs.Server.{Served, Server, atOrBelowFloor, elementOf, finalised, freshServer, isStored, preWrite, query, readFinalise, serverStep, serverStepOf, store as stores, storeElement, writeFinalise}
-use Rattle.protocol.specs.Tags.{higher}
+use Rattle.protocol.specs.Server.{Server, atOrBelowFloor, elementOf, freshServer, isStored, preWrite, serverStep, serverStepOf, store as stores, storeElement}
 use Rattle.server.specs.declared.State.{State}
 use Rattle.server.specs.declared.Stepped.{Stepped}
-use Rattle.server.specs.Calls.{FreshPost, StepPost, Steps, answerBytes, answers, forServer, freshQuestions, freshState, outcome, raised, stepQuestions}
+use Rattle.server.specs.Calls.{FreshPost, StepPost, Steps, answerBytes, forServer, freshQuestions, freshState, outcome, stepQuestions}
 use Rattle.server.specs.Within.{ValidState, storedLengths, lengthsWithin, numbersWithin, serverWithin, stateWithin, tagsOf, tagsWithin}
 use Rattle.server.specs.View.{each, elementAt, floorOf, lengthsUsed, placeAt, storedLength, tagAt, tagsUsed, view}
-use Rattle.server.proofs.Asked.{step-answer, step-handed, step-later}
+use Rattle.server.proofs.Answered.{answers-each}
+use Rattle.server.proofs.Asked.{step-accepted, step-later}
 use Rattle.server.proofs.Limits.{state-me}
-use Rattle.server.proofs.Invariant.{finalised-within, fresh-within, highest-rises, rises-by, step-within}
+use Rattle.server.proofs.Invariant.{fresh-within, highest-rises, step-within}
 use Rattle.server.proofs.Sent.{sent-stored}
 use Rattle.server.proofs.Stepping.{steps-same}
 use Rattle.server.proofs.Tags.{both}
@@ -80,11 +79,6 @@ module _ (cfg : Config) (s : State) (store : List ℕ) where
 
   pub server-within : stateWithin cfg s ≡ true → serverWithin cfg (view cfg s store) ≡ true
   server-within h = and-right (within 1 (cfg .n) (serverNumber (s .me))) (serverWithin cfg (view cfg s store)) (sym state-view ∙ h)
-
-  -- H is raised
-  pub raised-view : (t : Tag) → view cfg (raised s t) store ≡ finalised key (view cfg s store) t
-  unfolding view raised finalised
-  raised-view t = refl
 
   pub within-state : within 1 (cfg .n) (serverNumber (s .me)) ≡ true → serverWithin cfg (view cfg s store) ≡ true → stateWithin cfg s ≡ true
   within-state w h = state-view ∙ both (within 1 (cfg .n) (serverNumber (s .me))) (serverWithin cfg (view cfg s store)) w h
@@ -161,7 +155,7 @@ module _ (cfg : Config) (me : ServerNumber) (element before after : List ℕ) (r
 module _ (cfg : Config) (s : State) (handed store answer storeAfter answerAfter : List ℕ) (r : Stepped) (held : ValidState cfg s store)
     (post : StepPost cfg s handed store answer storeAfter answerAfter r) where
   abbrev first : ℕ
-  first = firstNo (stepQuestions cfg s handed store answer)
+  first = firstNo (stepQuestions cfg s handed (length store) (length answer))
 
   abbrev m : Message Element
   m = messageOf cfg handed
@@ -169,31 +163,21 @@ module _ (cfg : Config) (s : State) (handed store answer storeAfter answerAfter 
   abbrev v : Server Element
   v = view cfg s store
 
-  well-by : (b : Bool) (x n : ℕ) → n ≡ cond b x 12 → (n ≡ 12 → ⊥) → b ≡ true
-  well-by true x n e h = refl
-  well-by false x n e h = absurd (h e)
+  -- an accepted record is well formed
+  well : first ≡ 0 → wellFormed cfg handed ≡ true
+  well z = step-accepted cfg s handed (length store) (length answer) z .0 .well-formed
 
-  -- past questions 6 and 12 the record is well formed
-  well : (first ≡ 6 → ⊥) → (first ≡ 12 → ⊥) → wellFormed cfg handed ≡ true
-  well six twelve = elim (ℕ-discrete (length handed) 80) as (λ _. wellFormed cfg handed ≡ true) [
-    | yes e ↦ elim (ℕ-discrete (length answer) 80) as (λ _. wellFormed cfg handed ≡ true) [
-      | yes f ↦ well-by (wellFormed cfg handed) _ first (step-later cfg s handed store answer held e f) twelve
-      | no nf ↦ absurd (six (step-answer cfg s handed store answer held e nf))
-    ]
-    | no ne ↦ absurd (six (step-handed cfg s handed store answer held ne))
-  ]
-
-  tag-ok : (first ≡ 6 → ⊥) → (first ≡ 12 → ⊥) → allowed (cfg .c) (m .tag) ≡ true
+  tag-ok : first ≡ 0 → allowed (cfg .c) (m .tag) ≡ true
   unfolding messageOf
-  tag-ok six twelve = its-tag cfg handed (well six twelve)
+  tag-ok z = its-tag cfg handed (well z)
 
   fits-by : (b : Bool) (n : ℕ) (bs : List ℕ) → lengthFits cfg b n ≡ true → leb (lengthOf (cond b (some (elementWith n bs)) none)) (boardLength cfg) ≡ true
   fits-by true n bs h = h
   fits-by false n bs h = le-leb 0 (boardLength cfg) (omega arith)
 
-  length-ok : (first ≡ 6 → ⊥) → (first ≡ 12 → ⊥) → leb (lengthOf (m .element)) (boardLength cfg) ≡ true
+  length-ok : first ≡ 0 → leb (lengthOf (m .element)) (boardLength cfg) ≡ true
   unfolding messageOf
-  length-ok six twelve = fits-by (presentAt handed) (lengthAt handed) (elementIn cfg handed) (its-fit cfg handed (well six twelve))
+  length-ok z = fits-by (presentAt handed) (lengthAt handed) (elementIn cfg handed) (its-fit cfg handed (well z))
 
   -- the protocol's server stays within question 6
   v-within : serverWithin cfg v ≡ true
@@ -203,17 +187,8 @@ module _ (cfg : Config) (s : State) (handed store answer storeAfter answerAfter 
   after-within = elim (ℕ-discrete first 0) as (λ _. serverWithin cfg (view cfg (r .state) storeAfter) ≡ true) [
     | yes z ↦
         ap (serverWithin cfg) (post .seen z)
-        ∙ step-within cfg (held .valid .c-high) (serverNumber (s .me)) v v-within m (tag-ok (λ x. omega arith) (λ x. omega arith))
-        (length-ok (λ x. omega arith) (λ x. omega arith))
-    | no nz ↦ elim (ℕ-discrete first 15) as (λ _. serverWithin cfg (view cfg (r .state) storeAfter) ≡ true) [
-      | yes f ↦
-          let e : r .state ≡ raised s (m .tag) = post .state nz ∙ ap (λ (b : Bool). cond b (raised s (m .tag)) s) (eq-eqb first 15 f) in
-          ap₂ {A = State} (λ (x : State) (l : List ℕ). serverWithin cfg (view cfg x l)) e (post .store nz) ∙ ap (serverWithin cfg) (raised-view cfg s store (m .tag))
-          ∙ finalised-within cfg (held .valid .c-high) (serverNumber (s .me)) v v-within m (tag-ok (λ x. omega arith) (λ x. omega arith))
-      | no nf ↦
-          let e : r .state ≡ s = post .state nz ∙ ap (λ (b : Bool). cond b (raised s (m .tag)) s) (ne-eqb first 15 nf) in
-          ap₂ {A = State} (λ (x : State) (l : List ℕ). serverWithin cfg (view cfg x l)) e (post .store nz) ∙ v-within
-    ]
+        ∙ step-within cfg (held .valid .c-high) (serverNumber (s .me)) v v-within m (tag-ok z) (length-ok z)
+    | no nz ↦ ap₂ {A = State} (λ (x : State) (l : List ℕ). serverWithin cfg (view cfg x l)) (post .state nz) (post .store nz) ∙ v-within
   ]
 
   pub step-valid : ValidState cfg (r .state) storeAfter
@@ -230,23 +205,12 @@ module _ (cfg : Config) (s : State) (handed store answer storeAfter answerAfter 
   unfolding view
   view-highest x l = refl
 
-  raised-highest : (t : Tag) → key (s .highest) ≤ key (raised s t .highest)
-  unfolding raised higher
-  raised-highest t = rises-by (ltb (key (s .highest)) (key t)) (s .highest) t refl
-
   pub never-falls : key (s .highest) ≤ key (r .state .highest)
   never-falls = elim (ℕ-discrete first 0) as (λ _. key (s .highest) ≤ key (r .state .highest)) [
     | yes z ↦
         let e : view cfg (r .state) storeAfter .highest ≡ outcome cfg s store m .server .highest = ap (λ (x : Server Element). x .highest) (post .seen z) in
         omega (arith, highest-rises (cfg .d) (serverNumber (s .me)) v m, ap key e, ap key (view-highest (r .state) storeAfter), ap key (view-highest s store))
-    | no nz ↦ elim (ℕ-discrete first 15) as (λ _. key (s .highest) ≤ key (r .state .highest)) [
-      | yes f ↦
-          let e : r .state ≡ raised s (m .tag) = post .state nz ∙ ap (λ (b : Bool). cond b (raised s (m .tag)) s) (eq-eqb first 15 f) in
-          omega (arith, raised-highest (m .tag), ap (λ (x : State). key (x .highest)) e)
-      | no nf ↦
-          let e : r .state ≡ s = post .state nz ∙ ap (λ (b : Bool). cond b (raised s (m .tag)) s) (ne-eqb first 15 nf) in
-          omega (arith, ap (λ (x : State). key (x .highest)) e)
-    ]
+    | no nz ↦ omega (arith, ap (λ (x : State). key (x .highest)) (post .state nz))
   ]
 
 -- Pre-write: what is sent is stored. After an accepted step the element of the tag is the one sent, unless the tag was stored, or at or
@@ -271,77 +235,41 @@ module _ (cfg : Config) (s : State) (handed store answer storeAfter answerAfter 
       (subst (λ (w : Server Element). (w .floor ≡ some written) ⊎ (elementOf key written (w .stored) ≡ some element)) (sym stored-is)
       (sent-stored written element (view cfg s store) new (cfg .d) over))
 
--- A step on the record of a message of the configuration, for this server and of a kind that it receives: it is the protocol's.
-pub record OnMessage (cfg : Config) (s : State) (m : Message Element) (storeBefore answerBefore storeAfter answerAfter : List ℕ) (r : Stepped) : Type 0 where
-  pub number : verdictNumber (r .verdict) ≡ cond (answers (outcome cfg s storeBefore m .answer)) 0 15
+-- A step on the record of a message of the configuration, for this server and of a kind that it receives: it is the protocol's, and sends an answer.
+pub record OnMessage (cfg : Config) (s : State) (m : Message Element) (storeBefore storeAfter answerAfter : List ℕ) (r : Stepped) : Type 0 where
+  pub number : verdictNumber (r .verdict) ≡ 0
   pub me : r .state .me ≡ s .me
   pub seen : view cfg (r .state) storeAfter ≡ outcome cfg s storeBefore m .server
-  pub answer : answerAfter ≡ answerBytes cfg (outcome cfg s storeBefore m .answer) answerBefore
+  pub said : Message Element
+  pub sends : outcome cfg s storeBefore m .answer ≡ some said
+  pub answer : answerAfter ≡ recordOf cfg said
   pub held : ValidState cfg (r .state) storeAfter
-
--- without an answer H is raised, and nothing else
-module _ {Element : Type 0} (d s : ℕ) (v : Server Element) (m : Message Element) where
-  silent-by : (kind : Kind) → isForServer kind ≡ true → serverStepOf kind key d s v m .answer ≡ none → serverStepOf kind key d s v m .server ≡ finalised key v (m .tag)
-  unfolding serverStepOf query preWrite writeFinalise readFinalise
-  silent-by Query k e = cc
-  silent-by QueryAnswer k e = cc
-  silent-by PreWrite k e = cc
-  silent-by PreWriteAnswer k e = cc
-  silent-by WriteFinalise k e = refl
-  silent-by WriteFinaliseAnswer k e = cc
-  silent-by ReadFinalise k e = refl
-  silent-by ReadFinaliseAnswer k e = cc
-
-  pub silent-server : isForServer (m .kind) ≡ true → serverStep key d s v m .answer ≡ none → serverStep key d s v m .server ≡ finalised key v (m .tag)
-  unfolding serverStep
-  silent-server = silent-by (m .kind)
 
 module _ (cfg : Config) (s : State) (m : Message Element) (store answer storeAfter answerAfter : List ℕ) (r : Stepped) (held : ValidState cfg s store)
     (ok : ofConfig cfg m ≡ true) (mine : forServer (serverNumber (s .me)) m ≡ true) (eighty : length answer ≡ 80)
     (post : StepPost cfg s (recordOf cfg m) store answer storeAfter answerAfter r) where
-  abbrev o : Served Element
-  o = outcome cfg s store m
-
   back : messageOf cfg (recordOf cfg m) ≡ m
   back = reads-back cfg (held .valid) m ok
 
-  number-is : firstNo (stepQuestions cfg s (recordOf cfg m) store answer) ≡ cond (answers (o .answer)) 0 15
+  number-is : firstNo (stepQuestions cfg s (recordOf cfg m) (length store) (length answer)) ≡ 0
   number-is =
-      step-later cfg s (recordOf cfg m) store answer held (record-long cfg (held .valid .e-high) m ok) eighty
-      ∙ ap (λ (b : Bool). cond b (cond (forServer (serverNumber (s .me)) (messageOf cfg (recordOf cfg m))) (cond (answers (outcome cfg s store (messageOf cfg (recordOf cfg m)) .answer)) 0 15) 16) 12)
-      (written-well-formed cfg (held .valid) m ok)
-      ∙ ap (λ (x : Message Element). cond (forServer (serverNumber (s .me)) x) (cond (answers (outcome cfg s store x .answer)) 0 15) 16) back
-      ∙ ap (λ (b : Bool). cond b (cond (answers (o .answer)) 0 15) 16) mine
+      step-later cfg s (recordOf cfg m) (length store) (length answer) (held .valid, held .within, held .long) (record-long cfg (held .valid .e-high) m ok) eighty
+      ∙ rw (written-well-formed cfg (held .valid) m ok, back, mine)
 
-  steps : Steps cfg s (cond (answers (o .answer)) 0 15) m store answer storeAfter answerAfter r
+  steps : Steps cfg s 0 m store answer storeAfter answerAfter r
   steps =
-      steps-same cfg s (firstNo (stepQuestions cfg s (recordOf cfg m) store answer)) (cond (answers (o .answer)) 0 15) (messageOf cfg (recordOf cfg m)) m store answer
-      storeAfter answerAfter r number-is back post
+      steps-same cfg s (firstNo (stepQuestions cfg s (recordOf cfg m) (length store) (length answer))) 0 (messageOf cfg (recordOf cfg m)) m store answer storeAfter answerAfter r
+      number-is back post
 
-  -- by whether there is an answer
-  by-answer : (x : Option (Message Element)) → o .answer ≡ x
-      → (view cfg (r .state) storeAfter ≡ o .server) × (answerAfter ≡ answerBytes cfg x answer)
-  by-answer none e =
-      let p : Steps cfg s 15 m store answer storeAfter answerAfter r =
-      subst (λ (x : Option (Message Element)). Steps cfg s (cond (answers x) 0 15) m store answer storeAfter answerAfter r) e steps in
-      let some-number : _≡_ {A = ℕ} 15 0 → ⊥ = λ z. omega arith in (
-        ap₂ {A = State} (λ (x : State) (l : List ℕ). view cfg x l) (p .state some-number) (p .store some-number)
-            ∙ raised-view cfg s store (m .tag)
-            ∙ sym (silent-server (cfg .d) (serverNumber (s .me)) (view cfg s store) m (and-right (eqb (m .server) (serverNumber (s .me))) (isForServer (m .kind)) mine) e),
-        p .answer,
-      )
-  by-answer (some a) e =
-      let p : Steps cfg s 0 m store answer storeAfter answerAfter r =
-      subst (λ (x : Option (Message Element)). Steps cfg s (cond (answers x) 0 15) m store answer storeAfter answerAfter r) e steps in
-      (p .seen refl, p .answer ∙ ap (λ (x : Option (Message Element)). answerBytes cfg x answer) e)
-
-  pub on-message : OnMessage cfg s m store answer storeAfter answerAfter r
+  pub on-message : OnMessage cfg s m store storeAfter answerAfter r
   on-message =
-      let b = by-answer (o .answer) refl in
+      let a = answers-each key (cfg .d) (serverNumber (s .me)) (view cfg s store) m (and-right (eqb (m .server) (serverNumber (s .me))) (isForServer (m .kind)) mine) in
       record {
         number = steps .number;
         me = post .me;
-        seen = b .0;
-        answer = b .1;
+        seen = steps .seen refl;
+        said = a .0;
+        sends = a .1;
+        answer = steps .answer ∙ ap (λ (x : Option (Message Element)). answerBytes cfg x answer) (a .1);
         held = step-valid cfg s (recordOf cfg m) store answer storeAfter answerAfter r held post;
       }

@@ -1,4 +1,5 @@
 pub mod Alike
+pub mod Answered
 mod Answering
 pub mod Asked
 mod Begin

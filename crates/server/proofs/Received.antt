@@ -16,7 +16,7 @@ use Rattle.tag.specs.declared.Tag.{Tag}
 use Rattle.tag.specs.Tag.{above, allowed, key, same, start}
 use Rattle.tag.proofs.Order.{Small, above-key, above-not-self, key-above, same-one, same-self}
 use Rattle.record.specs.declared.Kind.{Kind}
-use Rattle.record.specs.declared.Kind.the-variants.{Query, QueryAnswer, PreWrite, PreWriteAnswer, WriteFinalise, WriteFinaliseAnswer, ReadFinalise, ReadFinaliseAnswer}
+use Rattle.record.specs.declared.Kind.the-variants.{Query, QueryAnswer, PreWrite, PreWriteAnswer, WriteFinalise, WriteFinaliseAnswer, ReadFinalise, ReadFinaliseAnswer, Cleared}
 use Rattle.record.specs.Message.{Message}
 use Rattle.protocol.specs.Server.{Server, Stored, addLast, atOrBelowFloor, finalised, freshServer, inPlaceOf, preWrite, query, readFinalise, serverStep, serverStepOf, store, storeElement, writeFinalise}
 use Rattle.server.specs.Within.{among, every, floorWithin, tagsOf}
@@ -242,6 +242,7 @@ module _ {Element : Type 0} (cfg : Config) (high : cfg .c ≤ 16) (s : ℕ) (rec
   by-kind WriteFinaliseAnswer = k
   by-kind ReadFinalise = finalised-knows (finalised-tags cfg high s v (k .within) m ok)
   by-kind ReadFinaliseAnswer = k
+  by-kind Cleared = k
 
   pub step-knows : Knows cfg (receive m received) (serverStep key (cfg .d) s v m .server)
   unfolding serverStep

@@ -1,22 +1,21 @@
 -- What a step leaves, by the question that decides or by the kind of request. Assumes nothing.
 use mathlib.Core.Path.{_≡_, refl, sym, _∙_, ap, subst₂}
-use mathlib.Core.Bool.{Bool, true, false, cond, _&&_}
+use mathlib.Core.Bool.{Bool, true, false, cond}
 use mathlib.Core.List.{List}
 use mathlib.Core.Option.{Option, none, some}
 use Prim.Native.Nat.{ℕ, _≤_}
 use native.Mathlib.Omega.{arith}
 use borrow.Author.Tests.{eq-eqb, le-leb, ne-eqb}
-use lib.Dec.{eqb, leb}
+use lib.Dec.{leb}
 use lib.ListN.{length, getD}
 use Rattle.config.specs.declared.Config.{Config}
 use Rattle.config.specs.declared.Refusal.{Refusal}
 use Rattle.config.specs.declared.Refusal.the-variants.{Misdirected}
 use Rattle.config.specs.declared.Server.{Server as ServerNumber}
-use Rattle.config.specs.Config.{questions, storeLength}
 use Rattle.config.specs.Number.{clientNumber, serverNumber}
 use Rattle.config.specs.Questions.{firstNo, within}
-use Rattle.config.specs.Refusal.{refusalNumber, verdictNumber}
-use Rattle.config.proofs.Refusals.{refusal-low}
+use Rattle.config.specs.Refusal.{clamped, refusalNumber, verdictNumber}
+use Rattle.config.proofs.Refusals.{refusal-is, refusal-low}
 use Rattle.tag.specs.declared.Tag.{Tag}
 use Rattle.tag.specs.Tag.{allowed, key}
 use Rattle.record.specs.declared.Header.{Header}
@@ -26,30 +25,32 @@ use Rattle.record.specs.Calls.{withElement}
 use Rattle.record.specs.Element.{Element, elementWith}
 use Rattle.record.specs.Kinds.{isForServer}
 use Rattle.record.specs.Message.{Message}
-use Rattle.record.specs.Record.{elementIn, highestNumber, isPresent, kindNumber, messageClauses, ofConfig, ownTag, presence, recordOf}
+use Rattle.record.specs.Record.{elementIn, highestNumber, isPresent, kindNumber, messageClauses, messageOf, ofConfig, ownTag, presence, recordOf}
 use Rattle.record.proofs.Clauses.{all-at}
 use Rattle.protocol.specs.Server.{Served, answerTo, elementOf, finalised, preWrite, query, readAnswer, readFinalise, serverStep, serverStepOf, storeElement, writeFinalise}
 use Rattle.server.specs.declared.serve.Reply.{Reply}
 use Rattle.server.specs.declared.State.{State}
 use Rattle.server.specs.declared.Stepped.{Stepped}
-use Rattle.server.specs.Calls.{Steps, answerBytes, answers, outcome, raised, stateQuestions}
+use Rattle.server.specs.declared.Told.{Told}
+use Rattle.server.specs.Calls.{StepPost, Steps, outcome, stepQuestions}
 use Rattle.server.specs.inner.Keep.{KeepPost}
-use Rattle.server.specs.inner.Serve.{ReadFinalisePost, ReadFinalisePre, RespondPost, RespondPre, RequestPre, bareOf, readAnswered, reply, replyOf, requestNumber, unchanged}
-use Rattle.server.specs.Within.{stateWithin}
+use Rattle.server.specs.inner.Receive.{ReceivePost}
+use Rattle.server.specs.inner.Serve.{ReadFinalisePost, ReadFinalisePre, RespondPost, RespondPre, RequestPre, bareOf, raised, readAnswered, reply, replyOf, requestNumber, unchanged}
 use Rattle.server.specs.View.{view}
-use Rattle.server.proofs.Answering.{bare-respond, reply-of-config}
+use Rattle.server.proofs.Asked.{step-numbered}
+use Rattle.server.proofs.Answering.{bare-respond, raised-me, reply-of-config}
 use Rattle.server.proofs.Limits.{state-highest, state-me}
 
--- refused, but not by 15: all holds
+-- refused: all holds
 pub steps-refused : (cfg : Config) (s : State) (n : ℕ) (m : Message Element) (store answer : List ℕ) (r : Stepped) (why : Refusal)
-    → r ≡ unchanged s why → refusalNumber why ≡ n → (n ≡ 15 → ⊥) → Steps cfg s n m store answer store answer r
-steps-refused cfg s n m store answer r why e v other =
+    → r ≡ unchanged s why → refusalNumber why ≡ n → Steps cfg s n m store answer store answer r
+steps-refused cfg s n m store answer r why e v =
     let refuses : n ≡ 0 → ⊥ = λ z. omega (arith, refusal-low why) in
     record {
       number = ap (λ (x : Stepped). verdictNumber (x .verdict)) e ∙ v;
       me = ap (λ (x : Stepped). x .state .me) e;
       seen = λ z. absurd (refuses z);
-      state = λ _. ap (λ (x : Stepped). x .state) e ∙ rw (ne-eqb n 15 other);
+      state = λ _. ap (λ (x : Stepped). x .state) e;
       store = λ _. refl;
       long = refl;
       answer = rw (ne-eqb n 0 refuses);
@@ -61,23 +62,20 @@ pub steps-same : (cfg : Config) (s : State) (n k : ℕ) (m l : Message Element) 
 steps-same cfg s n k m l store answer storeAfter answerAfter r e f p =
     subst₂ (λ (x : ℕ) (y : Message Element). Steps cfg s x y store answer storeAfter answerAfter r) e f p
 
--- questions 1 to 6 have other numbers than 15
-low-by : (b : Bool) (x n : ℕ) → x ≤ 6 → n ≤ 6 → cond b x n ≤ 6
-low-by true x n a c = a
-low-by false x n a c = c
+-- a step, by what its first questions told: a no
+pub step-refused : (cfg : Config) (s : State) (handed store answer : List ℕ) {n : ℕ} → ReceivePost cfg s handed (length store) (length answer) (Told.No n)
+    → {why : Refusal} → refusalNumber why ≡ clamped n → {r : Stepped} → r ≡ unchanged s why → StepPost cfg s handed store answer store answer r
+step-refused cfg s handed store answer told {why} of {r} is =
+    let qs = stepQuestions cfg s handed (length store) (length answer) in
+    steps-refused cfg s (firstNo qs) (messageOf cfg handed) store answer r why is
+    (refusal-is qs (step-numbered cfg s handed (length store) (length answer)) (told .1) (told .0) of)
 
-pub state-low : (cfg : Config) (s : State) (long : ℕ) → firstNo (stateQuestions cfg s long) ≤ 6
-unfolding stateQuestions questions firstNo
-state-low cfg s long =
-    low-by (within 1 16 (cfg .n)) _ 1
-    (low-by (within 1 (cfg .n) (cfg .k)) _ 2
-    (low-by (leb (cfg .d) 7) _ 3
-    (low-by (within 1 64 (cfg .e)) _ 4
-    (low-by (within 1 16 (cfg .c)) _ 5 (low-by (eqb long (storeLength cfg) && stateWithin cfg s) 0 6 (omega arith) (omega arith)) (omega arith))
-    (omega arith))
-    (omega arith))
-    (omega arith))
-    (omega arith)
+-- or a request
+pub step-served : (cfg : Config) (s : State) (handed store answer : List ℕ) (h : Header)
+    → ReceivePost cfg s handed (length store) (length answer) (Told.Request h) → {after answerAfter : List ℕ} {r : Stepped}
+    → Steps cfg s (requestNumber (withElement cfg h handed)) (withElement cfg h handed) store answer after answerAfter r
+    → StepPost cfg s handed store answer after answerAfter r
+step-served cfg s handed store answer h told {after} {answerAfter} {r} = steps-same cfg s _ _ _ _ store answer after answerAfter r (told .2) (told .1)
 
 module _ (cfg : Config) (s : State) (h : Header) (handed store answer : List ℕ) where
   abbrev m : Message Element
@@ -95,27 +93,16 @@ module _ (cfg : Config) (s : State) (h : Header) (handed store answer : List ℕ
   unfolding withElement
   kind-of k e = e
 
-  tag-of : m .tag ≡ h .tag
-  unfolding withElement
-  tag-of = refl
-
   module _ (k : Kind) (e : h .kind ≡ k) where
-    answer-of : (o : Option (Message Element)) → stepOf k .answer ≡ o → outcome cfg s store m .answer ≡ o
-    answer-of o a = ap (λ (x : Served Element). x .answer) (outcome-of k e) ∙ a
-
-    number-of : (b : Bool) → isForServer k ≡ b → (o : Option (Message Element)) → stepOf k .answer ≡ o
-        → requestNumber cfg s store m ≡ cond b (cond (answers o) 0 15) 16
-    number-of b v o a =
-        let said = outcome cfg s store m .answer in
-        ap (λ (x : Kind). cond (isForServer x) (cond (answers said) 0 15) 16) (kind-of k e) ∙ ap (λ (x : Bool). cond x (cond (answers said) 0 15) 16) v
-        ∙ ap (λ (x : Option (Message Element)). cond b (cond (answers x) 0 15) 16) (answer-of o a)
+    number-of : (b : Bool) → isForServer k ≡ b → requestNumber m ≡ cond b 0 16
+    number-of b v = ap (λ (x : Kind). cond (isForServer x) 0 16) (kind-of k e) ∙ ap (λ (x : Bool). cond x 0 16) v
 
     -- answered
     pub steps-answered : isForServer k ≡ true → (a : Message Element) → stepOf k .answer ≡ some a → (storeAfter answerAfter : List ℕ) (r : Stepped)
         → verdictNumber (r .verdict) ≡ 0 → r .state .me ≡ s .me → view cfg (r .state) storeAfter ≡ stepOf k .server → length storeAfter ≡ length store
-        → answerAfter ≡ recordOf cfg a → Steps cfg s (requestNumber cfg s store m) m store answer storeAfter answerAfter r
+        → answerAfter ≡ recordOf cfg a → Steps cfg s (requestNumber m) m store answer storeAfter answerAfter r
     steps-answered v a is storeAfter answerAfter r n me w l b =
-        let zero-is : requestNumber cfg s store m ≡ 0 = number-of true v (some a) is in
+        let zero-is : requestNumber m ≡ 0 = number-of true v in
         record {
           number = n ∙ sym zero-is;
           me = me;
@@ -123,32 +110,15 @@ module _ (cfg : Config) (s : State) (h : Header) (handed store answer : List ℕ
           state = λ f. absurd (f zero-is);
           store = λ f. absurd (f zero-is);
           long = l;
-          answer = b ∙ rw (eq-eqb (requestNumber cfg s store m) 0 zero-is, answer-of (some a) is);
-        }
-
-    -- no answer, 15
-    pub steps-silent : isForServer k ≡ true → stepOf k .answer ≡ none → (answerAfter : List ℕ) (r : Stepped) → verdictNumber (r .verdict) ≡ 15
-        → r .state ≡ raised s (h .tag) → answerAfter ≡ answer → Steps cfg s (requestNumber cfg s store m) m store answer store answerAfter r
-    unfolding raised
-    steps-silent v is answerAfter r n w b =
-        let fifteen : requestNumber cfg s store m ≡ 15 = number-of true v none is in
-        let some-number : requestNumber cfg s store m ≡ 0 → ⊥ = λ z. omega arith in
-        record {
-          number = n ∙ sym fifteen;
-          me = ap (λ (x : State). x .me) w;
-          seen = λ z. absurd (some-number z);
-          state = λ _. w ∙ ap (raised s) (sym tag-of) ∙ rw (eq-eqb (requestNumber cfg s store m) 15 fifteen);
-          store = λ _. refl;
-          long = refl;
-          answer = b ∙ rw (ne-eqb (requestNumber cfg s store m) 0 some-number);
+          answer = b ∙ rw (eq-eqb (requestNumber m) 0 zero-is, ap (λ (x : Served Element). x .answer) (outcome-of k e) ∙ is);
         }
 
     -- a kind that a server does not receive, 16
     pub steps-misdirected : isForServer k ≡ false → (r : Stepped) → r ≡ unchanged s Misdirected
-        → Steps cfg s (requestNumber cfg s store m) m store answer store answer r
+        → Steps cfg s (requestNumber m) m store answer store answer r
     steps-misdirected v r is =
-        let sixteen : requestNumber cfg s store m ≡ 16 = number-of false v (stepOf k .answer) refl in
-        steps-refused cfg s (requestNumber cfg s store m) m store answer r Misdirected is (sym sixteen) (λ z. omega arith)
+        let sixteen : requestNumber m ≡ 16 = number-of false v in
+        steps-refused cfg s (requestNumber m) m store answer r Misdirected is (sym sixteen)
 
   -- what a request's clauses say
   module _ (q : RequestPre cfg s h handed store answer) where
@@ -237,7 +207,7 @@ module _ (cfg : Config) (s : State) (h : Header) (handed store answer : List ℕ
 
     -- each kind of request, served
     pub serve-query : h .kind ≡ Query → (answerAfter : List ℕ) (r : Stepped) → RespondPost cfg s (reply (s .me) h QueryAnswer (s .highest) none) answerAfter r
-        → Steps cfg s (requestNumber cfg s store m) m store answer store answerAfter r
+        → Steps cfg s (requestNumber m) m store answer store answerAfter r
     unfolding serverStepOf query answerTo withElement reply view
     serve-query k answerAfter r p =
         steps-answered Query k refl _ refl store answerAfter r (p .number) (ap (λ (x : State). x .me) (p .state))
@@ -245,7 +215,7 @@ module _ (cfg : Config) (s : State) (h : Header) (handed store answer : List ℕ
 
     pub serve-write : h .kind ≡ WriteFinalise → (after : State) → after ≡ raised s (h .tag) → (answerAfter : List ℕ) (r : Stepped)
         → RespondPost cfg after (reply (after .me) h WriteFinaliseAnswer (h .tag) none) answerAfter r
-        → Steps cfg s (requestNumber cfg s store m) m store answer store answerAfter r
+        → Steps cfg s (requestNumber m) m store answer store answerAfter r
     unfolding serverStepOf writeFinalise finalised answerTo withElement reply view raised
     serve-write k after is answerAfter r p =
         let me : after .me ≡ s .me = ap (λ (x : State). x .me) is in
@@ -255,7 +225,7 @@ module _ (cfg : Config) (s : State) (h : Header) (handed store answer : List ℕ
 
     pub serve-pre-write : h .kind ≡ PreWrite → (after : State) (storeAfter : List ℕ) → KeepPost cfg s (h .tag) (h .length) (elementIn cfg handed) store storeAfter after
         → (answerAfter : List ℕ) (r : Stepped) → RespondPost cfg after (reply (after .me) h PreWriteAnswer (h .tag) none) answerAfter r
-        → Steps cfg s (requestNumber cfg s store m) m store answer storeAfter answerAfter r
+        → Steps cfg s (requestNumber m) m store answer storeAfter answerAfter r
     unfolding serverStepOf preWrite storeElement answerTo withElement reply
     serve-pre-write k after storeAfter post answerAfter r p =
         steps-answered PreWrite k refl _ refl storeAfter answerAfter r (p .number) (ap (λ (x : State). x .me) (p .state) ∙ post .me)
@@ -269,27 +239,16 @@ module _ (cfg : Config) (s : State) (h : Header) (handed store answer : List ℕ
     same-answer none = refl
     same-answer (some x) = refl
 
-    read-answer-of : stepOf ReadFinalise .answer ≡ readAnswered s h store cfg
+    read-answer-of : stepOf ReadFinalise .answer ≡ some (readAnswered s h store cfg)
     unfolding serverStepOf readFinalise withElement
-    read-answer-of = same-answer (elementOf key (h .tag) (view cfg s store .stored))
+    read-answer-of = ap some (same-answer (elementOf key (h .tag) (view cfg s store .stored)))
 
     read-server-of : view cfg (raised s (h .tag)) store ≡ stepOf ReadFinalise .server
     unfolding serverStepOf readFinalise finalised withElement view raised
     read-server-of = refl
 
-    me-of : {r : State} → r ≡ raised s (h .tag) → r .me ≡ s .me
-    unfolding raised
-    me-of e = ap (λ (x : State). x .me) e
-
-    pub serve-read : h .kind ≡ ReadFinalise → (answerAfter : List ℕ) (r : Stepped) → ReadFinalisePost cfg s h store answer answerAfter r
-        → Steps cfg s (requestNumber cfg s store m) m store answer store answerAfter r
-    serve-read k answerAfter r f = go (readAnswered s h store cfg) refl
-      where
-        go : (o : Option (Message Element)) → readAnswered s h store cfg ≡ o → Steps cfg s (requestNumber cfg s store m) m store answer store answerAfter r
-        go none e =
-            steps-silent ReadFinalise k refl (read-answer-of ∙ e) answerAfter r (f .number ∙ ap (λ (o : Option (Message Element)). cond (answers o) 0 15) e)
-            (f .state) (f .answer ∙ ap (λ (o : Option (Message Element)). answerBytes cfg o answer) e)
-        go (some a) e =
-            steps-answered ReadFinalise k refl a (read-answer-of ∙ e) store answerAfter r
-            (f .number ∙ ap (λ (o : Option (Message Element)). cond (answers o) 0 15) e) (me-of (f .state))
-            (ap (λ (x : State). view cfg x store) (f .state) ∙ read-server-of) refl (f .answer ∙ ap (λ (o : Option (Message Element)). answerBytes cfg o answer) e)
+    pub serve-read : h .kind ≡ ReadFinalise → (answerAfter : List ℕ) (r : Stepped) → ReadFinalisePost cfg s h store answerAfter r
+        → Steps cfg s (requestNumber m) m store answer store answerAfter r
+    serve-read k answerAfter r f =
+        steps-answered ReadFinalise k refl (readAnswered s h store cfg) read-answer-of store answerAfter r (f .number) (raised-me s (h .tag) (f .state))
+        (ap (λ (x : State). view cfg x store) (f .state) ∙ read-server-of) refl (f .answer)

@@ -1,6 +1,6 @@
 -- A server's calls: what each asks, and what it answers.
-use Prim.Native.Nat.{ℕ, _+_}
-use mathlib.Core.Bool.{Bool, true, false, cond, _&&_}
+use Prim.Native.Nat.{ℕ}
+use mathlib.Core.Bool.{Bool, cond, _&&_}
 use mathlib.Core.Path.{_≡_}
 use mathlib.Core.List.{List, [], _∷_, _++_}
 use mathlib.Core.Option.{Option, none, some}
@@ -19,7 +19,6 @@ use Rattle.record.specs.Kinds.{isForServer}
 use Rattle.record.specs.Message.{Message}
 use Rattle.record.specs.Record.{messageOf, recordOf, wellFormed}
 use Rattle.protocol.specs.Server.{Served, elementOf, serverStep}
-use Rattle.protocol.specs.Tags.{higher}
 use Rattle.server.specs.declared.Floor.{Floor}
 use Rattle.server.specs.declared.State.{State}
 use Rattle.server.specs.declared.Stepped.{Stepped}
@@ -60,41 +59,19 @@ forServer me m = eqb (m .server) me && isForServer (m .kind)
 abbrev pub outcome : Config → State → List ℕ → Message Element → Served Element
 outcome cfg s store m = serverStep key (cfg .d) (serverNumber (s .me)) (view cfg s store) m
 
--- "15. Server step, read finalise: may it answer?"
-abbrev pub answers : Option (Message Element) → Bool
-answers none = false
-answers (some m) = true
-
--- Step: questions 1 to 5; 6, the lengths of record, store and answer, and the state; 12; 16; 15.
-unfoldable pub stepQuestions : Config → State → List ℕ → List ℕ → List ℕ → List Question
+-- Step: questions 1 to 5; 6, the lengths of record, store and answer, and the state; 12; 16.
+unfoldable pub stepQuestions : Config → State → List ℕ → ℕ → ℕ → List Question
 stepQuestions cfg s handed store answer =
     questions cfg
-    ++ ask 6 (eqb (length handed) recordLength && eqb (length store) (storeLength cfg) && eqb (length answer) recordLength && stateWithin cfg s)
+    ++ ask 6 (eqb (length handed) recordLength && eqb store (storeLength cfg) && eqb answer recordLength && stateWithin cfg s)
     ∷ ask 12 (wellFormed cfg handed)
     ∷ ask 16 (forServer (serverNumber (s .me)) (messageOf cfg handed))
-    ∷ ask 15 (answers (outcome cfg s store (messageOf cfg handed) .answer))
     ∷ []
 
 -- the record of an answer; without one the record holds what it held
 abbrev pub answerBytes : Config → Option (Message Element) → List ℕ → List ℕ
 answerBytes cfg none held = held
 answerBytes cfg (some m) held = recordOf cfg m
-
--- "H becomes the higher of H and t", and all else holds
-unfoldable pub raised : State → Tag → State
-raised s t =
-    record {
-      me = s .me;
-      highest = higher key (s .highest) t;
-      floor = s .floor;
-      count = s .count;
-      tags = s .tags;
-      lengths = s .lengths;
-    }
-
--- what stays of the state on a refusal: all, but for H at 15
-abbrev pub stays : ℕ → State → Tag → State
-stays number s t = cond (eqb number 15) (raised s t) s
 
 -- What a step leaves, where `first` is the number of the first question that is answered no, or 0, and m is the message: the
 -- protocol's step, or what was there.
@@ -103,8 +80,8 @@ pub record Steps (cfg : Config) (s : State) (first : ℕ) (m : Message Element) 
   pub me : r .state .me ≡ s .me
   -- accepted: the protocol's step
   pub seen : first ≡ 0 → view cfg (r .state) storeAfter ≡ outcome cfg s storeBefore m .server
-  -- refused: all holds, but for H at 15
-  pub state : (first ≡ 0 → ⊥) → r .state ≡ stays first s (m .tag)
+  -- refused: all holds
+  pub state : (first ≡ 0 → ⊥) → r .state ≡ s
   pub store : (first ≡ 0 → ⊥) → storeAfter ≡ storeBefore
   pub long : length storeAfter ≡ length storeBefore
   -- the answer's record, or what it held
@@ -112,7 +89,7 @@ pub record Steps (cfg : Config) (s : State) (first : ℕ) (m : Message Element) 
 
 abbrev pub StepPost : Config → State → List ℕ → List ℕ → List ℕ → List ℕ → List ℕ → Stepped → Type 0
 StepPost cfg s handed store answer storeAfter answerAfter r =
-    Steps cfg s (firstNo (stepQuestions cfg s handed store answer)) (messageOf cfg handed) store answer storeAfter answerAfter r
+    Steps cfg s (firstNo (stepQuestions cfg s handed (length store) (length answer))) (messageOf cfg handed) store answer storeAfter answerAfter r
 
 -- an element's bytes; "an empty part if there is none"
 abbrev pub lentBytes : Option Element → List ℕ

@@ -8,7 +8,7 @@ use lib.ListN.{length}
 use Rattle.tag.specs.declared.Tag.{Tag}
 use Rattle.tag.specs.Tag.{above as aboveTag, allowed, key}
 use Rattle.record.specs.declared.Kind.{Kind}
-use Rattle.record.specs.declared.Kind.the-variants.{Query, QueryAnswer, PreWrite, PreWriteAnswer, WriteFinalise, WriteFinaliseAnswer, ReadFinalise, ReadFinaliseAnswer}
+use Rattle.record.specs.declared.Kind.the-variants.{Query, QueryAnswer, PreWrite, PreWriteAnswer, WriteFinalise, WriteFinaliseAnswer, ReadFinalise, ReadFinaliseAnswer, Cleared}
 use Rattle.record.specs.Message.{Message}
 use Rattle.protocol.specs.Server.{Server, serverStep}
 use Rattle.server.specs.Within.{among, once as onceIn, tagsOf}
@@ -25,6 +25,7 @@ module _ {Element : Type 0} where
   withTag WriteFinaliseAnswer t e ts = ts
   withTag ReadFinalise t e ts = ts
   withTag ReadFinaliseAnswer t e ts = ts
+  withTag Cleared t e ts = ts
 
   abbrev pub receive : Message Element → List Tag → List Tag
   receive m ts = withTag (m .kind) (m .tag) (m .element) ts

@@ -1,4 +1,5 @@
 pub mod Keep
 pub mod Places
+pub mod Receive
 pub mod Serve
 pub mod Spread

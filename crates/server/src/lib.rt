@@ -9,11 +9,13 @@ use config::RECORD;
 use config::Refusal;
 use config::Server;
 use config::Verdict;
+use record::Header;
 use record::Reading;
 use tag::Tag;
 ghost use mathlib.Core.Path.{_≡_};
 ghost use Rattle.config.specs.Questions.{firstNo};
-ghost use Rattle.server.specs.Calls.{FreshPost, LendPost, StepPost, freshState, stateQuestions};
+ghost use Rattle.server.specs.Calls.{FreshPost, LendPost, StepPost, freshState, stateQuestions, stepQuestions};
+ghost use Rattle.server.specs.inner.Receive.{ReceivePost};
 ghost use Rattle.server.specs.inner.Serve.{unchanged};
 
 // No floor, or the highest tag that was dropped.
@@ -111,7 +113,57 @@ pub fn fresh(cfg: Config, me: Server, element: &[u8], store: &mut [u8]) -> Stepp
     }
 }
 
-// One step on a record: questions 1 to 5, 6, 12, 16 and 15. The answer is written to a lent record.
+// What the first questions of a step tell.
+enum Told {
+    // The number of the first that is answered no.
+    No(u8),
+    // The header of a record with this server's number.
+    Request(Header),
+}
+
+// Questions 1 to 6 and 12 of a step, and 16 of the server's number.
+fn receive(cfg: Config, state: State, handed: &[u8], store: usize, answer: usize) -> Told
+    ensures { λ r. ⌜ ReceivePost cfg state (now (handed .entry)) store answer r ⌝ }
+{
+    let no = ask(cfg, state, store);
+    if no != 0 {
+        return Told::No(no);
+    }
+    if handed.len() != RECORD {
+        return Told::No(6);
+    }
+    if answer != RECORD {
+        return Told::No(6);
+    }
+    let Reading::Message(h) = record::read(cfg, handed) else {
+        return Told::No(12);
+    };
+    let server = h.server;
+    let me = state.me;
+    if server.number() != me.number() {
+        return Told::No(16);
+    }
+    Told::Request(h)
+}
+
+// Questions 1 to 6, 12 and 16 of a record that a step would be handed: the number of the first that is answered no, or 0.
+pub fn ask_step(cfg: Config, state: State, handed: &[u8], store: usize, answer: usize) -> u8
+    ensures { λ r. ⌜ r ≡ firstNo (stepQuestions cfg state (now (handed .entry)) store answer) ⌝ }
+{
+    let told = receive(cfg, state, handed, store, answer);
+    match told {
+        Told::No(no) => no,
+        Told::Request(h) => {
+            let kind = h.kind;
+            if !kind.is_for_server() {
+                return 16;
+            }
+            0
+        }
+    }
+}
+
+// One step on a record: questions 1 to 5, 6, 12 and 16. The answer is written to a lent record.
 pub fn step(
     cfg: Config,
     state: State,
@@ -121,25 +173,11 @@ pub fn step(
 ) -> Stepped
     ensures { λ r. ⌜ StepPost cfg state (now (handed .entry)) (now (store .entry)) (now (answer .entry)) (now (store .exit)) (now (answer .exit)) r ⌝ }
 {
-    let no = ask(cfg, state, store.len());
-    if no != 0 {
-        return refused(state, Refusal::of(no));
+    let told = receive(cfg, state, handed, store.len(), answer.len());
+    match told {
+        Told::No(no) => refused(state, Refusal::of(no)),
+        Told::Request(h) => serve::request(cfg, state, h, handed, store, answer),
     }
-    if handed.len() != RECORD {
-        return refused(state, Refusal::Shape);
-    }
-    if answer.len() != RECORD {
-        return refused(state, Refusal::Shape);
-    }
-    let Reading::Message(h) = record::read(cfg, handed) else {
-        return refused(state, Refusal::IllFormed);
-    };
-    let server = h.server;
-    let me = state.me;
-    if server.number() != me.number() {
-        return refused(state, Refusal::Misdirected);
-    }
-    serve::request(cfg, state, h, handed, store, answer)
 }
 
 // The stored element of a tag, as that part of the store: empty if there is none or the call is refused. The refusal's number, or

@@ -15,10 +15,10 @@ ghost use Rattle.tag.specs.Tag.{key};
 ghost use Rattle.record.specs.Calls.{withElement};
 ghost use Rattle.protocol.specs.Server.{atOrBelowFloor};
 ghost use Rattle.protocol.specs.Tags.{higher as higherOf};
-ghost use Rattle.server.specs.Calls.{Steps, raised};
+ghost use Rattle.server.specs.Calls.{Steps};
 ghost use Rattle.server.specs.inner.Keep.{AppendPost, DropSmallestPost, KeepPre, KeepPost};
 ghost use Rattle.server.specs.inner.Places.{Room};
-ghost use Rattle.server.specs.inner.Serve.{ReadFinalisePost, ReadFinalisePre, RespondPost, RespondPre, RequestPre, bareOf, replyOf, requestNumber};
+ghost use Rattle.server.specs.inner.Serve.{ReadFinalisePost, ReadFinalisePre, RespondPost, RespondPre, RequestPre, bareOf, raised, replyOf, requestNumber};
 ghost use Rattle.server.specs.View.{floorOf};
 
 // The higher of two tags.
@@ -193,10 +193,10 @@ fn keep(cfg: Config, s: State, t: Tag, length: u16, element: &[u8], store: &mut 
     drop_smallest(cfg, s, t, length, element, store)
 }
 
-// Read finalise: the stored element of the tag, or an answer without one, or 15 where the tag is at or below the floor.
+// Read finalise: the stored element of the tag; without one, kind 9 where the tag is at or below the floor, else kind 8.
 fn read_finalise(cfg: Config, s: State, h: Header, store: &[u8], answer: &mut [u8]) -> Stepped
     requires { ⌜ ReadFinalisePre cfg s h (now store) (now answer) ⌝ }
-    ensures { λ r. ⌜ ReadFinalisePost cfg s h (now (store .entry)) (now (answer .entry)) (now (answer .exit)) r ⌝ }
+    ensures { λ r. ⌜ ReadFinalisePost cfg s h (now (store .entry)) (now (answer .exit)) r ⌝ }
 {
     let t = h.tag;
     let floor = s.floor;
@@ -218,7 +218,7 @@ fn read_finalise(cfg: Config, s: State, h: Header, store: &[u8], answer: &mut [u
         return respond(cfg, after, h, reply, answer);
     }
     if at_or_below(t, floor) {
-        return crate::refused(after, Refusal::Cleared);
+        return respond(cfg, after, h, bare(Kind::Cleared, t), answer);
     }
     respond(cfg, after, h, bare(Kind::ReadFinaliseAnswer, t), answer)
 }
@@ -233,7 +233,7 @@ pub(crate) fn request(
     answer: &mut [u8],
 ) -> Stepped
     requires { ⌜ RequestPre cfg s h (now handed) (now store) (now answer) ⌝ }
-    ensures { λ r. ⌜ Steps cfg s (requestNumber cfg s (now (store .entry)) (withElement cfg h (now (handed .entry)))) (withElement cfg h (now (handed .entry))) (now (store .entry)) (now (answer .entry)) (now (store .exit)) (now (answer .exit)) r ⌝ }
+    ensures { λ r. ⌜ Steps cfg s (requestNumber (withElement cfg h (now (handed .entry)))) (withElement cfg h (now (handed .entry))) (now (store .entry)) (now (answer .entry)) (now (store .exit)) (now (answer .exit)) r ⌝ }
 {
     let kind = h.kind;
     let t = h.tag;
@@ -256,5 +256,6 @@ pub(crate) fn request(
         Kind::PreWriteAnswer => crate::refused(s, Refusal::Misdirected),
         Kind::WriteFinaliseAnswer => crate::refused(s, Refusal::Misdirected),
         Kind::ReadFinaliseAnswer => crate::refused(s, Refusal::Misdirected),
+        Kind::Cleared => crate::refused(s, Refusal::Misdirected),
     }
 }

@@ -1,6 +1,7 @@
 use denote.Ref.{now}
 use mathlib.Core.Path.{_≡_, refl, sym, ap, _∙_}
 use mathlib.Core.Bool.{true, _&&_}
+use mathlib.Core.List.{[]}
 use mathlib.Core.Option.{some}
 use Prim.Native.Nat.{ℕ, _*_}
 use native.Mathlib.Nat.{le-of-eq}
@@ -17,7 +18,7 @@ use Rattle.protocol.specs.Client.{beginQuestions}
 use Rattle.protocol.proofs.Cut.{cut-again}
 use Rattle.client.specs.Questions.{beginWriteQuestions, isBoard, isSends}
 use Rattle.client.specs.State.{bare}
-use Rattle.client.proofs.Answers.{announces, begin-numbered, begin-refused, begun, copied, is-sized, operation-below, others-pass}
+use Rattle.client.proofs.Answers.{announces, asks, begin-numbered, begin-refused, begun, copied, operation-below, passes}
 use borrow.Author.Needs.{needs}
 use Rattle.client.proofs.begin_write.Statement.{statement}
 use Rattle.client.proofs.begin_write.Tie as tie
@@ -40,11 +41,11 @@ module _ (c : tie.Else1) where
   pass = sym (c .before .begin-write .ensures) ∙ c .if1 .left
 
   others : (isBoard (s .args .cfg) k && isSends (s .args .cfg) n) ≡ true
-  others = and-right (isBoard (s .args .cfg) b) (isBoard (s .args .cfg) k && isSends (s .args .cfg) n) (is-sized _ _ _ _ pass)
+  others = and-right (isBoard (s .args .cfg) b) (isBoard (s .args .cfg) k && isSends (s .args .cfg) n) (passes _ _ _ _ pass .1)
 
   copy-length : b ≡ k
   copy-length =
-      eqb-true b (boardLength (s .args .cfg)) (and-left (isBoard (s .args .cfg) b) (isBoard (s .args .cfg) k && isSends (s .args .cfg) n) (is-sized _ _ _ _ pass))
+      eqb-true b (boardLength (s .args .cfg)) (and-left (isBoard (s .args .cfg) b) (isBoard (s .args .cfg) k && isSends (s .args .cfg) n) (passes _ _ _ _ pass .1))
       ∙ sym (eqb-true k (boardLength (s .args .cfg)) (and-left (isBoard (s .args .cfg) k) (isSends (s .args .cfg) n) others))
 
   sends-length : n ≡ 80 * s .args .cfg .n
@@ -54,7 +55,7 @@ module _ (c : tie.Else1) where
   then : (leb (s .args .length) (boardLength (s .args .cfg)) ≡ true) × (firstNo (beginQuestions (bare (s .args .cfg) (s .args .state))) ≡ 0)
   then =
       yes-next 19 (leb (s .args .length) (boardLength (s .args .cfg))) (beginQuestions (bare (s .args .cfg) (s .args .state))) (omega arith)
-      (others-pass _ _ _ _ pass)
+      (passes _ _ _ _ pass .3)
 
 returns-2 : tie.Need-returns-2
 returns-2 c es = let e = c .before .before .before .before .before .before .before .before .before .before .before .before .before .before in
@@ -62,9 +63,10 @@ returns-2 c es = let e = c .before .before .before .before .before .before .befo
     let n = a .length in
     let copy = c .before .before .before .before .before .before .before .before .before .before .before .before .copy .ensures .1 ∙ copied (now (a .board)) (now (a .kept)) (copy-length e) in
     let same = c .before .before .before .before .before .before .before .before .cut .ensures ∙ ap (cut n) copy in
-    begun _ _ _ _ (pass e) true n (then e .0) (some (boardOf n (now (a .board)))) (now (a .kept)) _ _ es (now (a .sends))
-    (ap (λ bs. some (record { length = n; bytes = bs })) (ap (cut n) same ∙ cut-again n (now (a .board)))) same refl
-    (rw (c .before .before .before .before .before .begun .ensures) at (c .before .before .announce .ensures))
+    begun _ _ _ _ (pass e) (some (boardOf n (now (a .board)))) (now (a .kept)) _ es (now (a .sends)) refl refl refl same
+    (asks _ (a .state) (passes _ _ _ _ (pass e) .2) true n (then e .0) _ _ _ es _ []
+    (ap (λ bs. some (record { length = n; bytes = bs })) (ap (cut n) same ∙ cut-again n (now (a .board))))
+    (rw (c .before .before .before .before .before .begun .ensures) at (c .before .before .announce .ensures)))
 
 pub begin-write-spec : {M : Type 1} → statement M
 unfolding numbered
@@ -77,7 +79,7 @@ begin-write-spec =
     (λ c κs. le-of-eq (copy-length (c .before)))
     (λ c κs. search needs)
     (λ c κs. operation-below _ _ (then (c .before .before .before .before .before .before .before .before) .1))
-    (λ c κs. let e = c .before .before .before .before .before .before .before .before .before .before .before in rw (c .before .before .begun .ensures) (announces _ _ _ _ (pass e) true _ (then e .0) _ _ (sends-length e)))
+    (λ c κs. let e = c .before .before .before .before .before .before .before .before .before .before .before in rw (c .before .before .begun .ensures) (announces _ _ (passes _ _ _ _ (pass e) .2) true _ (then e .0) (passes _ _ _ _ (pass e) .0) _ _ (sends-length e)))
     (λ c. search needs)
     (λ c. search needs)
     returns-2)

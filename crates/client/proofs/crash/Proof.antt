@@ -8,7 +8,8 @@ use denote.Enum.Declared.{tagOf}
 use types.Run.{OneOf, miss}
 use Rattle.config.specs.declared.Config.{Config}
 use Rattle.config.specs.Questions.{ask, firstNo, numbered}
-use Rattle.config.proofs.Questions.{firstNo-high, firstNo-no, firstNo-yes}
+use Rattle.config.proofs.Questions.{firstNo-no, firstNo-yes}
+use Rattle.config.proofs.Refusals.{verdict-is}
 use Rattle.protocol.specs.Client.{isUp}
 use Rattle.client.specs.declared.Moved.{Moved}
 use Rattle.client.specs.declared.Phase.{Phase}
@@ -41,9 +42,8 @@ module _ (cfg : Config) (x : State) where
   refused : {n : ℕ} {r : Moved} → n ≡ firstNo (crashQuestions cfg x) → (n ≡ 0 → ⊥) → RefusedPost x n r → CrashPost cfg x r
   unfolding numbered
   refused e stop h =
-      let high = firstNo-high (crashQuestions cfg x) (call-numbered cfg x true (ask 9 (isUp (bare cfg x .phase)) ∷ []) refl) in
       record {
-        number = h .verdict ∙ omega arith;
+        number = verdict-is (crashQuestions cfg x) (call-numbered cfg x true (ask 9 (isUp (bare cfg x .phase)) ∷ []) refl) e (h .verdict);
         state = h .state ∙ rw (ne-eqb (firstNo (crashQuestions cfg x)) 0 (λ z. stop (e ∙ z)));
         sent = h .sent;
         nothing = h .ended;

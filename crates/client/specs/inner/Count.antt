@@ -1,13 +1,14 @@
--- An answer counted: the first half of a client's step, as the code takes it.
+-- An answer judged, and counted unless it is of kind 9: the first half of a client's step, as the code takes it.
 use Prim.Native.Nat.{ℕ, _+_, _-_, _^_}
 use mathlib.Core.Bool.{Bool, true, false, cond, not, _&&_}
 use lib.Dec.{eqb}
 use Rattle.config.specs.Number.{serverNumber}
 use Rattle.tag.specs.Tag.{key, same}
 use Rattle.record.specs.declared.Header.{Header}
-use Rattle.record.specs.Record.{kindNumber}
+use Rattle.protocol.specs.Client.{isCleared, judged}
 use Rattle.protocol.specs.Tags.{higher}
 use Rattle.client.specs.declared.count.Awaited.{Awaited}
+use Rattle.client.specs.declared.count.Taken.{Taken}
 use Rattle.client.specs.declared.Phase.{Phase}
 use Rattle.client.specs.declared.Phase.the-variants.{Idle, Asking, PreWriting, FinalisingWrite, FinalisingRead, Down}
 use Rattle.client.specs.declared.State.{State}
@@ -17,9 +18,9 @@ use Rattle.client.specs.Servers.{member}
 unfoldable pub putOf : ℕ → ℕ → Bool → ℕ
 putOf set s there = cond (member set s) (cond there set (set - 2 ^ s)) (cond there (set + 2 ^ s) set)
 
--- the answer is of a kind, and its server is not counted yet
+-- the answer is judged as of a kind, and its server is not counted yet
 abbrev pub firstOf : ℕ → ℕ → Header → Bool
-firstOf kind counted h = eqb (kindNumber (h .kind)) kind && not (member counted (serverNumber (h .server)))
+firstOf kind counted h = eqb (judged (h .kind)) kind && not (member counted (serverNumber (h .server)))
 
 -- the phase awaits the answer
 unfoldable pub awaitsOf : Phase → Header → Bool
@@ -41,7 +42,11 @@ countingOf (FinalisingRead tag counted sent) h =
     FinalisingRead tag (putOf counted (serverNumber (h .server)) true) (putOf sent (serverNumber (h .server)) (h .present))
 countingOf Down h = Down
 
+-- how an awaited answer is taken: kind 9 is not counted
+abbrev pub takenOf : Phase → Header → Taken
+takenOf phase h = cond (isCleared (h .kind)) Taken.Cleared (Taken.Counted (countingOf phase h))
+
 -- if the answer is of the client's operation, too
 abbrev pub countOf : State → Header → Awaited
 countOf x h =
-    cond (eqb (h .operation) (x .operation) && awaitsOf (x .phase) h) (Awaited.Counted (countingOf (x .phase) h)) Awaited.Other
+    cond (eqb (h .operation) (x .operation) && awaitsOf (x .phase) h) (Awaited.Answer (takenOf (x .phase) h)) Awaited.Other

@@ -6,7 +6,7 @@ use lib.ListN.{length, set}
 use Rattle.config.specs.declared.Verdict.{Verdict}
 use Rattle.config.specs.Number.{serverNumber}
 use Rattle.config.specs.Questions.{lastQuestion}
-use Rattle.config.specs.Refusal.{verdictNumber}
+use Rattle.config.specs.Refusal.{passing15, verdictNumber}
 use Rattle.tag.specs.Tag.{start}
 use Rattle.record.specs.declared.Header.{Header}
 use Rattle.client.specs.declared.Ended.{Ended}
@@ -17,7 +17,7 @@ use Rattle.client.specs.declared.State.{State}
 
 -- a refusal leaves the client as it was
 pub record RefusedPost (x : State) (refusal : ℕ) (r : Moved) : Type 0 where
-  pub verdict : verdictNumber (r .verdict) ≡ min refusal lastQuestion
+  pub verdict : verdictNumber (r .verdict) ≡ min (passing15 refusal) lastQuestion
   pub state : r .state ≡ x
   pub sent : r .sent ≡ 0
   pub ended : r .ended ≡ Ended.Nothing
@@ -25,7 +25,7 @@ pub record RefusedPost (x : State) (refusal : ℕ) (r : Moved) : Type 0 where
 abbrev pub acceptedOf : State → ℕ → Ended → Moved
 acceptedOf x sent ended = record { verdict = Verdict.Accepted; state = x; sent = sent; ended = ended }
 
--- the client in its next operation, asking, with the length of a board to write
+-- the client with its next operation number, asking, with the length of a board to write
 abbrev pub begunOf : State → Bool → ℕ → State
 begunOf x writes length =
     record { me = x .me; operation = x .operation + 1; phase = Asking writes start 0; length = length; lengths = x .lengths }

@@ -5,7 +5,7 @@ use Rattle.config.specs.Questions.{firstNo}
 use Rattle.code.specs.Decode.{decodeQuestions}
 use Rattle.code.specs.Decoded.{decoded}
 use Rattle.code.proofs.Answered.{refused, accepted}
-use Rattle.code.proofs.Decodable.{answer-high, decodable}
+use Rattle.code.proofs.Decodable.{answer-given, decodable}
 use borrow.Author.Needs.{needs}
 use Rattle.code.proofs.decode.Statement.{statement}
 use Rattle.code.proofs.decode.Tie as tie
@@ -20,7 +20,7 @@ returns : tie.Need-returns
 returns c =
     let x = c .before .before .before .before .before .before .args in
     let a =
-    refused (firstNo (decodeQuestions (x .cfg) (x .servers .now) (length (x .elements .now)) (length (x .buffer .now)))) (decoded (x .cfg) (x .servers .now) (x .elements .now)) (x .buffer .now) (answer-high (x .cfg) (x .servers .now) (length (x .elements .now)) (length (x .buffer .now)))
+    refused (firstNo (decodeQuestions (x .cfg) (x .servers .now) (length (x .elements .now)) (length (x .buffer .now)))) (decoded (x .cfg) (x .servers .now) (x .elements .now)) (x .buffer .now) (answer-given (x .cfg) (x .servers .now) (length (x .elements .now)) (length (x .buffer .now)))
     (c .before .before .decode .result) (c .of .result) (c .before .before .decode .ensures) (c .before .if1 .taken) (c .of .ensures) in
     record { number = a .0; buffer = a .1 }
 

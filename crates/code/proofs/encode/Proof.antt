@@ -5,7 +5,7 @@ use Rattle.config.specs.Questions.{firstNo}
 use Rattle.code.specs.Element.{element}
 use Rattle.code.specs.Encode.{encodeQuestions}
 use Rattle.code.proofs.Answered.{refused, accepted}
-use Rattle.code.proofs.Encodable.{answer-high, encodable}
+use Rattle.code.proofs.Encodable.{answer-given, encodable}
 use borrow.Author.Needs.{needs}
 use Rattle.code.proofs.encode.Statement.{statement}
 use Rattle.code.proofs.encode.Tie as tie
@@ -20,7 +20,7 @@ returns : tie.Need-returns
 returns c =
     let x = c .before .before .before .before .before .args in
     let a =
-    refused (firstNo (encodeQuestions (x .cfg) (length (x .board .now)) (x .s) (length (x .buffer .now)))) (element (x .cfg) (x .board .now) (x .s)) (x .buffer .now) (answer-high (x .cfg) (length (x .board .now)) (x .s) (length (x .buffer .now)))
+    refused (firstNo (encodeQuestions (x .cfg) (length (x .board .now)) (x .s) (length (x .buffer .now)))) (element (x .cfg) (x .board .now) (x .s)) (x .buffer .now) (answer-given (x .cfg) (length (x .board .now)) (x .s) (length (x .buffer .now)))
     (c .before .before .encode .result) (c .of .result) (c .before .before .encode .ensures) (c .before .if1 .taken) (c .of .ensures) in
     record { number = a .0; buffer = a .1 }
 

@@ -17,9 +17,10 @@ use Rattle.laws.proofs.Parts.{over-length}
 use Rattle.config.specs.declared.Config.{Config}
 use Rattle.config.specs.declared.Refusal.{Refusal}
 use Rattle.config.specs.Config.{boardLength}
-use Rattle.config.specs.Questions.{firstNo, lastQuestion, within}
+use Rattle.config.specs.Questions.{firstNo, within}
 use Rattle.config.specs.Refusal.{clamped, refusalNumber}
-use Rattle.config.proofs.Questions.{firstNo-high}
+use Rattle.config.proofs.Questions.{Given, firstNo-given}
+use Rattle.config.proofs.Refusals.{refusal-given}
 use Rattle.record.specs.Record.{messageOf, recordOf}
 use Rattle.config.specs.Config.{storeLength}
 use Rattle.client.specs.Questions.{askBeginQuestions, beginReadQuestions, beginWriteQuestions}
@@ -171,19 +172,19 @@ module _ (cfg : Config) (m : ℕ) (p : Part) (party : ℕ) where
           sym (rw (there, lt-leb (p .count + cfg .n) m over, eq-eqb (firstNo (askBeginQuestions cfg (p .pair .client))) 0 (sym e ∙ z)))
 
   -- it is a refusal's number
-  asked-high : askedNo cfg m p party ≤ lastQuestion
-  asked-high = by (within 1 (cfg .c) party) (leb (p .count + cfg .n) m)
+  asked-given : Given (askedNo cfg m p party)
+  asked-given = by (within 1 (cfg .c) party) (leb (p .count + cfg .n) m)
     where
       k : ℕ
       k = firstNo (askBeginQuestions cfg (p .pair .client))
 
-      full : (z : Bool) → cond z 13 k ≤ lastQuestion
-      full true = omega arith
-      full false = firstNo-high (askBeginQuestions cfg (p .pair .client)) (ask-numbered cfg (p .pair .client))
+      full : (z : Bool) → Given (cond z 13 k)
+      full true = (omega arith, λ e. omega arith)
+      full false = firstNo-given (askBeginQuestions cfg (p .pair .client)) (ask-numbered cfg (p .pair .client))
 
-      by : (t f : Bool) → cond t (cond f 0 (fullNo k)) 8 ≤ lastQuestion
-      by false f = omega arith
-      by true true = omega arith
+      by : (t f : Bool) → Given (cond t (cond f 0 (fullNo k)) 8)
+      by false f = (omega arith, λ e. omega arith)
+      by true true = (omega arith, λ e. omega arith)
       by true false = full (eqb k 0)
 
   -- and where it is 0, there is the client, and room
@@ -212,12 +213,12 @@ module _ (cfg : Config) (m : ℕ) (p : Part) (a : Call) where
   pub write-fits : leb (a .length) (boardLength cfg) ≡ true → askedNo cfg m p (a .party) ≡ askedWriteNo cfg m p a
   write-fits in-range = rw in-range
 
-  write-high : askedWriteNo cfg m p a ≤ lastQuestion
-  write-high = by (leb (a .length) (boardLength cfg))
+  write-given : Given (askedWriteNo cfg m p a)
+  write-given = by (leb (a .length) (boardLength cfg))
     where
-      by : (b : Bool) → cond b (askedNo cfg m p (a .party)) 19 ≤ lastQuestion
-      by true = asked-high cfg m p (a .party)
-      by false = omega arith
+      by : (b : Bool) → Given (cond b (askedNo cfg m p (a .party)) 19)
+      by true = asked-given cfg m p (a .party)
+      by false = (omega arith, λ e. omega arith)
 
   pub write-yes : 0 ≡ askedWriteNo cfg m p a → (leb (a .length) (boardLength cfg) ≡ true) × (0 ≡ askedNo cfg m p (a .party))
   write-yes e = by (leb (a .length) (boardLength cfg)) refl
@@ -306,16 +307,16 @@ sends-length cfg m count messages long fits =
 module _ (cfg : Config) (m : ℕ) (p : Part) (a : Call) (messages : List ℕ) (x : Change) where
   -- refused
   module _ (got : ℕ) (why : Refusal) (some-no : got ≡ 0 → ⊥) (is : refusalNumber why ≡ clamped got) (refuses : x ≡ refusing why p) where
-    number : got ≤ lastQuestion → refusalNumber why ≡ got
-    number high = omega (arith, is, some-no, high)
+    number : {no : ℕ} → got ≡ no → Given no → refusalNumber why ≡ got
+    number e given = refusal-given (subst Given (sym e) given) some-no is
 
     pub write-refused : got ≡ askedWriteNo cfg m p a → (board boards : List ℕ) → WritePost cfg m p a board messages boards x messages boards
     write-refused e board boards read stores elements code =
-        refused-on why refuses (λ r ready. written-number ready code got e some-no ∙ sym (number (omega (arith, e, write-high cfg m p a))))
+        refused-on why refuses (λ r ready. written-number ready code got e some-no ∙ sym (number e (write-given cfg m p a)))
 
     pub read-refused : got ≡ askedNo cfg m p (a .party) → ReadPost cfg m p a messages x messages
     read-refused e board read stores boards elements code =
-        refused-on why refuses (λ r ready. asked-number ready (read-begins cfg r _ a board code) got e some-no ∙ sym (number (omega (arith, e, asked-high cfg m p (a .party)))))
+        refused-on why refuses (λ r ready. asked-number ready (read-begins cfg r _ a board code) got e some-no ∙ sym (number e (asked-given cfg m p (a .party))))
 
   -- the client was asked
   module _ (none-no : 0 ≡ askedNo cfg m p (a .party)) (long : length messages ≡ 80 * m) (y : Acted) (sends sends′ messages′ : List ℕ)

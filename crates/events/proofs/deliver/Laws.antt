@@ -24,7 +24,7 @@ use Rattle.record.specs.declared.Kind.{Kind}
 use Rattle.record.specs.Kinds.{isForClient, isForServer}
 use Rattle.record.specs.Record.{clientAt, kindAt, kindOf, messageOf, recordOf, serverAt, wellFormed}
 use Rattle.record.proofs.Clauses.{its-client, its-server}
-use Rattle.server.specs.Calls.{forServer}
+use Rattle.server.specs.Calls.{forServer, stepQuestions}
 use Rattle.server.specs.Within.{stateWithin as serverStateWithin}
 use Rattle.client.specs.Questions.{isFor, stepSized}
 use Rattle.client.specs.State.{stateWithin}
@@ -40,7 +40,7 @@ use Rattle.protocol.specs.Rig.{codeOf, handOver, leaves, questionsTo11, writeFi
 use Rattle.protocol.proofs.Basics.{cond-elim, some-injective}
 use Rattle.parties.specs.declared.Acted.{Acted}
 use Rattle.parties.specs.declared.Answer.{Answer}
-use Rattle.parties.specs.Acts.{ActPost, ClientPost, Parts, answerOf, delivers, parts, toClientQuestions, toServerQuestions}
+use Rattle.parties.specs.Acts.{ActPost, ClientPost, Parts, answerOf, delivers, parts, toClientQuestions}
 use Rattle.events.specs.declared.Call.{Call}
 use Rattle.events.specs.declared.Change.{Change}
 use Rattle.events.specs.declared.Part.{Part}
@@ -191,9 +191,9 @@ module _ {cfg : Config} {m : ℕ} {r : Rig} {p : Part} {a : Call} {board read : 
         told false ill = rw ill
 
     to-server-number : isForServer (kindOf (kindAt (recordAt (a .position) (l .messages)))) ≡ true → (store answer : ℕ) → store ≡ storeLength cfg → answer ≡ 80
-        → firstNo (toServerQuestions cfg (p .pair .node .state) (recordAt (a .position) (l .messages)) store answer)
+        → firstNo (stepQuestions cfg (p .pair .node .state) (recordAt (a .position) (l .messages)) store answer)
         ≡ cond (wellFormed cfg (recordAt (a .position) (l .messages))) 0 12
-    unfolding toServerQuestions messageOf
+    unfolding stepQuestions messageOf
     to-server-number kind store answer s e =
         firstNo-pass (questions cfg) _ (questions-numbered cfg) (valid-asked cfg (is-valid ready))
         ∙ firstNo-yes 6 (eqb (length handed) 80 && eqb store (storeLength cfg) && eqb answer 80 && serverStateWithin cfg (p .pair .node .state)) _
@@ -328,7 +328,7 @@ module _ (cfg : Config) (high : cfg .e ≤ 64) (p : Part) (a : Call) (handed mes
     (y : Acted) (store store′ answer answer′ stores′ messages′ : List ℕ) (x : Change)
     (store-is : store ≡ part (storeLength cfg) (p .server) stores) (stores-are : stores′ ≡ over (p .server * storeLength cfg) (storeLength cfg) store′ stores)
     (eighty : length answer ≡ 80) (as-long : length answer′ ≡ length answer)
-    (post : (kept es read : List ℕ) → ActPost cfg (firstNo (toServerQuestions cfg (p .pair .node .state) handed (length store) (length answer)))
+    (post : (kept es read : List ℕ) → ActPost cfg (firstNo (stepQuestions cfg (p .pair .node .state) handed (length store) (length answer)))
     (delivers cfg handed) (p .pair) (parts store kept es) answer read y (parts store′ kept es) answer′ read)
     (settles : SettlePost p (a .position) y answer′ messages x messages′)
   where
@@ -337,7 +337,7 @@ module _ (cfg : Config) (high : cfg .e ≤ 64) (p : Part) (a : Call) (handed mes
         let l = lent messages stores boards elements in
         let ps = partsOf cfg p l in
         let mine : (h st : List ℕ) → Type 0 =
-        λ h st. ActPost cfg (firstNo (toServerQuestions cfg (p .pair .node .state) h (length st) (length answer))) (delivers cfg h) (p .pair)
+        λ h st. ActPost cfg (firstNo (stepQuestions cfg (p .pair .node .state) h (length st) (length answer))) (delivers cfg h) (p .pair)
         (parts st (ps .kept) (ps .elements)) answer read y (parts store′ (ps .kept) (ps .elements)) answer′ read in
         let own : mine (recordAt (a .position) messages) (ps .store) =
         subst (λ (h : List ℕ). mine h (ps .store)) taken (subst (λ (st : List ℕ). mine handed st) store-is (post (ps .kept) (ps .elements) read)) in

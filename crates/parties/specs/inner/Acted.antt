@@ -1,10 +1,7 @@
 -- What a party has done, as the code says it.
-use mathlib.Core.Bool.{cond}
-use lib.Dec.{eqb}
 use Rattle.config.specs.declared.Client.{Client}
 use Rattle.config.specs.declared.Refusal.{Refusal}
 use Rattle.config.specs.declared.Verdict.{Verdict}
-use Rattle.config.specs.Refusal.{refusalNumber}
 use Rattle.server.specs.declared.Stepped.{Stepped}
 use Rattle.client.specs.declared.Ended.{Ended}
 use Rattle.client.specs.declared.Moved.{Moved}
@@ -41,7 +38,7 @@ movedOn (Verdict.No why) x y = refusing why x
 abbrev pub withState : Pair → Stepped → Pair
 withState x y = record { node = record { state = y .state; up = x .node .up }; client = x .client }
 
--- the server has done its step, or was refused; 15 counts as accepted
+-- the server has done its step, or was refused
 abbrev pub steppedOn : Verdict → Pair → Stepped → Acted
 steppedOn Verdict.Accepted x y = record { answer = Answer.Nothing; pair = withState x y; sent = 1 }
-steppedOn (Verdict.No why) x y = cond (eqb (refusalNumber why) 15) (quietly (withState x y)) (refusing why x)
+steppedOn (Verdict.No why) x y = refusing why x

@@ -6,6 +6,7 @@ use borrow.Author.Needs.{needs}
 use borrow.Author.Tests.{not-true, not-false}
 use Rattle.config.specs.Config.{questions}
 use Rattle.config.specs.Refusal.{clamped, verdictNumber}
+use Rattle.config.proofs.Refusals.{passing-low}
 use Rattle.config.proofs.Questions.{questions-numbered}
 use Rattle.config.proofs.Valid.{valid}
 use Rattle.record.specs.Calls.{writeQuestions}
@@ -25,7 +26,7 @@ returns : tie.Need-returns
 unfolding writeQuestions
 returns c =
     let a = c .before .before .before .before .args in
-    let k : verdictNumber (c .of .result) ≡ clamped (c .before .before .ask .result) = omega (arith, c .of .ensures, c .before .if1 .taken) in
+    let k : verdictNumber (c .of .result) ≡ clamped (c .before .before .ask .result) = omega (arith, c .of .ensures, passing-low _ (c .before .if1 .taken)) in
     let f = first-stops (questions (a .cfg)) _ _ _ (questions-numbered (a .cfg)) (c .before .before .ask .ensures) (c .before .if1 .taken) k in
     not-written (a .cfg) (a .h) _ _ _ (f .0) (c .before .if1 .taken) (f .1)
 

@@ -8,10 +8,9 @@ use lib.Dec.{eqb, leb}
 use lib.ListN.{length, getD, drop}
 use Rattle.config.specs.declared.Config.{Config}
 use Rattle.config.specs.Config.{Valid, recordLength}
-use Rattle.config.specs.Questions.{within}
 use Rattle.record.specs.declared.Reading.{Reading}
 use Rattle.record.specs.Calls.{lengthRead, messageRead, readNumber}
-use Rattle.record.specs.Record.{all, allZero, elementEnd, kindAt, lengthAt, messageOf, presentAt, wellFormed}
+use Rattle.record.specs.Record.{all, allZero, elementEnd, isKind, kindAt, lengthAt, messageOf, presentAt, wellFormed}
 
 -- what both take: questions 1 to 6 are answered yes
 pub record RecordPre (cfg : Config) (bs : List ℕ) : Type 0 where
@@ -21,7 +20,7 @@ pub record RecordPre (cfg : Config) (bs : List ℕ) : Type 0 where
 -- the clauses on bytes that a header does not hold
 abbrev pub layoutClauses : Config → List ℕ → List Bool
 layoutClauses cfg bs =
-    within 1 8 (kindAt bs)
+    isKind (kindAt bs)
     ∷ leb (getD bs 3 0) 1
     ∷ eqb (getD bs 15 0) 0
     ∷ allZero (drop (elementEnd cfg (presentAt bs)) bs)

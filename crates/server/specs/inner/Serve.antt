@@ -24,10 +24,10 @@ use Rattle.record.specs.Kinds.{isForServer}
 use Rattle.record.specs.Message.{Message}
 use Rattle.record.specs.Record.{elementIn, highestNumber, lengthFits, ofConfig, recordOf}
 use Rattle.protocol.specs.Server.{elementOf, readAnswer}
+use Rattle.protocol.specs.Tags.{higher}
 use Rattle.server.specs.declared.serve.Reply.{Reply}
 use Rattle.server.specs.declared.State.{State}
 use Rattle.server.specs.declared.Stepped.{Stepped}
-use Rattle.server.specs.Calls.{answerBytes, answers, outcome, raised}
 use Rattle.server.specs.Within.{ValidState}
 use Rattle.server.specs.View.{view}
 
@@ -75,16 +75,27 @@ pub record ReadFinalisePre (cfg : Config) (s : State) (h : Header) (store answer
   pub number : leb (h .tag .number) highestNumber ≡ true
   pub allowed : allowed (cfg .c) (h .tag) ≡ true
 
--- H is raised, and the answer is the protocol's
-abbrev pub readAnswered : State → Header → List ℕ → Config → Option (Message Element)
+-- "H becomes the higher of H and t", and all else holds
+unfoldable pub raised : State → Tag → State
+raised s t =
+    record {
+      me = s .me;
+      highest = higher key (s .highest) t;
+      floor = s .floor;
+      count = s .count;
+      tags = s .tags;
+      lengths = s .lengths;
+    }
+
+-- the answer is the protocol's
+abbrev pub readAnswered : State → Header → List ℕ → Config → Message Element
 readAnswered s h store cfg =
     readAnswer key (serverNumber (s .me)) (view cfg s store .floor) (reply (s .me) h (h .kind) (h .tag) none)
     (elementOf key (h .tag) (view cfg s store .stored))
 
-pub record ReadFinalisePost (cfg : Config) (s : State) (h : Header) (store before after : List ℕ) (r : Stepped) : Type 0 where
-  pub number : verdictNumber (r .verdict) ≡ cond (answers (readAnswered s h store cfg)) 0 15
-  pub state : r .state ≡ raised s (h .tag)
-  pub answer : after ≡ answerBytes cfg (readAnswered s h store cfg) before
+-- and H is raised
+abbrev pub ReadFinalisePost : Config → State → Header → List ℕ → List ℕ → Stepped → Type 0
+ReadFinalisePost cfg s h store after r = RespondPost cfg (raised s (h .tag)) (readAnswered s h store cfg) after r
 
 -- a request, with all that questions 1 to 6 and 12 show of it
 pub record RequestPre (cfg : Config) (s : State) (h : Header) (handed store answer : List ℕ) : Type 0 where
@@ -93,6 +104,6 @@ pub record RequestPre (cfg : Config) (s : State) (h : Header) (handed store answ
   pub answer-eighty : length answer ≡ recordLength
   pub ofConfig : ofConfig cfg (withElement cfg h handed) ≡ true
 
--- questions 16, as to the kind, and 15
-abbrev pub requestNumber : Config → State → List ℕ → Message Element → ℕ
-requestNumber cfg s store m = cond (isForServer (m .kind)) (cond (answers (outcome cfg s store m .answer)) 0 15) 16
+-- question 16, as to the kind
+abbrev pub requestNumber : Message Element → ℕ
+requestNumber m = cond (isForServer (m .kind)) 0 16

@@ -15,23 +15,23 @@ other-kind {r} {k} {kind} e n = ne-eqb k kind (λ z. n (e ∙ z))
 this-kind : {r k kind : ℕ} → r ≡ k → r ≡ kind → eqb k kind ≡ true
 this-kind {r} {k} {kind} e i = eq-eqb k kind (sym e ∙ i)
 
-number-requires : tie.Need-number-requires
-number-requires c κs = search needs
+judged-requires : tie.Need-judged-requires
+judged-requires c κs = search needs
 
 returns : tie.Need-returns
 returns c = let a = c .before .before .args in
-    ap (λ (b : Bool). b && not (member (a .counted) (serverNumber (a .h .server)))) (sym (other-kind (c .before .number .ensures) (c .if1 .taken)))
+    ap (λ (b : Bool). b && not (member (a .counted) (serverNumber (a .h .server)))) (sym (other-kind (c .before .judged .ensures) (c .if1 .taken)))
 
-number-requires-2 : tie.Need-number-requires-2
-number-requires-2 c κs = search needs
+number-requires : tie.Need-number-requires
+number-requires c κs = search needs
 
 has-requires : tie.Need-has-requires
 has-requires c κs = search needs
 
 returns-2 : tie.Need-returns-2
 returns-2 c = let a = c .before .before .before .before .before .args in
-    ap not (c .has .ensures ∙ ap (member (a .counted)) (c .before .number2 .ensures))
-    ∙ ap (λ (b : Bool). b && not (member (a .counted) (serverNumber (a .h .server)))) (sym (this-kind (c .before .before .before .before .number .ensures) (c .before .before .before .if1 .left)))
+    ap not (c .has .ensures ∙ ap (member (a .counted)) (c .before .number .ensures))
+    ∙ ap (λ (b : Bool). b && not (member (a .counted) (serverNumber (a .h .server)))) (sym (this-kind (c .before .before .before .before .judged .ensures) (c .before .before .before .if1 .left)))
 
 pub first-spec : {M : Type 1} → statement M
-first-spec = tie.close (tie.spec number-requires returns number-requires-2 has-requires returns-2)
+first-spec = tie.close (tie.spec judged-requires returns number-requires has-requires returns-2)

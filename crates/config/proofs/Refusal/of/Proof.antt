@@ -10,6 +10,7 @@ use borrow.Author.Needs.{needs}
 use Rattle.laws.proofs.Table.{passes, entry}
 use Rattle.config.specs.declared.Refusal.{Refusal}
 use Rattle.config.specs.Refusal.{clamped, refusalNumber}
+use Rattle.config.proofs.Refusals.{passing-other}
 use Rattle.config.proofs.Refusal.of.Statement.{statement}
 use Rattle.config.proofs.Refusal.of.Tie as tie
 
@@ -21,7 +22,9 @@ refusal-at : (t : List Refusal) → T (passes isOf 0 t) → (n : ℕ) → n < le
 refusal-at t p n h = eqb→eq (refusalNumber (getD t n Refusal.Servers)) (clamped n) (entry Refusal.Servers isOf t p n h)
 
 returns : tie.Need-returns
-returns c = search needs
+returns c =
+    let n = c .before .args .no in
+    omega (arith, passing-other n (λ e. omega (arith, c .if1 .taken)))
 
 array-copy-out-result : tie.Need-array-copy-out-result
 array-copy-out-result c = search needs

@@ -6,14 +6,15 @@ use borrow.Author.Needs.{needs}
 use borrow.Author.Tests.{not-true, not-false}
 use lib.ListN.{length}
 use Rattle.config.proofs.Refusals.{refusal-is}
-use Rattle.parties.specs.Acts.{toServerQuestions}
+use Rattle.server.specs.Calls.{stepQuestions}
+use Rattle.server.proofs.Asked.{step-numbered}
 use Rattle.parties.proofs.Owned.{server-numbered}
-use Rattle.parties.proofs.ToServer.{down-refused, gone, numbered-to, stepped-act}
+use Rattle.parties.proofs.ToServer.{down-refused, gone, stepped-act}
 use Rattle.parties.proofs.deliver.server.Statement.{statement}
 use Rattle.parties.proofs.deliver.server.Tie as tie
 
-asked-requires : tie.Need-asked-requires
-asked-requires c κs = search needs
+ask-step-requires : tie.Need-ask-step-requires
+ask-step-requires c κs = search needs
 
 of-requires : tie.Need-of-requires
 of-requires c κs = search needs
@@ -25,10 +26,10 @@ returns : tie.Need-returns
 returns c kept es read =
     let s = c .before .before .before .before .before .before .before .before .before .before .before in
     let a = s .args in
-    let qs = toServerQuestions (a .cfg) (a .pair .node .state) (now (a .handed)) (length (now (a .store))) (length (now (a .answer))) in
+    let qs = stepQuestions (a .cfg) (a .pair .node .state) (now (a .handed)) (length (now (a .store))) (length (now (a .answer))) in
     down-refused (a .cfg) (a .pair) _ _ [] _ [] kept es read (λ i. omega (arith, c .before .before .before .before .before .before .before .before .before .before .shared-slice-known .given i))
     (server-numbered (a .pair) _ (s .good .1 .0)) _
-    (refusal-is qs (numbered-to (a .cfg) (a .pair .node .state) (now (a .handed)) (length (now (a .store))) (length (now (a .answer)))) (c .before .before .before .asked .ensures) (c .before .before .if2 .taken) (c .before .of .ensures))
+    (refusal-is qs (step-numbered (a .cfg) (a .pair .node .state) (now (a .handed)) (length (now (a .store))) (length (now (a .answer)))) (c .before .before .before .ask-step .ensures) (c .before .before .if2 .taken) (c .before .of .ensures))
     _ (c .refused .ensures)
 
 quiet-requires : tie.Need-quiet-requires
@@ -39,7 +40,7 @@ returns-2 c kept es read =
     let s = c .before .before .before .before .before .before .before .before .before .before in
     let a = s .args in
     gone (a .cfg) (a .pair) _ _ [] _ [] kept es read (λ i. omega (arith, c .before .before .before .before .before .before .before .before .before .shared-slice-known .given i))
-    (server-numbered (a .pair) _ (s .good .1 .0)) (sym (c .before .before .asked .ensures) ∙ c .before .if2 .left)
+    (server-numbered (a .pair) _ (s .good .1 .0)) (sym (c .before .before .ask-step .ensures) ∙ c .before .if2 .left)
     (not-true _ (c .before .before .before .if1 .taken)) _ (c .quiet .ensures)
 
 step-requires : tie.Need-step-requires
@@ -66,7 +67,7 @@ pub server-spec : {M : Type 1} → statement M
 server-spec =
     tie.close
     (tie.spec
-    asked-requires
+    ask-step-requires
     of-requires
     refused-requires
     returns

@@ -39,18 +39,23 @@ returns-7 c = known _ (c .match .keys7)
 
 returns-8 : tie.Need-returns-8
 unfolding kindOf
-returns-8 c =
+returns-8 c = known _ (c .match .keys8)
+
+returns-9 : tie.Need-returns-9
+unfolding kindOf
+returns-9 c =
     let n = c .before .args .number in
     let r = c .match .rest in
     rw (
-      ne-eqb n 1 (r .0 .0 .0 .0 .0 .0 .1),
-      ne-eqb n 2 (r .0 .0 .0 .0 .0 .1),
-      ne-eqb n 3 (r .0 .0 .0 .0 .1),
-      ne-eqb n 4 (r .0 .0 .0 .1),
-      ne-eqb n 5 (r .0 .0 .1),
-      ne-eqb n 6 (r .0 .1),
-      ne-eqb n 7 (r .1),
+      ne-eqb n 1 (r .0 .0 .0 .0 .0 .0 .0 .1),
+      ne-eqb n 2 (r .0 .0 .0 .0 .0 .0 .1),
+      ne-eqb n 3 (r .0 .0 .0 .0 .0 .1),
+      ne-eqb n 4 (r .0 .0 .0 .0 .1),
+      ne-eqb n 5 (r .0 .0 .0 .1),
+      ne-eqb n 6 (r .0 .0 .1),
+      ne-eqb n 7 (r .0 .1),
+      ne-eqb n 8 (r .1),
     )
 
 pub of-spec : {M : Type 1} → statement M
-of-spec = tie.close (tie.spec returns returns-2 returns-3 returns-4 returns-5 returns-6 returns-7 returns-8)
+of-spec = tie.close (tie.spec returns returns-2 returns-3 returns-4 returns-5 returns-6 returns-7 returns-8 returns-9)

@@ -9,11 +9,10 @@ use lib.Seq.{take-all}
 use borrow.Author.Needs.{needs}
 use borrow.Author.Tests.{eq-eqb, le-leb, lt-leb, ne-eqb}
 use Rattle.config.specs.declared.Config.{Config}
-use Rattle.config.specs.Questions.{within}
 use Rattle.config.proofs.Questions.{within-true}
 use Rattle.record.proofs.Bytes.{end-in}
 use Rattle.record.specs.inner.Parse.{laidOut}
-use Rattle.record.specs.Record.{all, allZero, elementEnd, presentAt}
+use Rattle.record.specs.Record.{all, allZero, elementEnd, isKind, presentAt}
 use Rattle.record.proofs.layout.laid_out.Statement.{statement}
 use Rattle.record.proofs.layout.laid_out.Tie as tie
 
@@ -23,13 +22,13 @@ module _ (cfg : Config) (bs : List ℕ) where
   no-kind z = rw (lt-leb 1 (getD bs 0 0) (omega arith))
 
   module _ (low : getD bs 0 0 ≡ 0 → ⊥) where
-    high-kind : 8 < getD bs 0 0 → false ≡ laidOut cfg bs
+    high-kind : 9 < getD bs 0 0 → false ≡ laidOut cfg bs
     unfolding laidOut all
-    high-kind h = rw (le-leb 1 (getD bs 0 0) (omega arith), lt-leb (getD bs 0 0) 8 h)
+    high-kind h = rw (le-leb 1 (getD bs 0 0) (omega arith), lt-leb (getD bs 0 0) 9 h)
 
-    module _ (high : getD bs 0 0 ≤ 8) where
-      kind-in : within 1 8 (getD bs 0 0) ≡ true
-      kind-in = within-true 1 8 (getD bs 0 0) (omega arith) high
+    module _ (high : getD bs 0 0 ≤ 9) where
+      kind-in : isKind (getD bs 0 0) ≡ true
+      kind-in = within-true 1 9 (getD bs 0 0) (omega arith) high
 
       no-flag : 1 < getD bs 3 0 → false ≡ laidOut cfg bs
       unfolding laidOut all

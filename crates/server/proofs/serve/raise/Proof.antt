@@ -1,5 +1,5 @@
 use borrow.Author.Needs.{needs}
-use Rattle.server.specs.Calls.{raised}
+use Rattle.server.specs.inner.Serve.{raised}
 use Rattle.server.proofs.serve.raise.Statement.{statement}
 use Rattle.server.proofs.serve.raise.Tie as tie
 

@@ -1,17 +1,14 @@
 use borrow.Author.Needs.{needs}
-use mathlib.Core.Path.{_≡_, refl, sym, _∙_, ap}
+use mathlib.Core.Path.{refl, sym, _∙_, ap}
 use mathlib.Core.Option.{Option, none, some}
 use Prim.Native.Nat.{_+_, _-_, _*_}
 use native.Mathlib.Omega.{arith}
 use borrow.Author.Tests.{eq-eqb}
 use lib.ListN.{length, take, drop, length-drop, length-take}
-use Rattle.tag.specs.declared.Tag.{Tag}
-use Rattle.record.specs.declared.Kind.the-variants.{ReadFinaliseAnswer}
+use Rattle.record.specs.declared.Kind.the-variants.{Cleared, ReadFinaliseAnswer}
 use Rattle.record.specs.Element.{Element, elementWith}
-use Rattle.server.specs.declared.State.{State}
-use Rattle.server.specs.Calls.{raised}
 use Rattle.server.specs.View.{storedLength, tagAt}
-use Rattle.server.proofs.Answering.{bare-post, bare-respond, copied-element, copied-long, finalised-element, finalised-none, finalised-silent, read-reply}
+use Rattle.server.proofs.Answering.{bare-post, bare-respond, cleared-reply, copied-element, copied-long, finalised-cleared, finalised-element, finalised-none, raised-me, read-reply}
 use Rattle.server.proofs.Limits.{state-eight, state-length}
 use Rattle.server.proofs.Keep.{from-zero}
 use Rattle.server.proofs.Keys.{small}
@@ -19,11 +16,6 @@ use Rattle.server.proofs.Lending.{element-nowhere, element-there, part-
 use Rattle.server.proofs.Tags.{both}
 use Rattle.server.proofs.serve.read_finalise.Statement.{statement}
 use Rattle.server.proofs.serve.read_finalise.Tie as tie
-
--- a raised state is of the same server
-me-same : (s : State) (t : Tag) {r : State} → r ≡ raised s t → r .me ≡ s .me
-unfolding raised
-me-same s t e = ap (λ (x : State). x .me) e
 
 cast-count : tie.Need-cast-count
 cast-count c = search needs
@@ -88,7 +80,7 @@ respond-requires c κs =
       eighty = long;
       ofConfig =
           read-reply (s .args .cfg) (s .args .s) (s .args .h) (s .args .store .now) (s .args .answer .now) (s .pre) _
-          (me-same (s .args .s) (s .args .h .tag) (c .before .before .before .before .before .before .before .before .before .before .raise .ensures)) (some _) (both _ _ (eq-eqb _ (s .args .cfg .e) (ap length is ∙ sized-src)) fits);
+          (raised-me (s .args .s) (s .args .h .tag) (c .before .before .before .before .before .before .before .before .before .before .raise .ensures)) (some _) (both _ _ (eq-eqb _ (s .args .cfg .e) (ap length is ∙ sized-src)) fits);
       fits = fits;
     }
 
@@ -103,21 +95,11 @@ returns c =
     let sized-src = ap length (part-is (c .before .before .before .before .before .before .before .before .before .before .before .before .before .before .before .before .before .before .before .before .args .cfg) (c .before .before .before .before .before .before .before .before .before .before .before .before .before .before .before .before .before .before .before .before .args .s) (c .before .before .before .before .before .before .before .before .before .before .before .before .before .before .before .before .before .before .before .before .args .h .tag) (c .before .before .before .before .before .before .before .before .before .before .before .before .before .before .before .before .before .before .before .before .args .store .now) (c .before .before .before .before .before .before .before .before .before .before .before .before .before .before .before .before .before .before .before .before .pre .held) p) ∙ part-long (c .before .before .before .before .before .before .before .before .before .before .before .before .before .before .before .before .before .before .before .before .args .cfg) (c .before .before .before .before .before .before .before .before .before .before .before .before .before .before .before .before .before .before .before .before .args .s) (c .before .before .before .before .before .before .before .before .before .before .before .before .before .before .before .before .before .before .before .before .args .h .tag) (c .before .before .before .before .before .before .before .before .before .before .before .before .before .before .before .before .before .before .before .before .args .store .now) (c .before .before .before .before .before .before .before .before .before .before .before .before .before .before .before .before .before .before .before .before .pre .held) p (c .before .before .before .before .before .before .before .before .before .before .before .if1 .taken) in
     let is = copied-element (s .args .cfg .e) (s .pre .held .valid .e-high) (s .args .answer .now) src _ (s .pre .eighty) sized-src (c .before .before .before .before .before .before .copy .ensures .1) in
     let there = element-there (c .before .before .before .before .before .before .before .before .before .before .before .before .before .before .before .before .before .before .before .before .args .cfg) (c .before .before .before .before .before .before .before .before .before .before .before .before .before .before .before .before .before .before .before .before .args .s) (c .before .before .before .before .before .before .before .before .before .before .before .before .before .before .before .before .before .before .before .before .args .h .tag) (c .before .before .before .before .before .before .before .before .before .before .before .before .before .before .before .before .before .before .before .before .args .store .now) (c .before .before .before .before .before .before .before .before .before .before .before .before .before .before .before .before .before .before .before .before .pre .held) p (small (c .before .before .before .before .before .before .before .before .before .before .before .before .before .before .before .before .before .before .before .before .args .cfg .c) (c .before .before .before .before .before .before .before .before .before .before .before .before .before .before .before .before .before .before .before .before .args .h .tag) (c .before .before .before .before .before .before .before .before .before .before .before .before .before .before .before .before .before .before .before .before .pre .held .valid .c-high) (c .before .before .before .before .before .before .before .before .before .before .before .before .before .before .before .before .before .before .before .before .pre .allowed)) (from-zero (c .before .before .before .before .before .before .before .before .before .before .before .before .before .before .before .before .before .before .before .before .args .h .tag) (tagAt (c .before .before .before .before .before .before .before .before .before .before .before .before .before .before .before .before .before .before .before .before .args .s .tags)) (c .before .before .before .before .before .before .before .before .before .before .before .before .before .before .before .before .before .before .before .before .args .s .count) _ (c .before .before .before .before .before .before .before .before .before .before .before .before .place-of .ensures)) (c .before .before .before .before .before .before .before .before .before .before .before .if1 .taken) in
-    finalised-element (s .args .cfg) (s .args .s) (c .before .before .before .before .before .before .before .before .before .before .before .before .before .raise .result) (s .args .h) (s .args .store .now) (s .args .answer .now) (c .before .before .before .before .before .before .before .before .before .before .before .before .before .raise .ensures)
+    finalised-element (s .args .cfg) (s .args .s) (c .before .before .before .before .before .before .before .before .before .before .before .before .before .raise .result) (s .args .h) (s .args .store .now) (c .before .before .before .before .before .before .before .before .before .before .before .before .before .raise .ensures)
     _ (there ∙ ap {B = Option Element} (λ bs. some (elementWith (storedLength (s .args .s .lengths) p) bs)) (sym (is ∙ part-is (c .before .before .before .before .before .before .before .before .before .before .before .before .before .before .before .before .before .before .before .before .args .cfg) (c .before .before .before .before .before .before .before .before .before .before .before .before .before .before .before .before .before .before .before .before .args .s) (c .before .before .before .before .before .before .before .before .before .before .before .before .before .before .before .before .before .before .before .before .args .h .tag) (c .before .before .before .before .before .before .before .before .before .before .before .before .before .before .before .before .before .before .before .before .args .store .now) (c .before .before .before .before .before .before .before .before .before .before .before .before .before .before .before .before .before .before .before .before .pre .held) p))) _ _ (c .before .before .respond .ensures)
 
 at-or-below-requires : tie.Need-at-or-below-requires
 at-or-below-requires c κs = search needs
-
-refused-requires : tie.Need-refused-requires
-refused-requires c κs = search needs
-
-returns-2 : tie.Need-returns-2
-returns-2 c =
-    let s = c .before .before .before .before .before .before .before .before .before .before .before .before in
-    finalised-silent (s .args .cfg) (s .args .s) (c .before .before .before .before .before .raise .result) (s .args .h) (s .args .store .now) (s .args .answer .now) (c .before .before .before .before .before .raise .ensures)
-    (element-nowhere (c .before .before .before .before .before .before .before .before .before .before .before .before .args .cfg) (c .before .before .before .before .before .before .before .before .before .before .before .before .args .s) (c .before .before .before .before .before .before .before .before .before .before .before .before .args .h .tag) (c .before .before .before .before .before .before .before .before .before .before .before .before .args .store .now) (c .before .before .before .before .before .before .before .before .before .before .before .before .pre .held) _ (small (c .before .before .before .before .before .before .before .before .before .before .before .before .args .cfg .c) (c .before .before .before .before .before .before .before .before .before .before .before .before .args .h .tag) (c .before .before .before .before .before .before .before .before .before .before .before .before .pre .held .valid .c-high) (c .before .before .before .before .before .before .before .before .before .before .before .before .pre .allowed)) (from-zero (c .before .before .before .before .before .before .before .before .before .before .before .before .args .h .tag) (tagAt (c .before .before .before .before .before .before .before .before .before .before .before .before .args .s .tags)) (c .before .before .before .before .before .before .before .before .before .before .before .before .args .s .count) _ (c .before .before .before .before .place-of .ensures)) (c .before .before .before .if1 .left))
-    (sym (c .before .before .at-or-below .ensures) ∙ c .before .if2 .taken) _ (c .refused .ensures)
 
 bare-requires : tie.Need-bare-requires
 bare-requires c κs = search needs
@@ -125,19 +107,39 @@ bare-requires c κs = search needs
 respond-requires-2 : tie.Need-respond-requires-2
 respond-requires-2 c κs =
     let s = c .before .before .before .before .before .before .before .before .before .before .before .before .before in
-    bare-respond (s .args .cfg) _ (s .args .h) ReadFinaliseAnswer (s .args .h .tag) _ (c .before .bare .ensures) _ (s .pre .held .valid) (s .pre .eighty)
-    (read-reply (s .args .cfg) (s .args .s) (s .args .h) (s .args .store .now) (s .args .answer .now) (s .pre) _ (me-same (s .args .s) (s .args .h .tag) (c .before .before .before .before .before .before .raise .ensures)) none refl)
+    bare-respond (s .args .cfg) _ (s .args .h) Cleared (s .args .h .tag) _ (c .before .bare .ensures) _ (s .pre .held .valid) (s .pre .eighty)
+    (cleared-reply (s .args .cfg) (s .args .s) (s .args .h) (s .args .store .now) (s .args .answer .now) (s .pre) _ (raised-me (s .args .s) (s .args .h .tag) (c .before .before .before .before .before .before .raise .ensures)))
 
 same-length-2 : tie.Need-same-length-2
 same-length-2 c = search needs
 
+returns-2 : tie.Need-returns-2
+returns-2 c =
+    let s = c .before .before .before .before .before .before .before .before .before .before .before .before .before .before .before .before in
+    finalised-cleared (s .args .cfg) (s .args .s) (c .before .before .before .before .before .before .before .before .before .raise .result) (s .args .h) (s .args .store .now) (c .before .before .before .before .before .before .before .before .before .raise .ensures)
+    (element-nowhere (c .before .before .before .before .before .before .before .before .before .before .before .before .before .before .before .before .args .cfg) (c .before .before .before .before .before .before .before .before .before .before .before .before .before .before .before .before .args .s) (c .before .before .before .before .before .before .before .before .before .before .before .before .before .before .before .before .args .h .tag) (c .before .before .before .before .before .before .before .before .before .before .before .before .before .before .before .before .args .store .now) (c .before .before .before .before .before .before .before .before .before .before .before .before .before .before .before .before .pre .held) _ (small (c .before .before .before .before .before .before .before .before .before .before .before .before .before .before .before .before .args .cfg .c) (c .before .before .before .before .before .before .before .before .before .before .before .before .before .before .before .before .args .h .tag) (c .before .before .before .before .before .before .before .before .before .before .before .before .before .before .before .before .pre .held .valid .c-high) (c .before .before .before .before .before .before .before .before .before .before .before .before .before .before .before .before .pre .allowed)) (from-zero (c .before .before .before .before .before .before .before .before .before .before .before .before .before .before .before .before .args .h .tag) (tagAt (c .before .before .before .before .before .before .before .before .before .before .before .before .before .before .before .before .args .s .tags)) (c .before .before .before .before .before .before .before .before .before .before .before .before .before .before .before .before .args .s .count) _ (c .before .before .before .before .before .before .before .before .place-of .ensures)) (c .before .before .before .before .before .before .before .if1 .left))
+    (sym (c .before .before .before .before .before .before .at-or-below .ensures) ∙ c .before .before .before .before .before .if2 .taken) _ _
+    (bare-post (s .args .cfg) (c .before .before .before .before .before .before .before .before .before .raise .result .me) (s .args .h) Cleared (s .args .h .tag) _ (c .before .before .before .before .bare .ensures) (s .args .answer .now) (c .before .before .before .before .before .before .before .before .before .raise .result) _ _ (c .before .before .respond2 .ensures))
+
+bare-requires-2 : tie.Need-bare-requires-2
+bare-requires-2 c κs = search needs
+
+respond-requires-3 : tie.Need-respond-requires-3
+respond-requires-3 c κs =
+    let s = c .before .before .before .before .before .before .before .before .before .before .before .before .before in
+    bare-respond (s .args .cfg) _ (s .args .h) ReadFinaliseAnswer (s .args .h .tag) _ (c .before .bare2 .ensures) _ (s .pre .held .valid) (s .pre .eighty)
+    (read-reply (s .args .cfg) (s .args .s) (s .args .h) (s .args .store .now) (s .args .answer .now) (s .pre) _ (raised-me (s .args .s) (s .args .h .tag) (c .before .before .before .before .before .before .raise .ensures)) none refl)
+
+same-length-3 : tie.Need-same-length-3
+same-length-3 c = search needs
+
 returns-3 : tie.Need-returns-3
 returns-3 c =
     let s = c .before .before .before .before .before .before .before .before .before .before .before .before .before .before .before .before in
-    finalised-none (s .args .cfg) (s .args .s) (c .before .before .before .before .before .before .before .before .before .raise .result) (s .args .h) (s .args .store .now) (s .args .answer .now) (c .before .before .before .before .before .before .before .before .before .raise .ensures)
+    finalised-none (s .args .cfg) (s .args .s) (c .before .before .before .before .before .before .before .before .before .raise .result) (s .args .h) (s .args .store .now) (c .before .before .before .before .before .before .before .before .before .raise .ensures)
     (element-nowhere (c .before .before .before .before .before .before .before .before .before .before .before .before .before .before .before .before .args .cfg) (c .before .before .before .before .before .before .before .before .before .before .before .before .before .before .before .before .args .s) (c .before .before .before .before .before .before .before .before .before .before .before .before .before .before .before .before .args .h .tag) (c .before .before .before .before .before .before .before .before .before .before .before .before .before .before .before .before .args .store .now) (c .before .before .before .before .before .before .before .before .before .before .before .before .before .before .before .before .pre .held) _ (small (c .before .before .before .before .before .before .before .before .before .before .before .before .before .before .before .before .args .cfg .c) (c .before .before .before .before .before .before .before .before .before .before .before .before .before .before .before .before .args .h .tag) (c .before .before .before .before .before .before .before .before .before .before .before .before .before .before .before .before .pre .held .valid .c-high) (c .before .before .before .before .before .before .before .before .before .before .before .before .before .before .before .before .pre .allowed)) (from-zero (c .before .before .before .before .before .before .before .before .before .before .before .before .before .before .before .before .args .h .tag) (tagAt (c .before .before .before .before .before .before .before .before .before .before .before .before .before .before .before .before .args .s .tags)) (c .before .before .before .before .before .before .before .before .before .before .before .before .before .before .before .before .args .s .count) _ (c .before .before .before .before .before .before .before .before .place-of .ensures)) (c .before .before .before .before .before .before .before .if1 .left))
     (sym (c .before .before .before .before .before .before .at-or-below .ensures) ∙ c .before .before .before .before .before .if2 .left) _ _
-    (bare-post (s .args .cfg) (c .before .before .before .before .before .before .before .before .before .raise .result .me) (s .args .h) ReadFinaliseAnswer (s .args .h .tag) _ (c .before .before .before .before .bare .ensures) (s .args .answer .now) (c .before .before .before .before .before .before .before .before .before .raise .result) _ _ (c .before .before .respond2 .ensures))
+    (bare-post (s .args .cfg) (c .before .before .before .before .before .before .before .before .before .raise .result .me) (s .args .h) ReadFinaliseAnswer (s .args .h .tag) _ (c .before .before .before .before .bare2 .ensures) (s .args .answer .now) (c .before .before .before .before .before .before .before .before .before .raise .result) _ _ (c .before .before .respond3 .ensures))
 
 pub read-finalise-spec : {M : Type 1} → statement M
 read-finalise-spec =
@@ -161,9 +163,11 @@ read-finalise-spec =
     same-length
     returns
     at-or-below-requires
-    refused-requires
-    returns-2
     bare-requires
     respond-requires-2
     same-length-2
+    returns-2
+    bare-requires-2
+    respond-requires-3
+    same-length-3
     returns-3)

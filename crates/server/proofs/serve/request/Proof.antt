@@ -6,20 +6,14 @@ use native.Mathlib.Omega.{arith}
 use lib.ListN.{length, take, drop, length-drop, length-take}
 use Rattle.config.specs.declared.Config.{Config}
 use Rattle.tag.specs.declared.Tag.{Tag}
-use Rattle.record.specs.declared.Kind.the-variants.{PreWriteAnswer, QueryAnswer, ReadFinaliseAnswer, WriteFinaliseAnswer}
+use Rattle.record.specs.declared.Kind.the-variants.{Cleared, PreWriteAnswer, QueryAnswer, ReadFinaliseAnswer, WriteFinaliseAnswer}
 use Rattle.record.specs.Record.{elementIn, highestNumber}
 use Rattle.server.specs.declared.State.{State}
-use Rattle.server.specs.Calls.{raised}
 use Rattle.server.specs.inner.Keep.{KeepPost}
-use Rattle.server.proofs.Answering.{bare-post}
+use Rattle.server.proofs.Answering.{bare-post, raised-me}
 use Rattle.server.proofs.Stepping.{finalising, pre-write-reply, query-reply, serve-pre-write, serve-query, serve-read, serve-write, steps-misdirected, tag-in, write-reply}
 use Rattle.server.proofs.serve.request.Statement.{statement}
 use Rattle.server.proofs.serve.request.Tie as tie
-
--- a raised state is of the same server
-me-same : (s : State) (t : Tag) {r : State} → r ≡ raised s t → r .me ≡ s .me
-unfolding raised
-me-same s t e = ap (λ (x : State). x .me) e
 
 -- the part of the record that is the element
 element-is : (cfg : Config) (bs : List ℕ) → take ((16 + cfg .e) - 16) (drop 16 bs) ≡ elementIn cfg bs
@@ -88,7 +82,7 @@ bare-requires-3 c κs = search needs
 respond-requires-3 : tie.Need-respond-requires-3
 respond-requires-3 c κs =
     let s = c .before .before .before .before .before .before .before .before .before in
-    write-reply (c .before .before .before .before .before .before .before .before .before .args .cfg) (c .before .before .before .before .before .before .before .before .before .args .s) (c .before .before .before .before .before .before .before .before .before .args .h) (c .before .before .before .before .before .before .before .before .before .args .handed .now) (c .before .before .before .before .before .before .before .before .before .args .store .now) (c .before .before .before .before .before .before .before .before .before .args .answer .now) (s .pre) _ (me-same (s .args .s) (s .args .h .tag) (c .before .before .raise .ensures)) (c .before .before .before .enum-told3 .given .1) _ (c .before .bare3 .ensures) _ (s .pre .answer-eighty)
+    write-reply (c .before .before .before .before .before .before .before .before .before .args .cfg) (c .before .before .before .before .before .before .before .before .before .args .s) (c .before .before .before .before .before .before .before .before .before .args .h) (c .before .before .before .before .before .before .before .before .before .args .handed .now) (c .before .before .before .before .before .before .before .before .before .args .store .now) (c .before .before .before .before .before .before .before .before .before .args .answer .now) (s .pre) _ (raised-me (s .args .s) (s .args .h .tag) (c .before .before .raise .ensures)) (c .before .before .before .enum-told3 .given .1) _ (c .before .bare3 .ensures) _ (s .pre .answer-eighty)
 
 enum-told-4 : tie.Need-enum-told-4
 enum-told-4 c = search needs
@@ -119,6 +113,12 @@ enum-told-8 c = search needs
 
 refused-requires-4 : tie.Need-refused-requires-4
 refused-requires-4 c κs = search needs
+
+enum-told-9 : tie.Need-enum-told-9
+enum-told-9 c = search needs
+
+refused-requires-5 : tie.Need-refused-requires-5
+refused-requires-5 c κs = search needs
 
 same-length : tie.Need-same-length
 same-length c = search needs
@@ -170,6 +170,10 @@ returns-8 : tie.Need-returns-8
 returns-8 c =
     steps-misdirected (c .before .before .before .before .before .before .before .args .cfg) (c .before .before .before .before .before .before .before .args .s) (c .before .before .before .before .before .before .before .args .h) (c .before .before .before .before .before .before .before .args .handed .now) (c .before .before .before .before .before .before .before .args .store .now) (c .before .before .before .before .before .before .before .args .answer .now) ReadFinaliseAnswer (c .before .enum-told8 .given .1) refl _ (c .refused4 .ensures)
 
+returns-9 : tie.Need-returns-9
+returns-9 c =
+    steps-misdirected (c .before .before .before .before .before .before .before .args .cfg) (c .before .before .before .before .before .before .before .args .s) (c .before .before .before .before .before .before .before .args .h) (c .before .before .before .before .before .before .before .args .handed .now) (c .before .before .before .before .before .before .before .args .store .now) (c .before .before .before .before .before .before .before .args .answer .now) Cleared (c .before .enum-told9 .given .1) refl _ (c .refused5 .ensures)
+
 pub request-spec : {M : Type 1} → statement M
 request-spec =
     tie.close
@@ -199,6 +203,8 @@ request-spec =
     refused-requires-3
     enum-told-8
     refused-requires-4
+    enum-told-9
+    refused-requires-5
     same-length
     returns
     same-length-2
@@ -212,4 +218,5 @@ request-spec =
     returns-5
     returns-6
     returns-7
-    returns-8)
+    returns-8
+    returns-9)

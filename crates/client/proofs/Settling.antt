@@ -2,12 +2,12 @@
 use mathlib.Core.Path.{_≡_, refl, sym, ap, ap₂, _∙_, subst, fun-ext}
 use mathlib.Core.Bool.{Bool, true, false, cond, _&&_}
 use mathlib.Core.Option.{none, some}
-use mathlib.Core.List.{List, [], _∷_}
-use Prim.Native.Nat.{ℕ, zero, suc, _+_}
+use mathlib.Core.List.{List, []}
+use Prim.Native.Nat.{ℕ, _+_}
 use native.Mathlib.Omega.{arith}
 use borrow.Author.Tests.{leb-true, ne-eqb}
 use lib.Dec.{leb, ltb}
-use lib.ListN.{length, getD, length-append}
+use lib.ListN.{length, getD}
 use lib.Pow.{pow-pos}
 use Rattle.laws.proofs.Below.{below-all}
 use Rattle.laws.proofs.Bools.{and-right}
@@ -19,8 +19,8 @@ use Rattle.tag.specs.declared.Tag.{Tag}
 use Rattle.tag.specs.Tag.{allowed}
 use Rattle.protocol.specs.Boards.{BoardEnded, BoardMoved, BoardPhase, cut, decode, encode}
 use Rattle.protocol.specs.Client as protocol
-use Rattle.protocol.specs.Number.{count, nobody, nothingYet, toEach}
-use Rattle.protocol.proofs.Basics.{cond-elim}
+use Rattle.protocol.specs.Number.{count, nobody, nothingYet}
+use Rattle.protocol.proofs.Basics.{cond-elim, length-toEach}
 use Rattle.client.specs.declared.Ended.{Ended}
 use Rattle.client.specs.declared.Ended.the-variants.{Nothing, Written, Spent, Read}
 use Rattle.client.specs.declared.Moved.{Moved}
@@ -52,12 +52,6 @@ nobody-within n = within-true n 0 refl (pow-pos (n + 1))
 nothing-received : (cfg : Config) (es : Slots) → received cfg es 0 ≡ nothingYet
 unfolding received sentBy
 nothing-received cfg es = fun-ext (λ s. rw (ap (λ (f : ℕ → Bool). f s) member-zero))
-
--- a message to each of n servers is n messages
-pub length-toEach : {A : Type 0} (n : ℕ) (f : ℕ → A) → length (toEach n f) ≡ n
-unfolding toEach
-length-toEach zero f = refl
-length-toEach (suc n) f = length-append (toEach n f) (f (suc n) ∷ []) ∙ omega (arith, length-toEach n f)
 
 -- ---- what the code is to do, as a move of the protocol
 

@@ -31,7 +31,7 @@ use Rattle.protocol.specs.Boards as boards
 use Rattle.protocol.specs.Boards.{Board, BoardClient, BoardEnded, BoardMessage, BoardMoved, BoardPhase, cut}
 use Rattle.protocol.specs.Client as protocol
 use Rattle.protocol.specs.Number.{count, nobody, present, upd}
-use Rattle.protocol.proofs.Basics.{cond-elim}
+use Rattle.protocol.proofs.Basics.{cond-elim, length-toEach}
 use Rattle.protocol.proofs.Cut.{length-cut}
 use Rattle.client.specs.declared.Ended.{Ended}
 use Rattle.client.specs.declared.Ended.the-variants.{Nothing, Written, Spent, Read}
@@ -56,7 +56,6 @@ use Rattle.client.proofs.Quorum.{Fits, step-fits, step-on}
 use Rattle.client.proofs.Receiving.{all-yes, cleared-bare, one-tag, operation-begun, received-number, write-own}
 use Rattle.client.proofs.Seen.{asks-is, idle-is, nothing-is, reads-is, spent-is, within-alike, writes-is, writes-one}
 use Rattle.client.proofs.Sets.{member-one, member-zero}
-use Rattle.client.proofs.Settling.{length-toEach}
 use Rattle.client.proofs.Stepping.{sizesOf}
 
 -- ---- question 6

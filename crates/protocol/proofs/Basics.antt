@@ -1,12 +1,15 @@
--- Tests, and functions changed at one number.
-use Prim.Native.Nat.{ℕ}
+-- Tests, functions changed at one number, and how many `toEach` gives.
+use Prim.Native.Nat.{ℕ, zero, suc}
 use mathlib.Core.Path.{_≡_, refl, sym, _∙_, ap, fun-ext}
 use mathlib.Core.Bool.{Bool, true, false, cond, _&&_, _||_, false≢true}
+use mathlib.Core.List.{[], _∷_}
 use mathlib.Core.Logic.{_⊎_, inl, inr}
 use mathlib.Core.Option.{none, some, Option·none-ne-some, Option·some-injective}
+use native.Mathlib.Omega.{arith}
 use lib.Dec.{eqb}
+use lib.ListN.{length, length-append}
 use borrow.Author.Tests.{eqb-true, eqb-false, eq-eqb, ne-eqb}
-use Rattle.protocol.specs.Number.{upd}
+use Rattle.protocol.specs.Number.{upd, toEach}
 
 -- a choice by a test, shown for both outcomes
 pub cond-elim : {A : Type 0} (P : A → Type 0) (b : Bool) (x y : A) → (b ≡ true → P x) → (b ≡ false → P y) → P (cond b x y)
@@ -55,3 +58,9 @@ none≢some {a = a} e = Option·none-ne-some a e
 
 pub some-injective : {A : Type 0} {a b : A} → some a ≡ some b → a ≡ b
 some-injective {a = a} {b = b} e = Option·some-injective a b e
+
+-- one to each of n is n
+pub length-toEach : {A : Type 0} (n : ℕ) (f : ℕ → A) → length (toEach n f) ≡ n
+unfolding toEach
+length-toEach zero f = refl
+length-toEach (suc n) f = length-append (toEach n f) (f (suc n) ∷ []) ∙ omega (arith, length-toEach n f)

@@ -8,9 +8,10 @@ use native.Mathlib.Nat.{le-refl}
 use native.Mathlib.Omega.{arith}
 use Rattle.tag.specs.declared.Tag.{Tag}
 use Rattle.record.specs.Message.{Message}
-use Rattle.protocol.specs.Number.{upd, nobody}
+use Rattle.record.specs.declared.Kind.the-variants.{Query}
+use Rattle.protocol.specs.Number.{upd, nobody, nothingYet}
 use Rattle.tag.specs.Tag.{start as startingTag}
-use Rattle.protocol.specs.Client.{Client, asking}
+use Rattle.protocol.specs.Client.{Client, asking, sendEach}
 use Rattle.protocol.specs.Board.{Answer, spentBy}
 use Rattle.protocol.specs.Parties.{Parties, withClient}
 use Rattle.protocol.proofs.Basics.{upd-elim, upd-same, upd-other, none≢some, some-injective}
@@ -23,6 +24,7 @@ use Rattle.protocol.proofs.LogEnded.{ended, End, log-ended}
 use Rattle.protocol.proofs.LogBegan.{began, log-began}
 use Rattle.protocol.proofs.LogWithdrew.{withdrew, chosen-before, log-withdrew}
 use Rattle.protocol.proofs.Change.{below-refl, client-changed}
+use Rattle.protocol.proofs.Send.{sent-good}
 
 module _ (S : Setting) where
   open Setting S using (Value, Element, key)
@@ -112,6 +114,9 @@ module _ (S : Setting) where
       abbrev pub asks : Client Value Element
       asks = record { operation = ps .clients c .operation + 1; phase = asking board startingTag nobody }
 
+      abbrev pub queries : List (Message Element)
+      queries = sendEach (Setting.cfg S) Query c (ps .clients c .operation + 1) startingTag nothingYet
+
       abbrev pub highs : ℕ → ℕ
       highs s = key (ps .servers s .highest)
 
@@ -158,10 +163,17 @@ module _ (S : Setting) where
                   quorum-map {P = λ s. key t ≤ highs s} {Q = λ s. key t ≤ g′ .base c s} (λ s l. omega (arith, l, based s)) (a .log .endingQuorum p x t (old .0) (old .1));
             }
 
-        pub client-asks : (sends : List (Message Element)) → ((m : Message Element) → List·Memᴰ m sends → GoodMessage S (know S (withClient ps c asks) g′) m) → ((d : ℕ) → (d ≡ c → ⊥) → Keeps S g g′ d) → GoodLog S (know S (withClient ps c asks) g′) g′ (now + 1) → Good S (withClient ps c asks) (ms ++ sends) g′ (now + 1)
+        -- its queries are good
+        sent : (m : Message Element) → List·Memᴰ m queries → GoodMessage S (know S (withClient ps c asks) g′) m
         unfolding know withClient
-        client-asks sends sent keeps log =
-            client-changed S a c asks sends g′ asks-up keeps
+        sent =
+            sent-good S Query c (ps .clients c .operation + 1) startingTag nothingYet (λ i. omega arith, λ i. omega arith, λ i. omega arith)
+            (rw (upd-same (ps .clients) c asks) (le-refl _)) (phase .known) (λ s x e. absurd (none≢some e))
+
+        pub client-asks : ((d : ℕ) → (d ≡ c → ⊥) → Keeps S g g′ d) → GoodLog S (know S (withClient ps c asks) g′) g′ (now + 1) → Good S (withClient ps c asks) (ms ++ queries) g′ (now + 1)
+        unfolding know withClient
+        client-asks keeps log =
+            client-changed S a c asks queries g′ asks-up keeps
             (λ d s. subst (λ (f : ℕ → ℕ → ℕ). f d s ≤ highs s) (sym (new .base))
             (upd-elim (λ (f : ℕ → ℕ). f s ≤ highs s) (g .base) c highs d (λ e. le-refl _) (λ e. a .base d s)))
             sent phase log
@@ -211,10 +223,10 @@ module _ (S : Setting) where
             earlier = λ p x t e f. (e, f);
           }
 
-      pub client-began : (sends : List (Message Element)) → ((m : Message Element) → List·Memᴰ m sends → GoodMessage S (know S (withClient ps c (asks c board begins)) begins) m) → Good S (withClient ps c (asks c board begins)) (ms ++ sends) begins (now + 1)
+      pub client-began : Good S (withClient ps c (asks c board begins)) (ms ++ queries c board begins) begins (now + 1)
       unfolding know
-      client-began sends sent =
-          client-asks c board begins asks-begun sends sent keeps-begin
+      client-began =
+          client-asks c board begins asks-begun keeps-begin
           (log-began S c board (λ s. key (ps .servers s .highest)) (asks-up c board begins asks-begun) (λ n. refl) idle (a .log))
 
     -- client c, which reads, gives up the tag that it took
@@ -249,10 +261,10 @@ module _ (S : Setting) where
             earlier = λ p x u e f. (e, chosen-before S g (g .latest c) p u f);
           }
 
-      pub client-again : (sends : List (Message Element)) → ((m : Message Element) → List·Memᴰ m sends → GoodMessage S (know S (withClient ps c (asks c none again)) again) m) → Good S (withClient ps c (asks c none again)) (ms ++ sends) again (now + 1)
+      pub client-again : Good S (withClient ps c (asks c none again)) (ms ++ queries c none again) again (now + 1)
       unfolding know
-      client-again sends sent =
-          client-asks c none again asks-again sends sent (given-up (again .base))
+      client-again =
+          client-asks c none again asks-again (given-up (again .base))
           (log-withdrew S (g .latest c) (again .base) (asks-up c none again asks-again) (λ n. refl) (omega arith) (reads .begun) (reads .ending) (a .log))
 
       -- or to end spent

@@ -7,10 +7,10 @@ use native.Mathlib.Omega.{arith}
 use Rattle.tag.specs.declared.Tag.{Tag}
 use Rattle.protocol.specs.Number.{upd}
 use Rattle.tag.specs.Tag.{start as startingTag}
-use Rattle.protocol.specs.Board.{Answer, refused, nothingEnded, writtenBy, spentBy, readBy}
+use Rattle.protocol.specs.Board.{Answer}
 use Rattle.protocol.proofs.Basics.{upd-elim, upd-other, some-injective}
-use Rattle.protocol.proofs.World.{Setting, Ghost, Knowledge, Wrote, How, Idle, GoodLog}
-use Rattle.protocol.proofs.Monotone.{Below, known-up, high-up}
+use Rattle.protocol.proofs.World.{Setting, Ghost, Knowledge, Wrote, Idle, GoodLog}
+use Rattle.protocol.proofs.Monotone.{Below, known-up, high-up, how-kept}
 
 module _ (S : Setting) where
   open Setting S using (Value, key)
@@ -58,13 +58,6 @@ module _ (S : Setting) where
     wrote-after {r} {v} w =
         record { client = w .client; begun = older r (w .client, some v) (w .begun); chosen = w .chosen }
 
-    how-after : (r : ℕ) (b : Option Value) (w : Answer Value) → How S g r b w → How S after r b w
-    how-after r b (refused n) h = h
-    how-after r b nothingEnded h = h
-    how-after r b (writtenBy d u) h = h
-    how-after r b (spentBy d) h = h
-    how-after r b (readBy d u v) h = h
-
     -- an operation of a client is its latest, or ended before that began
     past-after : (r d : ℕ) (b : Option Value) → upd (g .begun) now (some (c, board)) r ≡ some (d, b) → (r ≡ upd (g .latest) c now d) ⊎ ((x : ℕ × Answer Value) × (g .ending r ≡ some x) × (x .0 < upd (g .latest) c now d))
     past-after r d b e =
@@ -99,7 +92,7 @@ module _ (S : Setting) where
           endingAfter = a .endingAfter;
           endingBefore = λ r x e. omega (arith, a .endingBefore r x e);
           endingHow = λ r x e d b f.
-              ⊎-elim (λ h. absurd (unended r x (h .0) e)) (λ h. how-after r b (x .1) (a .endingHow r x e d b h)) (begun-cases r (d, b) f);
+              ⊎-elim (λ h. absurd (unended r x (h .0) e)) (λ h. how-kept S g after r refl (λ n v i. i) b (x .1) (a .endingHow r x e d b h)) (begun-cases r (d, b) f);
           endingOnce = a .endingOnce;
           endingQuorum = λ r x t e f. high-up S up (key t) (a .endingQuorum r x t e f);
           startBytes = same (key startingTag) ∙ a .startBytes;

@@ -6,10 +6,10 @@ use mathlib.Core.Option.{Option, none, some}
 use Rattle.tag.specs.declared.Tag.{Tag}
 use Rattle.protocol.specs.Number.{upd}
 use Rattle.tag.specs.Tag.{start as startingTag}
-use Rattle.protocol.specs.Board.{Answer, refused, nothingEnded, writtenBy, spentBy, readBy}
+use Rattle.protocol.specs.Board.{Answer}
 use Rattle.protocol.proofs.Basics.{upd-elim, upd-same, upd-other, none≢some, some-injective}
-use Rattle.protocol.proofs.World.{Setting, Ghost, Knowledge, Known, Wrote, How, GoodLog}
-use Rattle.protocol.proofs.Monotone.{Below, known-up, high-up}
+use Rattle.protocol.proofs.World.{Setting, Ghost, Knowledge, Known, Wrote, GoodLog}
+use Rattle.protocol.proofs.Monotone.{Below, known-up, high-up, how-kept}
 
 module _ (S : Setting) where
   open Setting S using (Value, cfg, key, IsBoard, start)
@@ -68,13 +68,6 @@ module _ (S : Setting) where
     ended-other r x e =
         upd-other (g .chosen) p (some t) r (λ h. none≢some (sym (choice .unended) ∙ ap (g .ending) (sym h) ∙ e))
 
-    how-chose : (r : ℕ) (b : Option Value) (w : Answer Value) → upd (g .chosen) p (some t) r ≡ g .chosen r → ((n : ℕ) (v : Value) → g .bytes n ≡ some v → bytes n ≡ some v) → How S g r b w → How S (chose g p t bytes) r b w
-    how-chose r b (refused n) e f h = h
-    how-chose r b nothingEnded e f h = h
-    how-chose r b (writtenBy d u) e f h = (e ∙ h .0, h .1)
-    how-chose r b (spentBy d) e f h = e ∙ h
-    how-chose r b (readBy d u v) e f h = (e ∙ h .0, h .1, f (key u) v (h .2))
-
     pub log-chose : ((n : ℕ) (v : Value) → g .bytes n ≡ some v → bytes n ≡ some v) → GoodLog S k′ (chose g p t bytes) now
     log-chose grows =
         record {
@@ -94,7 +87,7 @@ module _ (S : Setting) where
           wroteOnce = once;
           endingAfter = a .endingAfter;
           endingBefore = a .endingBefore;
-          endingHow = λ r x e d b f. how-chose r b (x .1) (ended-other r x e) grows (a .endingHow r x e d b f);
+          endingHow = λ r x e d b f. how-kept S g (chose g p t bytes) r (ended-other r x e) grows b (x .1) (a .endingHow r x e d b f);
           endingOnce = a .endingOnce;
           endingQuorum = λ r x u e f. high-up S up (key u) (a .endingQuorum r x u e (ended-chosen r x u e f));
           startBytes = up .bytes (key startingTag) start (a .startBytes);

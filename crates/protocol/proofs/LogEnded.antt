@@ -1,17 +1,17 @@
 -- An operation ends: the record stays good.
 use Prim.Native.Nat.{ℕ, _+_, _≤_, _<_}
-use mathlib.Core.Path.{_≡_, sym, _∙_, ap, subst}
+use mathlib.Core.Path.{_≡_, refl, sym, _∙_, ap, subst}
 use mathlib.Core.Logic.{_⊎_, inl, inr, ⊎-elim, ⊎-map}
 use mathlib.Core.Option.{Option, none, some}
 use native.Mathlib.Omega.{arith}
 use Rattle.tag.specs.declared.Tag.{Tag}
 use Rattle.protocol.specs.Number.{upd}
 use Rattle.tag.specs.Tag.{start as startingTag}
-use Rattle.protocol.specs.Board.{Answer, refused, nothingEnded, writtenBy, spentBy, readBy}
+use Rattle.protocol.specs.Board.{Answer}
 use Rattle.protocol.proofs.Basics.{upd-elim, upd-other, none≢some, some-injective}
 use Rattle.protocol.proofs.Quorum.{Quorum}
 use Rattle.protocol.proofs.World.{Setting, Ghost, Knowledge, Wrote, How, GoodLog}
-use Rattle.protocol.proofs.Monotone.{Below, known-up, high-up}
+use Rattle.protocol.proofs.Monotone.{Below, known-up, high-up, how-kept}
 
 module _ (S : Setting) where
   open Setting S using (Value, cfg, key)
@@ -55,11 +55,7 @@ module _ (S : Setting) where
     wrote-after w = record { client = w .client; begun = w .begun; chosen = w .chosen }
 
     how-after : (r : ℕ) (b : Option Value) (w : Answer Value) → How S g r b w → How S after r b w
-    how-after r b (refused n) h = h
-    how-after r b nothingEnded h = h
-    how-after r b (writtenBy d u) h = h
-    how-after r b (spentBy d) h = h
-    how-after r b (readBy d u v) h = h
+    how-after r = how-kept S g after r refl (λ n v i. i)
 
     -- nothing with a tag has begun after now
     none-after : (r : ℕ) (t : Tag) → g .chosen r ≡ some t → now < r → ⊥

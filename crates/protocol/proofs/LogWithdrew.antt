@@ -7,10 +7,10 @@ use native.Mathlib.Omega.{arith}
 use Rattle.tag.specs.declared.Tag.{Tag}
 use Rattle.tag.specs.Tag.{start as startingTag}
 use Rattle.protocol.specs.Number.{upd}
-use Rattle.protocol.specs.Board.{Answer, refused, nothingEnded, writtenBy, spentBy, readBy}
+use Rattle.protocol.specs.Board.{Answer}
 use Rattle.protocol.proofs.Basics.{upd-elim, upd-other, none≢some, some-injective}
-use Rattle.protocol.proofs.World.{Setting, Ghost, Knowledge, Wrote, How, GoodLog}
-use Rattle.protocol.proofs.Monotone.{Below, known-up, high-up}
+use Rattle.protocol.proofs.World.{Setting, Ghost, Knowledge, Wrote, GoodLog}
+use Rattle.protocol.proofs.Monotone.{Below, known-up, high-up, how-kept}
 
 module _ (S : Setting) where
   open Setting S using (Value, key)
@@ -52,13 +52,6 @@ module _ (S : Setting) where
     ended-other : (r : ℕ) (x : ℕ × Answer Value) → g .ending r ≡ some x → upd (g .chosen) p none r ≡ g .chosen r
     ended-other r x e = upd-other (g .chosen) p none r (λ h. none≢some (sym unended ∙ ap (g .ending) (sym h) ∙ e))
 
-    how-after : (r : ℕ) (b : Option Value) (w : Answer Value) → upd (g .chosen) p none r ≡ g .chosen r → How S g r b w → How S after r b w
-    how-after r b (refused n) e h = h
-    how-after r b nothingEnded e h = h
-    how-after r b (writtenBy d u) e h = (e ∙ h .0, h .1)
-    how-after r b (spentBy d) e h = e ∙ h
-    how-after r b (readBy d u v) e h = (e ∙ h .0, h .1, h .2)
-
     pub log-withdrew : GoodLog S k′ after now′
     log-withdrew =
         record {
@@ -73,7 +66,7 @@ module _ (S : Setting) where
           wroteOnce = λ q r v w t u i j. a .wroteOnce q r v w t u (wrote-before i .0) (wrote-before j .0);
           endingAfter = a .endingAfter;
           endingBefore = λ r x e. omega (arith, a .endingBefore r x e);
-          endingHow = λ r x e d b f. how-after r b (x .1) (ended-other r x e) (a .endingHow r x e d b f);
+          endingHow = λ r x e d b f. how-kept S g after r (ended-other r x e) (λ n v i. i) b (x .1) (a .endingHow r x e d b f);
           endingOnce = a .endingOnce;
           endingQuorum = λ r x t e f. high-up S up (key t) (a .endingQuorum r x t e (chosen-before g p r t f));
           startBytes = same (key startingTag) ∙ a .startBytes;

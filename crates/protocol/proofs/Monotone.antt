@@ -7,9 +7,9 @@ use Rattle.tag.specs.declared.Tag.{Tag}
 use Rattle.record.specs.Message.{Message}
 use Rattle.protocol.specs.Server.{Server, Stored}
 use Rattle.protocol.specs.Client.{Phase, idle, asking, preWriting, finalisingWrite, finalisingRead, down}
-use Rattle.protocol.specs.Board.{Answer}
+use Rattle.protocol.specs.Board.{Answer, refused, nothingEnded, writtenBy, spentBy, readBy}
 use Rattle.protocol.proofs.Quorum.{Quorum, quorum-map}
-use Rattle.protocol.proofs.World.{Setting, Ghost, Knowledge, Known, GoodMessage, GoodStored, GoodServer, Current, GoodPhase}
+use Rattle.protocol.proofs.World.{Setting, Ghost, Knowledge, Known, GoodMessage, GoodStored, GoodServer, Current, GoodPhase, How}
 
 module _ (S : Setting) where
   open Setting S using (Value, Element, cfg, key, encode)
@@ -28,6 +28,15 @@ module _ (S : Setting) where
     pub earlier : (p : ℕ) (x : ℕ × Answer Value) (t : Tag) → g′ .ending p ≡ some x → g′ .chosen p ≡ some t → x .0 < g .latest c → (g .ending p ≡ some x) × (g .chosen p ≡ some t)
     pub begun : (p : ℕ) (board : Option Value) → g′ .begun p ≡ some (c, board) → g .begun p ≡ some (c, board)
     pub ending : (p : ℕ) (x : ℕ × Answer Value) → g .ending p ≡ some x → g′ .ending p ≡ some x
+
+  -- how an operation ended stays so, while it has the tag that it had and boards only come
+  pub how-kept : (g g′ : Ghost S) (p : ℕ) → g′ .chosen p ≡ g .chosen p → ((n : ℕ) (v : Value) → g .bytes n ≡ some v → g′ .bytes n ≡ some v)
+      → (b : Option Value) (answer : Answer Value) → How S g p b answer → How S g′ p b answer
+  how-kept g g′ p same grows b (refused n) h = h
+  how-kept g g′ p same grows b nothingEnded h = h
+  how-kept g g′ p same grows b (writtenBy d u) h = (same ∙ h .0, h .1)
+  how-kept g g′ p same grows b (spentBy d) h = same ∙ h
+  how-kept g g′ p same grows b (readBy d u v) h = (same ∙ h .0, h .1, grows (key u) v (h .2))
 
   pub keeps-refl : (g : Ghost S) (c : ℕ) → Keeps g g c
   keeps-refl g c =

@@ -7,27 +7,22 @@ use mathlib.Core.List.{List, [], _∷_, _++_, append-nil, List·Memᴰ·not-nil}
 use lib.Dec.{eqb, ltb}
 use lib.ListN.{length, getElem?, length-append}
 use borrow.Author.Tests.{eqb-true}
-use native.Mathlib.Nat.{le-refl}
 use native.Mathlib.Omega.{arith}
 use Rattle.config.specs.Questions.{Question, ask, firstNo, within}
 use Rattle.config.proofs.Questions.{within-low, within-high}
-use Rattle.record.specs.declared.Kind.the-variants.{Query}
 use Rattle.record.specs.Kinds.{isForServer}
 use Rattle.record.specs.Message.{Message}
-use Rattle.protocol.specs.Number.{nothingYet}
-use Rattle.tag.specs.Tag.{start as startingTag}
 use Rattle.protocol.specs.Server.{serverStep}
-use Rattle.protocol.specs.Client.{Phase, idle, asking, preWriting, finalisingWrite, finalisingRead, down, isIdle, isUp, sendEach, beginClient, beginQuestions, clientStep, highestNumber}
+use Rattle.protocol.specs.Client.{Phase, idle, asking, preWriting, finalisingWrite, finalisingRead, down, isIdle, isUp, beginClient, beginQuestions, clientStep, highestNumber}
 use Rattle.protocol.specs.Board.{Call, Event, refused, nothingEnded, isAccepted, names}
 use Rattle.protocol.specs.Parties as parties
-use Rattle.protocol.specs.Parties.{Parties, Acted, withClient, quiet, serverActs, clientActs, answerOf, begin, deliver, questionsToBegin}
+use Rattle.protocol.specs.Parties.{Parties, Acted, quiet, serverActs, clientActs, answerOf, begin, deliver, questionsToBegin}
 use Rattle.protocol.specs.Rig.{Rig, Code, beginWrite, beginRead, handOver, lose, double, crashServer, crashClient, codeOf, without, doubled, leaves, freshRig, deliverAt, move, questionsTo11, Execution, fresh, refuses, moves}
-use Rattle.protocol.proofs.Basics.{cond-elim, upd-same, none≢some, some-injective}
-use Rattle.protocol.proofs.World.{Setting, Ghost, Knowledge, know, Known, Idle, GoodMessage, GoodPhase, Good}
+use Rattle.protocol.proofs.Basics.{cond-elim, none≢some, some-injective}
+use Rattle.protocol.proofs.World.{Setting, Ghost, Knowledge, know, Idle, GoodMessage, GoodPhase, Good}
 use Rattle.protocol.proofs.Change.{later, flight-changed}
 use Rattle.protocol.proofs.ServerMove.{server-good}
-use Rattle.protocol.proofs.Send.{sent-good}
-use Rattle.protocol.proofs.ClientChange.{client-moved, begins, asks, client-began}
+use Rattle.protocol.proofs.ClientChange.{client-moved, begins, client-began}
 use Rattle.protocol.proofs.Settle.{Outcome, still, closes, client-good}
 use Rattle.protocol.proofs.Recorded.{Coded, Recorded, next-still, next-closes, next-begins}
 use Rattle.protocol.proofs.Fresh.{blank, fresh-good, fresh-recorded}
@@ -157,9 +152,6 @@ module _ (S : Setting) where
     abbrev ps : Parties Value Element
     ps = r .parties
 
-    abbrev sends : List (Message Element)
-    sends = sendEach cfg Query c (ps .clients c .operation + 1) startingTag nothingYet
-
     low : 1 ≤ c
     low = within-low 1 (cfg .c) c yes-within
 
@@ -172,27 +164,12 @@ module _ (S : Setting) where
     abbrev after : Ghost S
     after = begins S (a .good) c board was-idle low high isBoard
 
-    abbrev asking-now : Parties Value Element
-    asking-now = withClient ps c (asks S (a .good) c board after)
-
     abbrev event : Event Value
     event = record { call = call; answer = nothingEnded }
 
-    number : ps .clients c .operation + 1 ≤ know S asking-now after .number c
-    unfolding know withClient
-    number = rw (upd-same (ps .clients) c (asks S (a .good) c board after)) (le-refl _)
-
-    start-known : Known S (know S asking-now after) startingTag
-    unfolding know
-    start-known = record { board = start; is = a .good .log .startBytes; within = omega arith }
-
     begun-good : Good S (begin cfg ps c board .parties) (r .inFlight ++ begin cfg ps c board .sends) after (length h + 1)
     unfolding begin clientActs beginClient
-    begun-good =
-        client-began S (a .good) c board was-idle low high isBoard sends
-        (sent-good S Query c (ps .clients c .operation + 1) startingTag nothingYet (λ i. omega arith, λ i. omega arith, λ i. omega arith) number
-        start-known
-        (λ s x e. absurd (none≢some e)))
+    begun-good = client-began S (a .good) c board was-idle low high isBoard
 
     begun-invariant : Invariant (leaves (r .inFlight) (begin cfg ps c board) .rig) (h ++ (record { call = call; answer = leaves (r .inFlight) (begin cfg ps c board) .answer } ∷ []))
     unfolding leaves begin clientActs beginClient answerOf isAccepted names

@@ -12,14 +12,13 @@ use native.Mathlib.Nat.{le-refl}
 use native.Mathlib.Omega.{arith}
 use Rattle.config.specs.Config.{quorumOf}
 use Rattle.tag.specs.declared.Tag.{Tag}
-use Rattle.record.specs.declared.Kind.the-variants.{Query, WriteFinalise}
+use Rattle.record.specs.declared.Kind.the-variants.{WriteFinalise}
 use Rattle.record.specs.Message.{Message}
-use Rattle.tag.specs.Tag.{start as startingTag}
 use Rattle.protocol.specs.Number.{upd, count, present, nobody, nothingYet}
 use Rattle.protocol.specs.Client.{Phase, Moved, Ended, idle, asking, preWriting, finalisingWrite, finalisingRead, down, isCleared, sendEach, sendQueries, askAgain, receives, enough, enoughToRead, highestNumber, nextTag, stays, ends, asked, endRead, sendPreWrites, sendReadFinalises, sendWriteFinalises, settling, settle, counting, counted, awaited, awaits, clientStep}
 use Rattle.protocol.specs.Board.{Answer, nothingEnded, spentBy, names}
 use Rattle.protocol.specs.Parties.{Parties, withClient, answerOf}
-use Rattle.protocol.proofs.Basics.{cond-elim, and-true, upd-elim, upd-same, none≢some, some-injective}
+use Rattle.protocol.proofs.Basics.{cond-elim, and-true, upd-elim, none≢some, some-injective}
 use Rattle.protocol.proofs.Quorum.{Quorum}
 use Rattle.protocol.proofs.World.{Setting, Ghost, know, Current, Idle, Asking, GoodMessage, GoodPhase, Good}
 use Rattle.protocol.proofs.LogEnded.{ended, End}
@@ -27,7 +26,7 @@ use Rattle.protocol.proofs.Send.{sent-good}
 use Rattle.protocol.proofs.Count.{phase-counted}
 use Rattle.protocol.proofs.Judged.{awaits-it, cleared-reads, of-operation}
 use Rattle.protocol.proofs.Present.{decoded}
-use Rattle.protocol.proofs.ClientChange.{client-moved, client-ended, asks, again, client-again, spends, client-spent}
+use Rattle.protocol.proofs.ClientChange.{client-moved, client-ended, again, client-again, spends, client-spent}
 use Rattle.protocol.proofs.Choose.{read-chose, write-chose, afterRead, afterWrite}
 
 module _ (S : Setting) where
@@ -72,16 +71,6 @@ module _ (S : Setting) where
     unfolding ends
     ends-good board tag how current end naming =
         (ended S g (g .latest c) (now, answerOf c how), client-ended S a c (record { operation = o; phase = idle }) [] (answerOf c how) refl end (λ m i. absurd (List·Memᴰ·not-nil i)) (idle-after (answerOf c how)), closes c board (current .begun) (current .ending) refl refl naming)
-
-    -- the queries of a read that asks again
-    asked-again : (t : Tag) (reads : Current S g c none (some t)) → Good S (withClient ps c (asks S a c none (again S a c t reads))) (ms ++ sendEach cfg Query c (o + 1) startingTag nothingYet) (again S a c t reads) (now + 1)
-    unfolding know withClient
-    asked-again t reads =
-        client-again S a c t reads (sendEach cfg Query c (o + 1) startingTag nothingYet)
-        (sent-good S Query c (o + 1) startingTag nothingYet (λ i. omega arith, λ i. omega arith, λ i. omega arith)
-        (rw (upd-same (ps .clients) c (asks S a c none (again S a c t reads))) (le-refl _))
-        (record { board = Setting.start S; is = a .log .startBytes; within = omega arith })
-        (λ s x e. absurd (none≢some e)))
 
     naming-one : (d : ℕ) → eqb c d ≡ true → d ≡ c
     naming-one d e = sym (eqb-true c d e)
@@ -155,7 +144,7 @@ module _ (S : Setting) where
     unfolding askAgain answerOf names ends
     again-good t reads =
         cond-elim Result (ltb o highestNumber) (sendQueries cfg c (o + 1) none) (ends o Ended.spent)
-        (λ e. (again S a c t reads, asked-again t reads, still refl refl refl))
+        (λ e. (again S a c t reads, client-again S a c t reads, still refl refl refl))
         (λ e. (
           spends S a c t reads,
           client-spent S a c t reads (record { operation = o; phase = idle }) refl (record { closed = idle-after (spentBy c) .closed }),

@@ -1,16 +1,15 @@
 -- Events 1 and 2: a client begins, with a board to write or none. In order: what the protocol's events are; their numbers; what the client has
 -- done. Assumes nothing.
-use Prim.Native.Nat.{ℕ, zero, suc, _+_, _*_, _≤_, _<_}
+use Prim.Native.Nat.{ℕ, _+_, _*_, _≤_, _<_}
 use mathlib.Core.Path.{_≡_, refl, sym, ap, ap₂, subst, _∙_}
 use mathlib.Core.Bool.{Bool, true, false, cond}
 use mathlib.Core.Option.{Option, none, some}
 use mathlib.Core.List.{List, _++_, map}
 use native.Mathlib.Omega.{arith}
 use native.Mathlib.Decide.{ℕ-discrete}
-use native.Mathlib.Numerals.{add-one}
 use borrow.Author.Tests.{eq-eqb, ne-eqb, le-leb, leb-false, leb-true, lt-leb}
 use lib.Dec.{eqb, leb}
-use lib.ListN.{length, take, drop, length-append, length-drop, length-map}
+use lib.ListN.{length, take, drop, length-drop, length-map}
 use lib.Seq.{drop-at, length-take-le}
 use Rattle.laws.specs.Parts.{over, part}
 use Rattle.laws.proofs.Parts.{over-length}
@@ -30,7 +29,7 @@ use Rattle.flight.proofs.Laws.{length-records, records-written}
 use Rattle.protocol.specs.Boards.{Board, BoardActed, BoardCall, BoardClient, BoardMessage, BoardParties, begin, boardOf, move, writeFits}
 use Rattle.protocol.specs.Client as protocol
 use Rattle.protocol.specs.Client.{beginClient, sendEach}
-use Rattle.protocol.specs.Number.{toEach}
+use Rattle.protocol.proofs.Basics.{length-toEach}
 use Rattle.protocol.specs.Parties as parties
 use Rattle.protocol.specs.Parties.{clientActs, questionsToBegin}
 use Rattle.protocol.specs.Rig as rig
@@ -77,12 +76,6 @@ module _ (cfg : Config) (r : Rig) (l : Lent) (a : Call) (board : List ℕ) where
   unfolding codeOf questionsTo11 formedFor rig.move recordsAfter view rig.writeFits
   read-begins e =
       record { code = ap codeOf e; fits = refl; other = λ z. omega (arith, e, z); asks = refl; formed = refl; moves = refl; after = λ ms. refl }
-
--- a message to each server
-length-toEach : {A : Type 0} (n : ℕ) (f : ℕ → A) → length (toEach n f) ≡ n
-unfolding toEach
-length-toEach zero f = refl
-length-toEach (suc n) f = length-append (toEach n f) _ ∙ ap (λ k. k + 1) (length-toEach n f) ∙ add-one n
 
 -- ---- their numbers
 

@@ -1,8 +1,9 @@
-//! The model as the programs alone, without the tests: what is built of an error that lines show.
+//! The model as `board` and `simulate` alone, without the tests: what is built of an error that lines show. As a
+//! library it is what `load` stands on.
 #![allow(dead_code)]
 
-mod model;
-mod programs;
+pub mod model;
+pub mod programs;
 
 fn main() {
     programs::main();

@@ -1,5 +1,6 @@
 //! Checks of the model and of the search themselves.
 
+use crate::common::{Checks, tell};
 use crate::compare;
 use crate::directed;
 use crate::history::{self, History, Operation, fits, history, search};
@@ -34,14 +35,8 @@ pub fn all() -> usize {
         orders_of_lengths(),
         small_histories(),
     ];
-    let checks: Vec<_> = sections.concat();
-    let failed: Vec<_> = checks.iter().filter(|(_, holds)| !holds).collect();
-    failed.iter().for_each(|(what, _)| println!("FAILED: {what}"));
-    println!("model and search: {} checks, {} failed", checks.len(), failed.len());
-    failed.len()
+    tell("model and search", &sections.concat())
 }
-
-type Checks = Vec<(&'static str, bool)>;
 
 fn config(n: usize, k: usize, d: usize, e: usize, c: usize, m: usize) -> Config {
     Config { n, k, d, e, c, m }

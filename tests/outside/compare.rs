@@ -1,15 +1,14 @@
 //! Compares the programs' lines with the model's, and searches the histories of those runs.
 
+use crate::common::{difference, never, output};
 use crate::directed;
 use crate::history::{History, fits, history, search, told_by_length};
 use crate::lists;
-use crate::maker::{List, Seen, never};
+use crate::maker::{List, Seen};
 use crate::model::Config;
 use crate::programs;
 use crate::random::Random;
-use std::io::Write;
-use std::process::{Command, Stdio};
-use std::thread;
+use std::process::Command;
 
 /// C of lists whose histories are searched, at most.
 const SEARCHED: usize = 4;
@@ -31,36 +30,12 @@ pub fn lines(list: &List) -> String {
 
 /// What a program prints, handed the input in pieces of drawn lengths.
 fn run(path: &str, input: &[u8], random: &mut Random) -> Result<String, String> {
-    let mut command = Command::new(path);
-    let child = command.stdin(Stdio::piped()).stdout(Stdio::piped()).spawn();
-    let mut child = child.map_err(|e| format!("{path}: {e}"))?;
-    let mut stdin = child.stdin.take().unwrap();
     let piece = random.pick(&[7, 64, 1000, 4096, 65536]).max(input.len() / 1000);
-    let output = thread::scope(|scope| {
-        // A program that has ended may leave input unread.
-        scope.spawn(move || input.chunks(piece).try_for_each(|piece| stdin.write_all(piece)));
-        child.wait_with_output()
-    });
-    let output = output.map_err(|e| format!("{path}: {e}"))?;
+    let output = output(&mut Command::new(path), input, piece).map_err(|e| format!("{path}: {e}"))?;
     if !output.status.success() {
         return Err(format!("{path}: {}", output.status));
     }
     String::from_utf8(output.stdout).map_err(|e| format!("{path}: {e}"))
-}
-
-/// The first line in which two outputs differ.
-fn difference(expected: &str, printed: &str) -> Option<String> {
-    if expected == printed {
-        return None;
-    }
-    let (mut e, mut p) = (expected.split('\n'), printed.split('\n'));
-    for number in 1.. {
-        let (due, got) = (e.next(), p.next());
-        if due != got || due.is_none() {
-            return Some(format!("line {number}: due {due:?}, printed {got:?}"));
-        }
-    }
-    unreachable!()
 }
 
 /// Whether the history of a run has an order that fits; the history, or what is wrong.

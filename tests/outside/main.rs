@@ -2,6 +2,7 @@
 //! Called as `board` or `simulate` it is that program, run by the model.
 
 mod checks;
+mod common;
 mod compare;
 mod directed;
 mod history;

@@ -1,5 +1,6 @@
 //! Makes a list of events. The model runs along, so that a draw can name what is in flight.
 
+use crate::common::never;
 use crate::model::{Answer, Board, CLEARED, Client, Config, Phase, READ_FINALISE, Record, Rig};
 use crate::random::Random;
 use std::collections::HashSet;
@@ -117,11 +118,6 @@ impl Cleared {
             ("kind 9 to a crashed client", self.handed_to_crashed),
         ])
     }
-}
-
-/// The names of counts that are 0.
-pub fn never(counts: &[(&'static str, usize)]) -> Vec<&'static str> {
-    counts.iter().filter(|(_, count)| *count == 0).map(|(name, _)| *name).collect()
 }
 
 #[derive(Clone, Copy)]

@@ -1,25 +1,28 @@
 //! The programs `board` and `simulate` over the model: bytes in, lines out.
 
 use crate::model::{Answer, Config, Rig, Tag};
-use std::io::{self, BufReader, BufWriter, Read, Write};
+use std::io::{self, BufReader, BufWriter, Read, Stdin, Stdout, Write};
 use std::path::Path;
 use std::process::exit;
 
 /// Runs the program as which this one is called, if it is called as either.
 pub fn main() -> bool {
+    called("board", board) || called("simulate", simulate)
+}
+
+/// Runs a program from standard input to standard output, if this one is called by its name.
+pub fn called(
+    name: &str,
+    program: impl FnOnce(&mut BufReader<Stdin>, &mut BufWriter<Stdout>) -> io::Result<()>,
+) -> bool {
     let path = std::env::args().next().unwrap_or_default();
-    let called = Path::new(&path).file_name().unwrap_or_default();
+    if Path::new(&path).file_name() != Some(name.as_ref()) {
+        return false;
+    }
     let input = &mut BufReader::with_capacity(1 << 16, io::stdin());
     let out = &mut BufWriter::with_capacity(1 << 16, io::stdout());
-    let run = if called == "board" {
-        board(input, out)
-    } else if called == "simulate" {
-        simulate(input, out)
-    } else {
-        return false;
-    };
     // A program stops where it can't read or write.
-    if let Err(why) = run.and_then(|()| out.flush()) {
+    if let Err(why) = program(input, out).and_then(|()| out.flush()) {
         eprintln!("{why}");
         exit(1)
     }
@@ -27,7 +30,7 @@ pub fn main() -> bool {
 }
 
 /// Fills the buffer as far as the input goes; the count of bytes read.
-fn take(input: &mut impl Read, buffer: &mut [u8]) -> io::Result<usize> {
+pub fn take(input: &mut impl Read, buffer: &mut [u8]) -> io::Result<usize> {
     let mut got = 0;
     while got < buffer.len() {
         match input.read(&mut buffer[got..])? {

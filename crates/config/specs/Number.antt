@@ -48,7 +48,7 @@ abbrev pub clientMade : NewClient → ℕ
 clientMade (NewClient.Made c) = clientNumber c
 clientMade (NewClient.No why) = 0
 
--- a Server or Client is made exactly of a number x that passes the questions, and wraps that number: `answer` is the number of the
+-- a type that wraps a number is made exactly of a number x that passes the questions, and wraps that number: `answer` is the number of the
 -- constructor's answer, and `wrapped` what it made wraps
 pub record NewPost (qs : List Question) (x answer wrapped : ℕ) : Type 0 where
   pub number : answer ≡ firstNo qs

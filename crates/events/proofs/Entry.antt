@@ -223,24 +223,26 @@ module _ (cfg : Config) (m : ℕ) (r : Rig) (a : Call) (board read : List ℕ) (
       ∙ firstNo-stop (rigQuestions cfg m ++ ask 6 six ∷ []) after (λ z. ne (e ∙ z))
       ∙ sym e
 
-  -- one of its parties keeps what is past its limits, or one of 1 to 5 is answered no
-  pub rig-refused : {got : ℕ} → got ≡ firstNo (rigQuestions cfg m ++ ask 6 (partiesWithin cfg r) ∷ []) → (got ≡ 0 → ⊥)
+  -- it is past its limits, or one of 1 to 5 is answered no
+  pub rig-refused : {got : ℕ} → got ≡ firstNo (rigQuestions cfg m ++ ask 6 (rigWithin cfg m r) ∷ []) → (got ≡ 0 → ⊥)
       → {why : Refusal} → refusalNumber why ≡ clamped got → {t : Turn} → t ≡ record { answer = Answer.No why; rig = r }
       → EventPost cfg m r (called a board) read l t read l
-  unfolding rigWithin
   rig-refused {got} e ne {why} number {t} refuses =
       let six-is : got ≡ firstNo (rigQuestions cfg m ++ ask 6 (all-long && rigWithin cfg m r) ∷ []) =
-      stricter cfg m (partiesWithin cfg r) (all-long && rigWithin cfg m r) got
-      (λ h. right-no all-long (rigWithin cfg m r) (right-no (leb (r .count) m) (partiesWithin cfg r) h)) e ne in
-      let its : refusalNumber why ≡ got = refusal-given (subst Given (sym e) (six-given cfg m (partiesWithin cfg r))) ne number in
+      stricter cfg m (rigWithin cfg m r) (all-long && rigWithin cfg m r) got (right-no all-long (rigWithin cfg m r)) e ne in
+      let its : refusalNumber why ≡ got = refusal-given (subst Given (sym e) (six-given cfg m (rigWithin cfg m r))) ne number in
       subst (λ (z : Turn). EventPost cfg m r (called a board) read l z read l) (sym refuses)
       (refused-event cfg m r (called a board) read l (record { answer = Answer.No why; rig = r }) read l (refusalNumber why)
       (λ z. ne (sym its ∙ z)) (early six-is ne ∙ sym its) refl refl refl refl)
 
-  -- the parties pass: the event of the part that it names is the rig's
-  module _ (passed : firstNo (rigQuestions cfg m ++ ask 6 (partiesWithin cfg r) ∷ []) ≡ 0) where
-    both-yes : (firstNo (rigQuestions cfg m) ≡ 0) × (partiesWithin cfg r ≡ true)
-    both-yes = last-all (rigQuestions cfg m) 6 (partiesWithin cfg r) (rigQuestions-numbered cfg m) (omega arith) passed
+  -- it passes: the event of the part that it names is the rig's
+  module _ (passed : firstNo (rigQuestions cfg m ++ ask 6 (rigWithin cfg m r) ∷ []) ≡ 0) where
+    both-yes : (firstNo (rigQuestions cfg m) ≡ 0) × (rigWithin cfg m r ≡ true)
+    both-yes = last-all (rigQuestions cfg m) 6 (rigWithin cfg m r) (rigQuestions-numbered cfg m) (omega arith) passed
+
+    parties-yes : partiesWithin cfg r ≡ true
+    unfolding rigWithin
+    parties-yes = and-right (leb (r .count) m) (partiesWithin cfg r) (both-yes .1)
 
     pub passed-valid : Valid cfg
     passed-valid = rig-valid cfg m refl (both-yes .0)
@@ -257,9 +259,9 @@ module _ (cfg : Config) (m : ℕ) (r : Rig) (a : Call) (board read : List ℕ) (
       pair-within =
           ap₂ _&&_
           (ap (serverInPlace cfg (p .server)) (sym (part .node))
-          ∙ below-at (cfg .n) serverAt (and-left (allBelow (cfg .n) serverAt) (allBelow (cfg .c) clientAt) (both-yes .1)) (p .server) (names-server passed-valid names))
+          ∙ below-at (cfg .n) serverAt (and-left (allBelow (cfg .n) serverAt) (allBelow (cfg .c) clientAt) parties-yes) (p .server) (names-server passed-valid names))
           (ap (clientInPlace cfg (p .client)) (sym (part .client))
-          ∙ below-at (cfg .c) clientAt (and-right (allBelow (cfg .n) serverAt) (allBelow (cfg .c) clientAt) (both-yes .1)) (p .client) (names-client passed-valid names))
+          ∙ below-at (cfg .c) clientAt (and-right (allBelow (cfg .n) serverAt) (allBelow (cfg .c) clientAt) parties-yes) (p .client) (names-client passed-valid names))
 
       abbrev own : Bool
       own = hasPlaces p (placesOf cfg (p .count) a (l .messages))
@@ -271,12 +273,7 @@ module _ (cfg : Config) (m : ℕ) (r : Rig) (a : Call) (board read : List ℕ) (
           → EventPost cfg m r (called a board) read l (turned r x) read′ l′
       unfolding partQuestions rigWithin
       rig-changed {x} {read′} {l′} post = elim (ℕ-discrete (partNo cfg m p a board read l) 0) as (λ _. EventPost cfg m r (called a board) read l (turned r x) read′ l′) [
-        | yes z ↦
-            let six-yes : (all-long && leb (p .count) m && own && partWithin cfg p) ≡ true =
-            last-all (rigQuestions cfg m) 6 (all-long && leb (p .count) m && own && partWithin cfg p) (rigQuestions-numbered cfg m) (omega arith) z .1 in
-            let few-yes : leb (p .count) m ≡ true =
-            and-right all-long (leb (p .count) m) (and-left (all-long && leb (p .count) m) own (and-left (all-long && leb (p .count) m && own) (partWithin cfg p) six-yes)) in
-            post .event z r part (ap₂ _&&_ (ap (λ n. leb n m) (part .count) ∙ few-yes) (both-yes .1))
+        | yes z ↦ post .event z r part (both-yes .1)
         | no ne ↦
             let told = post .refuses ne in
             let six-is : partNo cfg m p a board read l ≡ firstNo (rigQuestions cfg m ++ ask 6 (all-long && rigWithin cfg m r) ∷ []) =
@@ -291,10 +288,6 @@ module _ (cfg : Config) (m : ℕ) (r : Rig) (a : Call) (board read : List ℕ) (
 module _ (cfg : Config) (m : ℕ) (r : Rig) (a : Call) (board read : List ℕ) (l : Lent) (all : rigWithin cfg m r ≡ true) {p : Part} (part : PartOf r p)
     (names : Names cfg p a (l .messages))
   where
-    parties-yes : partiesWithin cfg r ≡ true
-    unfolding rigWithin
-    parties-yes = and-right (leb (r .count) m) (partiesWithin cfg r) all
-
     pub changed : {x : Change} {read′ : List ℕ} {l′ : Lent} → ChangePost cfg m p a board read l x read′ l′
         → EventPost cfg m r (called a board) read l (turned r x) read′ l′
     unfolding partQuestions eventQuestions
@@ -302,7 +295,7 @@ module _ (cfg : Config) (m : ℕ) (r : Rig) (a : Call) (board read : List ℕ) (
         let five = firstNo (rigQuestions cfg m) in
         elim (ℕ-discrete five 0) as (λ _. EventPost cfg m r (called a board) read l (turned r x) read′ l′) [
           | yes e ↦
-              rig-changed cfg m r a board read l (last-yes (rigQuestions cfg m) 6 (partiesWithin cfg r) (rigQuestions-numbered cfg m) e parties-yes)
+              rig-changed cfg m r a board read l (last-yes (rigQuestions cfg m) 6 (rigWithin cfg m r) (rigQuestions-numbered cfg m) e all)
               part names post
           | no ne ↦
               let told = post .refuses (λ e. ne (sym (firstNo-stop (rigQuestions cfg m) _ ne) ∙ e)) in

@@ -3,7 +3,7 @@ mod Clients
 pub mod Entry
 pub mod Inside
 pub mod Lengths
-mod Numbers
+pub mod Numbers
 pub mod Pairs
 mod Ready
 pub mod RigWithin

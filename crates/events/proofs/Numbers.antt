@@ -27,7 +27,7 @@ use Rattle.events.specs.inner.Turn.{firstSix, Ready}
 use Rattle.events.proofs.Six.{six-number}
 
 -- the questions 8 to 11 are numbered so
-numbers : (cfg : Config) (v : BoardRig) (a : BoardCall) (w : Code) → numbered (questionsTo11 cfg v a w) ≡ true
+pub numbers : (cfg : Config) (v : BoardRig) (a : BoardCall) (w : Code) → numbered (questionsTo11 cfg v a w) ≡ true
 unfolding numbered questionsTo11 questionsToBegin beginQuestions questionsToCrashServer questionsToCrashClient positionQuestions
 numbers cfg v a beginWrite = refl
 numbers cfg v a beginRead = refl

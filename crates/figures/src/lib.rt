@@ -1,1 +1,1 @@
-// No code: document 01's figures, those of boards shorter than the block, and those of a record of kind 9: a theorem each.
+// No code: document 01's figures, those of boards shorter than the block, those of a record of kind 9 and those of the load: a theorem each.

@@ -1,4 +1,5 @@
 pub mod Block
 pub mod Event
 pub mod Line
+pub mod Program
 pub mod inner

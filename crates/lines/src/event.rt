@@ -1,4 +1,4 @@
-// An event as a record of bytes: its code, party and position, 2 bytes, its board, and its length, 2 bytes. All that knows the record's form
+// An event as a record of bytes: its code, party and position, 2 bytes, its board, and its length, 2 bytes. All that reads the record's form
 // stands here.
 use events::Call;
 ghost use Prim.Native.Nat.{_+_, _≤_};

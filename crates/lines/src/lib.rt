@@ -1,4 +1,4 @@
-// Events as records of bytes, and their lines: all that the programs do between reading a block and writing one. `block` is their loop. Its
+// Events as records of bytes, and their lines: all that the programs board and simulate do between reading a block and writing one. `block` is their loop. Its
 // contract says that the calls are those of the records in turn, that a list of events (`Runs`) goes on by them, and that the lines are those of
 // its answers. Every function is proved, nothing is assumed, and no public function has a `requires`.
 mod answer;
@@ -19,6 +19,21 @@ ghost use Rattle.events.specs.View.{lent};
 ghost use Rattle.lines.specs.Block.{BlockPost, lineRoom};
 ghost use Rattle.record.specs.Record.{littleTwo};
 ghost use Rattle.lines.specs.Event.{eventLength};
+
+// The program's configuration, the most messages that it has in flight, its starting board, and the bytes of a record of it.
+pub const PROGRAM: Config = Config {
+    n: 3,
+    k: 1,
+    d: 0,
+    e: 1,
+    c: 2,
+};
+
+pub const PROGRAM_MESSAGES: usize = 64;
+
+pub const PROGRAM_START: [u8; 1] = [0];
+
+pub const PROGRAM_RECORD: usize = 7;
 
 // What running a block leaves: the rig, the count of the next event, how many bytes of the input were taken, and how many of the output
 // are in use.

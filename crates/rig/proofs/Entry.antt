@@ -12,14 +12,14 @@ use Rattle.events.specs.declared.Places.{Places}
 use Rattle.events.specs.declared.Rig.{Rig}
 use Rattle.events.specs.declared.Turn.{Turn}
 use Rattle.events.specs.View.{Lent}
-use Rattle.events.specs.Questions.{partiesWithin, placesOf}
+use Rattle.events.specs.Questions.{placesOf, rigWithin}
 use Rattle.events.specs.Calls.{ChangePost, EventPost, called, turned}
 use Rattle.events.proofs.Entry.{rig-changed}
 use Rattle.rig.specs.inner.Turn.{PartAtPost}
 
 module _ (cfg : Config) (m : ℕ) (r : Rig) (a : Call) (board read : List ℕ) (l : Lent) where
-  -- the parties pass, and these are the places that it names
-  module _ (passed : firstNo (rigQuestions cfg m ++ ask 6 (partiesWithin cfg r) ∷ []) ≡ 0) {x : Places} (e : x ≡ placesOf cfg (r .count) a (l .messages)) where
+  -- the rig passes, and these are the places that it names
+  module _ (passed : firstNo (rigQuestions cfg m ++ ask 6 (rigWithin cfg m r) ∷ []) ≡ 0) {x : Places} (e : x ≡ placesOf cfg (r .count) a (l .messages)) where
     pub rig-turned : {p : Part} → PartAtPost r x p → {y : Change} {read′ : List ℕ} {l′ : Lent} → ChangePost cfg m p a board read l y read′ l′
         → {t : Turn} → t ≡ turned r y → EventPost cfg m r (called a board) read l t read′ l′
     rig-turned {p} at {y} {read′} {l′} post {t} put =

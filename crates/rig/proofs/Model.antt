@@ -42,8 +42,8 @@ module _ (cfg : Config) (m : ℕ) where
     abbrev begun : BoardRig
     begun = freshRig cfg (startingBoard cfg start)
 
-    -- an event is the protocol's
-    as-event : {r : Rig} {l : Lent} {events : List BoardEvent} → Runs cfg m start r l events → (a : BoardCall) (read : List ℕ)
+    -- an event of a list is the protocol's
+    pub as-event : {r : Rig} {l : Lent} {events : List BoardEvent} → Runs cfg m start r l events → (a : BoardCall) (read : List ℕ)
         → length (a .board .bytes) ≡ boardLength cfg → length read ≡ boardLength cfg → outcome cfg m r a read l ≡ protocolEvent cfg m (view cfg r l) a
     unfolding protocol.event
     as-event {r = r} {l = l} runs a read board long =

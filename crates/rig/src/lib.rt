@@ -4,7 +4,6 @@
 // and no public function has a `requires`.
 mod fresh;
 mod outcome;
-mod questions;
 mod within;
 
 use config::Config;
@@ -14,7 +13,12 @@ use events::Call;
 use events::Rig;
 use events::Sizes;
 use events::Turn;
+ghost use mathlib.Core.List.{[], _∷_, _++_};
+ghost use mathlib.Core.Path.{_≡_};
+ghost use Rattle.config.specs.Config.{rigQuestions};
+ghost use Rattle.config.specs.Questions.{ask as question, firstNo};
 ghost use Rattle.events.specs.Calls.{EventPost, called};
+ghost use Rattle.events.specs.Questions.{rigWithin};
 ghost use Rattle.events.specs.View.{lent};
 ghost use Rattle.rig.specs.Calls.{MakePost};
 
@@ -22,6 +26,23 @@ ghost use Rattle.rig.specs.Calls.{MakePost};
 pub struct Made {
     pub verdict: Verdict,
     pub rig: Rig,
+}
+
+// Questions 1 to 5, and 6 of what a rig keeps: the number of the first that is answered no, or 0. The buffers lent to it are not asked.
+pub fn ask(cfg: Config, m: usize, rig: Rig) -> u8
+    ensures { λ r. ⌜ r ≡ firstNo (rigQuestions cfg m ++ question 6 (rigWithin cfg m rig) ∷ []) ⌝ }
+{
+    let no = cfg.ask_rig(m);
+    if no != 0 {
+        return no;
+    }
+    if m < rig.count {
+        return 6;
+    }
+    if !within::all(cfg, rig) {
+        return 6;
+    }
+    0
 }
 
 // A fresh rig: questions 1 to 5, and 6. The servers' elements of the starting board go into their stores. On a refusal the rig is of
@@ -72,7 +93,7 @@ pub fn event(
 ) -> Turn
     ensures { λ r. ⌜ EventPost cfg m rig (called call (now (board .entry))) (now (read .entry)) (lent (now (messages .entry)) (now (stores .entry)) (now (boards .entry)) (now (elements .entry))) r (now (read .exit)) (lent (now (messages .exit)) (now (stores .exit)) (now (boards .exit)) (now (elements .exit))) ⌝ }
 {
-    let no = questions::parties(cfg, m, rig);
+    let no = ask(cfg, m, rig);
     if no != 0 {
         return outcome::unturned(rig, Refusal::of(no));
     }

@@ -9,8 +9,8 @@ use Rattle.events.proofs.Inside.{named-inside}
 use Rattle.rig.proofs.event.Statement.{statement}
 use Rattle.rig.proofs.event.Tie as tie
 
-parties-requires : tie.Need-parties-requires
-parties-requires c κs = search needs
+ask-requires : tie.Need-ask-requires
+ask-requires c κs = search needs
 
 of-requires : tie.Need-of-requires
 of-requires c κs = search needs
@@ -22,7 +22,7 @@ returns : tie.Need-returns
 returns c =
     let a = c .before .before .before .before .before .before .before .before .before .before .args in
     let l = lent (now (a .messages)) (now (a .stores)) (now (a .boards)) (now (a .elements)) in
-    rig-refused (a .cfg) (a .m) (a .rig) (a .call) (now (a .board)) (now (a .read)) l (c .before .before .before .parties .ensures) (c .before .before .if1 .taken) (c .before .of .ensures) (c .unturned .ensures)
+    rig-refused (a .cfg) (a .m) (a .rig) (a .call) (now (a .board)) (now (a .read)) l (c .before .before .before .ask .ensures) (c .before .before .if1 .taken) (c .before .of .ensures) (c .unturned .ensures)
 
 names-requires : tie.Need-names-requires
 names-requires c κs = search needs
@@ -31,7 +31,7 @@ part-of-requires : tie.Need-part-of-requires
 part-of-requires c κs =
     let a = c .before .before .before .before .before .before .before .before .before .before .args in
     let l = lent (now (a .messages)) (now (a .stores)) (now (a .boards)) (now (a .elements)) in
-    named-inside (passed-valid (a .cfg) (a .m) (a .rig) (a .call) (now (a .board)) (now (a .read)) l (sym (c .before .before .before .parties .ensures) ∙ c .before .before .if1 .left)) (a .rig .count) (a .call) (now (a .messages)) (c .names .ensures)
+    named-inside (passed-valid (a .cfg) (a .m) (a .rig) (a .call) (now (a .board)) (now (a .read)) l (sym (c .before .before .before .ask .ensures) ∙ c .before .before .if1 .left)) (a .rig .count) (a .call) (now (a .messages)) (c .names .ensures)
 
 changes-requires : tie.Need-changes-requires
 changes-requires c κs = search needs
@@ -40,7 +40,7 @@ turned-requires : tie.Need-turned-requires
 turned-requires c κs =
     let a = c .before .before .before .before .before .before .before .before .before .before .before .before .before .before .before .before .before .before .before .before .before .before .before .before .before .before .before .args in
     let l = lent (now (a .messages)) (now (a .stores)) (now (a .boards)) (now (a .elements)) in
-    let low = named-inside (passed-valid (a .cfg) (a .m) (a .rig) (a .call) (now (a .board)) (now (a .read)) l (sym (c .before .before .before .before .before .before .before .before .before .before .before .before .before .before .before .before .before .before .before .before .parties .ensures) ∙ c .before .before .before .before .before .before .before .before .before .before .before .before .before .before .before .before .before .before .before .if1 .left)) (a .rig .count) (a .call) (now (a .messages)) (c .before .before .before .before .before .before .before .before .before .before .before .before .before .before .before .before .before .names .ensures) in
+    let low = named-inside (passed-valid (a .cfg) (a .m) (a .rig) (a .call) (now (a .board)) (now (a .read)) l (sym (c .before .before .before .before .before .before .before .before .before .before .before .before .before .before .before .before .before .before .before .before .ask .ensures) ∙ c .before .before .before .before .before .before .before .before .before .before .before .before .before .before .before .before .before .before .before .if1 .left)) (a .rig .count) (a .call) (now (a .messages)) (c .before .before .before .before .before .before .before .before .before .before .before .before .before .before .before .before .before .names .ensures) in
     let at = c .before .before .before .before .before .before .before .before .before .before .before .before .before .before .before .before .part-of .ensures in
     let stays = c .before .before .before .before .before .before .before .before .before .before .changes .ensures in
     (omega (arith, low .0, at .server, stays .server), omega (arith, low .1, at .client, stays .client))
@@ -64,14 +64,14 @@ returns-2 : tie.Need-returns-2
 returns-2 c =
     let a = c .before .before .before .before .before .before .before .before .before .before .before .before .before .before .before .before .before .before .before .before .before .before .before .before .before .before .before .before .args in
     let l = lent (now (a .messages)) (now (a .stores)) (now (a .boards)) (now (a .elements)) in
-    let passed = sym (c .before .before .before .before .before .before .before .before .before .before .before .before .before .before .before .before .before .before .before .before .before .parties .ensures) ∙ c .before .before .before .before .before .before .before .before .before .before .before .before .before .before .before .before .before .before .before .before .if1 .left in
+    let passed = sym (c .before .before .before .before .before .before .before .before .before .before .before .before .before .before .before .before .before .before .before .before .before .ask .ensures) ∙ c .before .before .before .before .before .before .before .before .before .before .before .before .before .before .before .before .before .before .before .before .if1 .left in
     rig-turned (a .cfg) (a .m) (a .rig) (a .call) (now (a .board)) (now (a .read)) l passed (c .before .before .before .before .before .before .before .before .before .before .before .before .before .before .before .before .before .before .names .ensures) (c .before .before .before .before .before .before .before .before .before .before .before .before .before .before .before .before .before .part-of .ensures) (c .before .before .before .before .before .before .before .before .before .before .before .changes .ensures) (c .turned .ensures)
 
 pub event-spec : {M : Type 1} → statement M
 event-spec =
     tie.close
     (tie.spec
-    parties-requires
+    ask-requires
     of-requires
     unturned-requires
     returns

@@ -1,0 +1,4 @@
+pub mod Calls
+pub mod Load
+pub mod Steps
+pub mod inner

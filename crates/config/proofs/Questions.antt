@@ -1,11 +1,11 @@
 -- A list of questions. In order: the test `within`; a question that is answered yes or no; a list and then another; questions 1 to 5
--- and then the rest; the last question. Assumes nothing.
+-- and then the rest; the last question; a number that none of the questions has. Assumes nothing.
 use mathlib.Core.Path.{_≡_, refl, sym, _∙_, ap}
 use mathlib.Core.Bool.{Bool, true, false, not, _&&_, false≢true}
-use mathlib.Core.List.{List, [], _∷_, _++_}
+use mathlib.Core.List.{List, [], _∷_, _++_, append-nil}
 use Prim.Native.Nat.{ℕ, _≤_}
 use native.Mathlib.Omega.{arith}
-use borrow.Author.Tests.{eq-eqb, leb-true, le-leb}
+use borrow.Author.Tests.{eq-eqb, eqb-false, leb-true, le-leb, not-true}
 use lib.Dec.{eqb, leb}
 use Rattle.laws.proofs.Bools.{and-left, and-right}
 use Rattle.config.specs.declared.Config.{Config}
@@ -163,3 +163,21 @@ pub last-all : (first : List Question) (number : ℕ) (holds : Bool) → numbere
     → firstNo (first ++ ask number holds ∷ []) ≡ 0 → (firstNo first ≡ 0) × (holds ≡ true)
 last-all first number holds known low h =
     (none-first first (ask number holds ∷ []) h, yes-next number holds [] low (none-rest first (ask number holds ∷ []) known h) .0)
+
+-- ---- a number that none of the questions has is not the refusal
+
+unfoldable pub lacks : ℕ → List Question → Bool
+lacks n [] = true
+lacks n (ask k holds ∷ qs) = not (eqb k n) && lacks n qs
+
+-- it is that of those behind them
+pub skip : (n : ℕ) (first rest : List Question) → lacks n first ≡ true → firstNo (first ++ rest) ≡ n → firstNo rest ≡ n
+unfolding lacks firstNo
+skip n [] rest h e = e
+skip n (ask k true ∷ first) rest h e = skip n first rest (and-right (not (eqb k n)) (lacks n first) h) e
+skip n (ask k false ∷ first) rest h e =
+    absurd (eqb-false k n (not-true (eqb k n) (and-left (not (eqb k n)) (lacks n first) h)) e)
+
+pub no-such : (n : ℕ) (qs : List Question) → lacks n qs ≡ true → 1 ≤ n → firstNo qs ≡ n → ⊥
+unfolding firstNo
+no-such n qs h low e = omega (arith, low, skip n qs [] h (ap firstNo (append-nil qs) ∙ e))

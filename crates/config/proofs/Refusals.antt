@@ -11,7 +11,7 @@ use Rattle.config.specs.declared.Refusal.the-variants.{Servers, Threshol
 use Rattle.config.specs.declared.Verdict.{Verdict}
 use Rattle.config.specs.Questions.{Question, firstNo, isQuestion, lastQuestion, numbered}
 use Rattle.config.specs.Refusal.{clamped, passing15, refusalNumber, verdictNumber}
-use Rattle.config.proofs.Questions.{Given, firstNo-given, question-not-15, question-within, within-low, within-high}
+use Rattle.config.proofs.Questions.{Given, firstNo-given, question-not-15, question-within, within-low}
 
 refusal-question : (why : Refusal) → isQuestion (refusalNumber why) ≡ true
 refusal-question Servers = refl
@@ -44,9 +44,6 @@ refusal-question Uncorrectable = refl
 
 pub refusal-low : (why : Refusal) → 1 ≤ refusalNumber why
 refusal-low why = within-low 1 lastQuestion (refusalNumber why) (question-within (refusalNumber why) (refusal-question why))
-
-pub refusal-high : (why : Refusal) → refusalNumber why ≤ lastQuestion
-refusal-high why = within-high 1 lastQuestion (refusalNumber why) (question-within (refusalNumber why) (refusal-question why))
 
 -- "Number 15 is no longer given.": no refusal has it, and so no verdict
 pub refusal-not-15 : (why : Refusal) → refusalNumber why ≡ 15 → ⊥

@@ -1,14 +1,14 @@
 -- What it shows that no question of an event is answered no. Assumes nothing.
 use Prim.Native.Nat.{ℕ}
 use mathlib.Core.Path.{_≡_, refl, sym}
-use mathlib.Core.Bool.{Bool, true, false, cond, not, _&&_}
+use mathlib.Core.Bool.{Bool, true, false, cond, _&&_}
 use mathlib.Core.Option.{none, some}
 use mathlib.Core.List.{List, [], _∷_, _++_}
 use native.Mathlib.Omega.{arith}
-use borrow.Author.Tests.{eqb-false, eqb-true, not-true}
+use borrow.Author.Tests.{eqb-true}
 use lib.Dec.{eqb}
 use lib.ListN.{length}
-use Rattle.laws.proofs.Bools.{and-left, and-right}
+use Rattle.laws.proofs.Bools.{and-left}
 use Rattle.config.specs.declared.Config.{Config}
 use Rattle.config.specs.Config.{Valid, boardLength, rigQuestions}
 use Rattle.config.specs.Questions.{Question, ask, firstNo}
@@ -29,18 +29,6 @@ module _ (cfg : Config) (m : ℕ) {asked : ℕ} (e : asked ≡ firstNo (rigQuest
   pub six-yes : holds ≡ true → 0 ≡ firstNo (rigQuestions cfg m ++ ask 6 holds ∷ [])
   unfolding firstNo
   six-yes h = rig-later cfg m e none-yet (ask 6 holds ∷ []) (sym (firstNo-yes 6 holds [] h))
-
--- where a number is no question's, it is not the refusal's
-unfoldable pub lacks : ℕ → List Question → Bool
-lacks n [] = true
-lacks n (ask k holds ∷ qs) = not (eqb k n) && lacks n qs
-
-pub skip : (n : ℕ) (first rest : List Question) → lacks n first ≡ true → firstNo (first ++ rest) ≡ n → firstNo rest ≡ n
-unfolding lacks firstNo
-skip n [] rest h e = e
-skip n (ask k true ∷ first) rest h e = skip n first rest (and-right (not (eqb k n)) (lacks n first) h) e
-skip n (ask k false ∷ first) rest h e =
-    absurd (eqb-false k n (not-true (eqb k n) (and-left (not (eqb k n)) (lacks n first) h)) e)
 
 -- 1 to 5, and 6 with what is behind it, are all answered yes
 module _ (cfg : Config) (m : ℕ) (holds : Bool) (rest : List Question) (h : firstNo (rigQuestions cfg m ++ ask 6 holds ∷ rest) ≡ 0) where

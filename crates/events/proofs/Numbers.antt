@@ -8,15 +8,14 @@ use native.Mathlib.Omega.{arith}
 use borrow.Author.Tests.{le-ltb, lt-ltb}
 use lib.ListN.{length, length-map}
 use Rattle.config.specs.declared.Config.{Config}
-use Rattle.config.specs.Questions.{Question, ask, firstNo, numbered}
+use Rattle.config.specs.Questions.{Question, ask, firstNo}
 use Rattle.config.proofs.Questions.{firstNo-pass, firstNo-stop}
 use Rattle.record.specs.Record.{messageOf}
 use Rattle.flight.proofs.Laws.{length-records}
 use Rattle.protocol.specs.Boards.{BoardCall, BoardRig, move, questions, writeFits}
-use Rattle.protocol.specs.Client.{beginQuestions}
-use Rattle.protocol.specs.Parties.{questionsToBegin, questionsToCrashClient, questionsToCrashServer}
 use Rattle.protocol.specs.Rig as rig
-use Rattle.protocol.specs.Rig.{Code, beginWrite, beginRead, handOver, lose, double, crashServer, crashClient, codeOf, hasRoom, positionQuestions, questionsTo11}
+use Rattle.protocol.specs.Rig.{Code, codeOf, hasRoom, positionQuestions, questionsTo11}
+use Rattle.protocol.proofs.Room.{numbers}
 use Rattle.events.specs.declared.Call.{Call}
 use Rattle.events.specs.declared.Part.{Part}
 use Rattle.events.specs.declared.Rig.{Rig}
@@ -25,17 +24,6 @@ use Rattle.events.specs.Questions.{formedFor}
 use Rattle.events.specs.Calls.{called, eventNo}
 use Rattle.events.specs.inner.Turn.{firstSix, Ready}
 use Rattle.events.proofs.Six.{six-number}
-
--- the questions 8 to 11 are numbered so
-pub numbers : (cfg : Config) (v : BoardRig) (a : BoardCall) (w : Code) → numbered (questionsTo11 cfg v a w) ≡ true
-unfolding numbered questionsTo11 questionsToBegin beginQuestions questionsToCrashServer questionsToCrashClient positionQuestions
-numbers cfg v a beginWrite = refl
-numbers cfg v a beginRead = refl
-numbers cfg v a handOver = refl
-numbers cfg v a lose = refl
-numbers cfg v a double = refl
-numbers cfg v a crashServer = refl
-numbers cfg v a crashClient = refl
 
 module _ (cfg : Config) (m : ℕ) (r : Rig) (a : BoardCall) (read : List ℕ) (l : Lent) (yes : firstSix cfg m r a read l ≡ 0) where
   abbrev v : BoardRig

@@ -18,7 +18,7 @@ ghost use Rattle.draws.specs.Draws.{NewGeneratorPost, defaultSeed};
 ghost use Rattle.record.specs.Record.{littleEndian};
 ghost use Rattle.maker.specs.Calls.{bytesFor};
 ghost use Rattle.maker.specs.Steps.{Along, MadeSo};
-ghost use Rattle.load.specs.inner.Written.{Written};
+ghost use Rattle.load.specs.inner.Blocks.{MadeMost};
 
 // The records of a block, which is written at once.
 const BLOCK: usize = 9362;
@@ -106,7 +106,7 @@ fn blocks(
     elements: &mut [u8],
 ) -> Load
     requires { ⌜ Along (load .rig) (lent (now messages) (now stores) (now boards) (now elements)) × (65536 ≤ length (now out)) ⌝ }
-    ensures { λ r. ⌜ Written load (lent (now (messages .entry)) (now (stores .entry)) (now (boards .entry)) (now (elements .entry))) count r (lent (now (messages .exit)) (now (stores .exit)) (now (boards .exit)) (now (elements .exit))) ⌝ }
+    ensures { λ r. ⌜ MadeMost load (lent (now (messages .entry)) (now (stores .entry)) (now (boards .entry)) (now (elements .entry))) count r (lent (now (messages .exit)) (now (stores .exit)) (now (boards .exit)) (now (elements .exit))) ⌝ }
 {
     let mut left = count;
     while left > 0 {

@@ -4,17 +4,14 @@ use mathlib.Core.Path.{_≡_, refl, sym, ap, _∙_}
 use mathlib.Core.Bool.{Bool, true, false, cond, _&&_}
 use mathlib.Core.List.{List}
 use native.Mathlib.Omega.{arith}
-use native.Mathlib.Decide.{ℕ-discrete}
-use borrow.Author.Tests.{eq-eqb, eqb-true, ne-eqb}
+use borrow.Author.Tests.{eq-eqb, eqb-true}
 use lib.Dec.{eqb}
 use lib.ListN.{length}
 use Rattle.laws.proofs.Bools.{and-left}
-use Rattle.config.specs.declared.Refusal.{Refusal}
 use Rattle.config.specs.declared.Refusal.the-variants.{Seed, Shape}
 use Rattle.config.specs.declared.Verdict.{Verdict}
 use Rattle.config.specs.Config.{rigQuestions}
 use Rattle.config.specs.Questions.{firstNo}
-use Rattle.config.proofs.Refusals.{refusal-low}
 use Rattle.events.specs.View.{Lent}
 use Rattle.events.specs.Questions.{rigWithin, sized, sizedBy}
 use Rattle.rig.specs.Calls as rig
@@ -22,8 +19,8 @@ use Rattle.rig.proofs.Always.{always-sized, always-within}
 use Rattle.lines.specs.Program.{program, programMessages, programStart}
 use Rattle.draws.specs.declared.Generator.{Generator}
 use Rattle.draws.specs.declared.NewGenerator.{NewGenerator}
-use Rattle.draws.specs.Draws.{NewGeneratorPost, newGeneratorNumber}
-use Rattle.draws.specs.Draws as draws
+use Rattle.draws.specs.Draws.{NewGeneratorPost}
+use Rattle.draws.proofs.Seeds.{its-seed, some-seed}
 use Rattle.maker.specs.declared.Load.{Load}
 use Rattle.maker.specs.declared.Loaded.{Loaded}
 use Rattle.maker.specs.Calls.{BeginPost, MakePost, RecordsPost, bytesFor, makeNo, recordsNo}
@@ -67,32 +64,6 @@ module _ (x : Load) (count : ℕ) (out : List ℕ) (l : Lent) {yes : Bool}
       pub records-yes : {y : Load} {out′ : List ℕ} {l′ : Lent} → Steps x l count out′ y l′
           → RecordsPost x count out l (record { verdict = Verdict.Accepted; load = y }) out′ l′
       records-yes steps = record { number = sym none-no; steps = λ _. steps; held = λ ne. absurd (ne none-no) }
-
--- ---- a seed
-
-module _ {seed : ℕ} {r : NewGenerator} (post : NewGeneratorPost seed r) where
-  pub no-seed : {why : Refusal} → r ≡ NewGenerator.No why → seed ≡ 0
-  unfolding firstNo
-  no-seed {why} e = elim (ℕ-discrete seed 0) as (λ _. seed ≡ 0) [
-    | yes z ↦ z
-    | no ne ↦
-        let none : newGeneratorNumber r ≡ 0 = post .number ∙ rw (ne-eqb seed 0 ne) in
-        absurd (omega (arith, sym (ap newGeneratorNumber e) ∙ none, refusal-low why))
-  ]
-
-  module _ {g : Generator} (e : r ≡ NewGenerator.Made g) where
-    pub some-seed : eqb seed 0 ≡ false
-    unfolding firstNo
-    some-seed = elim (ℕ-discrete seed 0) as (λ _. eqb seed 0 ≡ false) [
-      | yes z ↦
-          let refused : newGeneratorNumber r ≡ 20 = post .number ∙ rw (eq-eqb seed 0 z) in
-          absurd (omega (arith, sym (ap newGeneratorNumber e) ∙ refused))
-      | no ne ↦ ne-eqb seed 0 ne
-    ]
-
-    pub its-seed : g .0 ≡ seed
-    unfolding firstNo
-    its-seed = sym (ap draws.generatorMade e) ∙ post .made ∙ rw some-seed
 
 -- ---- the maker
 

@@ -34,9 +34,8 @@ use Rattle.maker.specs.Steps.{Along, MadeSo, Step, Steps, drawnOf, next,
 
 -- ---- what is drawn goes into its record
 
+-- a position and a length have two bytes, and a board byte one
 pub record Small (d : Drawn) : Type 0 where
-  pub code : d .call .code < 256
-  pub party : d .call .party < 256
   pub position : d .call .position < 65536
   pub byte : d .byte < 256
   pub length : d .call .length < 65536
@@ -57,9 +56,9 @@ small g n h = by (eqb (codeBy (draw g)) 1) (eqb (codeBy (draw g)) 2)
     x = draw (draw g)
 
     by : (a b : Bool) → Small (cond a (writeBy x) (cond b (readBy x) (messageBy (codeBy (draw g)) n x)))
-    by true b = record { code = omega arith; party = omega arith; position = omega arith; byte = omega arith; length = omega arith }
-    by false true = record { code = omega arith; party = omega arith; position = omega arith; byte = omega arith; length = omega arith }
-    by false false = record { code = omega arith; party = omega arith; position = position-small n x h; byte = omega arith; length = omega arith }
+    by true b = record { position = omega arith; byte = omega arith; length = omega arith }
+    by false true = record { position = omega arith; byte = omega arith; length = omega arith }
+    by false false = record { position = position-small n x h; byte = omega arith; length = omega arith }
 
 -- ---- from a rig that a list of events came to
 
@@ -74,9 +73,9 @@ one-byte b h zero = h
 one-byte b h (suc i) = omega arith
 
 -- the list goes on by a step, and the rig left is the model's
-pub record Goes (x : Load) (l : Lent) (x′ : Load) (l′ : Lent) : Type 0 where
-  pub along : Along (x′ .rig) l′
-  pub seen : view program (x′ .rig) l′ ≡ event program programMessages (view program (x .rig) l) (callOf (drawnOf x l)) .rig
+record Goes (x : Load) (l : Lent) (x′ : Load) (l′ : Lent) : Type 0 where
+  along : Along (x′ .rig) l′
+  seen : view program (x′ .rig) l′ ≡ event program programMessages (view program (x .rig) l) (callOf (drawnOf x l)) .rig
 
 step-on : {x : Load} {l : Lent} → Along (x .rig) l → {bytes : List ℕ} {x′ : Load} {l′ : Lent} → Step x l bytes x′ l′ → Goes x l x′ l′
 step-on {x} {l} along {x′ = x′} {l′ = l′} s =

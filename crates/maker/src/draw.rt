@@ -54,6 +54,7 @@ fn position(in_flight: usize, by: u32) -> usize
     by as usize % in_flight
 }
 
+// An event as it is called.
 fn called(code: u8, party: u8, position: usize, length: u16) -> Call
     ensures { λ r. ⌜ r ≡ record { code = code; party = party; position = position; length = length } ⌝ }
 {

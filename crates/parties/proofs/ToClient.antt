@@ -6,7 +6,7 @@ use mathlib.Core.List.{List, [], _∷_, _++_, append-assoc}
 use mathlib.Core.Option.{Option, none, some}
 use native.Mathlib.Omega.{arith}
 use native.Mathlib.Decide.{ℕ-discrete}
-use borrow.Author.Tests.{eq-eqb, ne-eqb, eqb-true}
+use borrow.Author.Tests.{ne-eqb, eqb-true}
 use lib.Dec.{eqb, ltb}
 use lib.ListN.{length}
 use Rattle.laws.proofs.Bools.{and-left, and-right}
@@ -17,7 +17,7 @@ use Rattle.config.specs.Config.{Valid, questions}
 use Rattle.config.specs.Number.{clientNumber, serverNumber}
 use Rattle.config.specs.Questions.{Question, ask, firstNo, numbered, within}
 use Rattle.config.specs.Refusal.{refusalNumber, verdictNumber}
-use Rattle.config.proofs.Questions.{firstNo-pass, firstNo-stop, none-first, none-rest, questions-numbered, yes-next}
+use Rattle.config.proofs.Questions.{firstNo-pass, firstNo-stop, lacks, no-such, none-first, none-rest, questions-numbered, yes-next}
 use Rattle.config.proofs.Valid.{valid}
 use Rattle.tag.specs.declared.Tag.{Tag}
 use Rattle.tag.specs.Tag.{key}
@@ -122,18 +122,6 @@ module _ (cfg : Config) (c : ℕ) (w : BoardMessage) (of : ofConfig cfg w ≡ tr
       (λ _ s. absurd (s refl))
 
 -- ---- the questions
-
--- no question of a list has this number
-unfoldable lacks : ℕ → List Question → Bool
-lacks k [] = true
-lacks k (ask n h ∷ qs) = not (eqb n k) && lacks k qs
-
-no-such : (k : ℕ) (qs : List Question) → lacks k qs ≡ true → 1 ≤ k → firstNo qs ≡ k → ⊥
-unfolding firstNo lacks
-no-such k [] h low e = omega (arith, low, e)
-no-such k (ask n true ∷ qs) h low e = no-such k qs (and-right (not (eqb n k)) (lacks k qs) h) low e
-no-such k (ask n false ∷ qs) h low e =
-    true≢false (sym (and-left (not (eqb n k)) (lacks k qs) h) ∙ ap not (eq-eqb n k e))
 
 -- the kinds that a client receives are no server's
 not-server : (k : Kind) → isForClient k ≡ true → isForServer k ≡ false

@@ -34,6 +34,7 @@ mod Replay
 mod Order
 mod Endings
 mod Calls
+pub mod Room
 mod Theorem
 mod Refute
 mod Teeth

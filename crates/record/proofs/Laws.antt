@@ -76,7 +76,7 @@ number-high : (a b c d : ℕ) → a < 256 → b < 256 → c < 256 → d < 256 �
 number-high a b c d ha hb hc hd = omega arith
 
 -- the same of two
-two-number : (n : ℕ) → n < 65536 → littleTwo (n % 256) (n / 256 % 256) ≡ n
+pub two-number : (n : ℕ) → n < 65536 → littleTwo (n % 256) (n / 256 % 256) ≡ n
 two-number n h =
     let high : n / 256 < 256 = omega arith in
     rw (mod-eq-of-lt high) (omega (arith, div-add-mod' n 256))

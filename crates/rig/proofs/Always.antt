@@ -4,7 +4,7 @@ use Prim.Native.Nat.{ℕ}
 use mathlib.Core.Path.{_≡_, refl, sym, ap, _∙_}
 use mathlib.Core.Bool.{Bool, true, false, cond, _&&_}
 use mathlib.Core.Option.{Option, none, some}
-use mathlib.Core.List.{List, [], _∷_, append-nil}
+use mathlib.Core.List.{List, [], _∷_}
 use native.Mathlib.Omega.{arith}
 use native.Mathlib.Decide.{ℕ-discrete}
 use borrow.Author.Tests.{eq-eqb}
@@ -13,6 +13,7 @@ use lib.ListN.{length}
 use Rattle.config.specs.declared.Config.{Config}
 use Rattle.config.specs.Config.{boardLength, rigQuestions}
 use Rattle.config.specs.Questions.{Question, ask, firstNo}
+use Rattle.config.proofs.Questions.{lacks, no-such, skip}
 use Rattle.protocol.specs.Boards.{BoardCall, BoardEvent, BoardRig, questions, writeFits}
 use Rattle.protocol.specs.Client.{beginQuestions}
 use Rattle.protocol.specs.Parties.{questionsToBegin, questionsToCrashClient, questionsToCrashServer}
@@ -24,7 +25,7 @@ use Rattle.events.specs.Questions.{formedFor, laterQuestions, rigWithin, sized}
 use Rattle.events.specs.Calls.{eventNo}
 use Rattle.rig.specs.Runs.{Runs, made, event}
 use Rattle.rig.proofs.Making.{make-five, make-sized}
-use Rattle.events.proofs.Asked.{asked-six, lacks, skip}
+use Rattle.events.proofs.Asked.{asked-six}
 
 module _ (cfg : Config) (m : ℕ) (start : List ℕ) where
   pub always-five : {r : Rig} {l : Lent} {events : List BoardEvent} → Runs cfg m start r l events → firstNo (rigQuestions cfg m) ≡ 0
@@ -85,9 +86,5 @@ module _ (cfg : Config) (m : ℕ) (start : List ℕ) where
       let more = ask 19 (writeFits cfg a (codeOf (a .code))) ∷ later in
       let number : eventNo cfg m r a read l ≡ firstNo more =
       always-asks runs a read ∙ rw (eq-eqb (length (a .board .bytes)) (boardLength cfg) board, eq-eqb (length read) (boardLength cfg) long) in
-      omega (
-        arith,
-        skip 6 later []
-            (later-others (view cfg r l) a (formedFor cfg (flight r l) (a .position) (codeOf (a .code))) (codeOf (a .code)))
-            (ap firstNo (append-nil later) ∙ skip 6 (ask 19 (writeFits cfg a (codeOf (a .code))) ∷ []) later refl (sym number ∙ e)),
-      )
+      no-such 6 later (later-others (view cfg r l) a (formedFor cfg (flight r l) (a .position) (codeOf (a .code))) (codeOf (a .code))) (omega arith)
+      (skip 6 (ask 19 (writeFits cfg a (codeOf (a .code))) ∷ []) later refl (sym number ∙ e))

@@ -15,7 +15,7 @@ use Rattle.laws.proofs.Lists.{length-without, map-at, map-without}
 use Rattle.config.specs.declared.Config.{Config}
 use Rattle.config.specs.Config.{Valid, rigQuestions}
 use Rattle.config.specs.Questions.{ask, firstNo, within}
-use Rattle.config.proofs.Questions.{yes-next}
+use Rattle.config.proofs.Questions.{lacks, skip, yes-next}
 use Rattle.record.specs.Record.{highestNumber, recordOf}
 use Rattle.record.proofs.Laws.{written-well-formed}
 use Rattle.protocol.specs.Boards.{Board, BoardActed, BoardCall, BoardEvent, BoardExecution, BoardMessage, BoardRig, IsBoard, decode, encode, move, moveOf, order, questions, startingBoard}
@@ -33,7 +33,7 @@ use Rattle.events.specs.View.{Lent, flight, messagesOf, view}
 use Rattle.events.specs.Questions.{eventQuestions, formed, formedFor}
 use Rattle.events.specs.Calls.{eventNo, outcome, recordsAfter}
 use Rattle.rig.specs.Runs.{Runs, made, event}
-use Rattle.events.proofs.Asked.{event-later, lacks, no-code, skip, to-11}
+use Rattle.events.proofs.Asked.{event-later, no-code, to-11}
 use Rattle.rig.proofs.Atomic.{execution, origin}
 
 -- ---- the protocol's moves keep to the limits

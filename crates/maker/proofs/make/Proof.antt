@@ -1,6 +1,7 @@
 -- `maker::make` meets its contract. Assumes nothing.
 use mathlib.Core.Path.{refl}
-use Rattle.maker.proofs.Answers.{lends, make-done, make-no, no-seed}
+use Rattle.draws.proofs.Seeds.{no-seed}
+use Rattle.maker.proofs.Answers.{lends, make-done, make-no}
 use borrow.Author.Needs.{needs}
 use Rattle.maker.proofs.make.Statement.{statement}
 use Rattle.maker.proofs.make.Tie as tie

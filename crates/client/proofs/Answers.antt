@@ -2,13 +2,12 @@
 use mathlib.Core.Path.{_≡_, refl, sym, ap, ap₂, _∙_}
 use mathlib.Core.Bool.{Bool, true, false, cond}
 use mathlib.Core.Option.{Option, none, some}
-use mathlib.Core.List.{List, [], _++_, append-nil}
+use mathlib.Core.List.{List, []}
 use Prim.Native.Nat.{ℕ, _+_, _*_, _<_}
 use native.Mathlib.Omega.{arith}
 use borrow.Author.Tests.{eq-eqb, ne-eqb, ltb-true}
 use lib.Dec.{eqb, leb}
-use lib.ListN.{length, take, drop, drop-of-length-le}
-use lib.Seq.{take-length}
+use lib.ListN.{length}
 use Rattle.config.specs.declared.Config.{Config}
 use Rattle.config.specs.Config.{Valid, boardLength}
 use Rattle.config.specs.Number.{clientNumber}
@@ -145,9 +144,3 @@ operation-below cfg x pass =
 pub begin-numbered : (cfg : Config) (x : State) → numbered (protocol.beginQuestions (bare cfg x)) ≡ true
 unfolding numbered protocol.beginQuestions
 begin-numbered cfg x = refl
-
--- the board kept
-pub copied : (board kept : List ℕ) → length board ≡ length kept → take (length board) board ++ drop (length board) kept ≡ board
-copied board kept e =
-    ap (λ (l : List ℕ). take (length board) board ++ l) (drop-of-length-le kept {i = length board} (omega arith)) ∙ append-nil (take (length board) board)
-    ∙ take-length board

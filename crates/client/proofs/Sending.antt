@@ -1,6 +1,7 @@
 -- A message to each server: its record, the records one after the other, and the message that a phase begins with. Assumes nothing.
 use mathlib.Core.Path.{_≡_, refl, sym, ap, ap₂, _∙_, fun-ext}
 use mathlib.Core.Bool.{Bool, true, false, cond, true≢false}
+use mathlib.Core.Option.{none, some}
 use mathlib.Core.List.{List, [], _∷_, _++_, append-nil, append-assoc}
 use Prim.Native.Nat.{ℕ, suc, _+_, _-_, _*_, _≤_}
 use native.Mathlib.Omega.{arith}
@@ -8,24 +9,24 @@ use borrow.Author.Tests.{eq-eqb, le-leb}
 use lib.ListN.{length, take, drop, length-append, length-drop}
 use Rattle.laws.specs.Parts.{over}
 use Rattle.laws.proofs.Bools.{and-left}
-use Rattle.laws.proofs.Parts.{lent-length, over-lent, over-there}
+use Rattle.laws.proofs.Parts.{over-lent, over-there}
 use Rattle.config.specs.declared.Config.{Config}
 use Rattle.config.specs.declared.Server.{Server}
 use Rattle.config.specs.declared.Verdict.{Verdict}
 use Rattle.config.specs.Config.{boardLength}
 use Rattle.config.specs.Number.{clientNumber, serverNumber}
-use Rattle.config.specs.Questions.{firstNo, within}
-use Rattle.config.proofs.Valid.{valid-asked}
+use Rattle.config.specs.Questions.{within}
 use Rattle.tag.specs.declared.Tag.{Tag}
 use Rattle.tag.specs.Tag.{allowed, start}
 use Rattle.code.specs.Element.{element}
-use Rattle.code.specs.Encode.{EncodePost, encodeQuestions}
+use Rattle.code.specs.Encode.{EncodePost}
+use Rattle.code.proofs.Around.{encodes-over}
 use Rattle.code.proofs.Decoding.{length-element}
-use Rattle.code.proofs.Encodable.{accepted as encode-accepted}
 use Rattle.record.specs.declared.Header.{Header}
 use Rattle.record.specs.declared.Kind.{Kind}
 use Rattle.record.specs.declared.Kind.the-variants.{PreWrite, Query, ReadFinalise, WriteFinalise}
 use Rattle.record.specs.Calls.{WritePost, isHeader, isSound, limits, withElement}
+use Rattle.record.specs.Element.{elementWith}
 use Rattle.record.specs.Record.{all, elementIn, highestNumber, kindNumber, lengthFits, ownTag, presence, queryTag, recordOf}
 use Rattle.record.proofs.Callers.{was-written}
 use Rattle.record.proofs.Written.{is-header, of-config}
@@ -39,7 +40,7 @@ use Rattle.client.specs.Quorum.{OwnTag}
 use Rattle.client.specs.Send.{recordsOf}
 use Rattle.client.specs.Servers.{withinServers}
 use Rattle.client.specs.State.{phaseWithin, tagWithin}
-use Rattle.client.specs.inner.Send.{AnnouncePre, FillPost, Opens, Sendable, ToEachPre, ToOnePre, addressed, broadcast, broadcastOf, openingOf}
+use Rattle.client.specs.inner.Send.{AnnouncePre, Opens, Sendable, ToEachPre, ToOnePre, addressed, broadcast, broadcastOf, filled, messageTo, openingOf, withElementOf}
 use Rattle.client.proofs.Fronts.{over-front}
 use Rattle.client.proofs.Phases.{phase-in, self-in, tag-in}
 
@@ -78,26 +79,40 @@ module _ (cfg : Config) (b : Broadcast) (ok : Sendable cfg b) (server : Server) 
 
 -- ---- the element in its record
 
-module _ (cfg : Config) (b : Broadcast) (s : ℕ) (board buffer : List ℕ) where
-  pub none-filled : b .element ≡ false → FillPost cfg b s board buffer
-  none-filled h = record { element = rw h }
+-- a record with the element of server s in its place, or as it was
+abbrev filledIf : Bool → Config → ℕ → List ℕ → List ℕ → List ℕ
+filledIf has cfg s board buffer = cond has (over 16 (cfg .e) (element cfg board s) buffer) buffer
 
-  -- encoded at 16
-  pub filled : b .element ≡ true → ToOnePre cfg b s board buffer → (part : List ℕ) (r : Verdict)
-      → EncodePost cfg board s (take (16 + cfg .e - 16) (drop 16 buffer)) part r
-      → FillPost cfg b s board (take 16 buffer ++ (part ++ drop (16 + cfg .e - 16) (drop 16 buffer)))
-  filled has ok part r post =
-      let room : 16 + cfg .e ≤ length buffer = omega (arith, ok .room, ok .goes .valid .e-high) in
-      let lent = take (16 + cfg .e - 16) (drop 16 buffer) in
-      let p : part ≡ element cfg board s =
-      post .buffer
-      ∙ ap (λ (c : Bool). cond c (element cfg board s) lent)
-      (eq-eqb (firstNo (encodeQuestions cfg (length board) s (length lent))) 0
-      (sym (encode-accepted cfg (length board) s (length lent) (valid-asked cfg (ok .goes .valid)) (ok .board-length has)
-      (lent-length buffer 16 (cfg .e) room) (ok .low) (ok .high)))) in
-      let there : elementIn cfg (take 16 buffer ++ (part ++ drop (16 + cfg .e - 16) (drop 16 buffer))) ≡ element cfg board s =
-      ap (elementIn cfg) (over-lent 16 (cfg .e) part buffer) ∙ over-there 16 (cfg .e) part buffer (ap length p ∙ length-element cfg board s) room ∙ p in
-      record { element = rw (has, there) }
+-- nothing to encode
+pub none-filled : (cfg : Config) (b : Broadcast) (s : ℕ) (board buffer : List ℕ) → b .element ≡ false → buffer ≡ filled cfg b s board buffer
+none-filled cfg b s board buffer h = sym (ap (λ (has : Bool). filledIf has cfg s board buffer) h)
+
+module _ (cfg : Config) (b : Broadcast) (s : ℕ) (board buffer : List ℕ) (ok : ToOnePre cfg b s board buffer) where
+  room : 16 + cfg .e ≤ length buffer
+  room = omega (arith, ok .room, ok .goes .valid .e-high)
+
+  lent : 16 + cfg .e - 16 ≡ cfg .e
+  lent = omega arith
+
+  -- encoded at 16, as the code puts back what it lends
+  pub encoded : b .element ≡ true → (part : List ℕ) (r : Verdict) → EncodePost cfg board s (take (16 + cfg .e - 16) (drop 16 buffer)) part r
+      → take 16 buffer ++ (part ++ drop (16 + cfg .e - 16) (drop 16 buffer)) ≡ filled cfg b s board buffer
+  encoded has part r post =
+      encodes-over cfg board s 16 (16 + cfg .e - 16) buffer part r (omega (arith, room)) post (ok .goes .valid) (ok .board-length has) lent (ok .low) (ok .high)
+      ∙ ap (λ (n : ℕ). over 16 n (element cfg board s) buffer) lent
+      ∙ sym (ap (λ (h : Bool). filledIf h cfg s board buffer) has)
+
+  -- the message is then that to server s
+  pub filled-message : addressed cfg b s (filled cfg b s board buffer) ≡ messageTo cfg b board s
+  filled-message = go (b .element)
+    where
+      go : (has : Bool)
+          → withElementOf b s (cond has (some (elementWith (b .length) (elementIn cfg (filledIf has cfg s board buffer)))) none)
+          ≡ withElementOf b s (cond has (some (elementWith (b .length) (element cfg board s))) none)
+      go true =
+          ap (λ (e : List ℕ). withElementOf b s (some (elementWith (b .length) e)))
+          (over-there 16 (cfg .e) (element cfg board s) buffer (length-element cfg board s) room)
+      go false = refl
 
 -- ---- one record more
 

@@ -20,7 +20,7 @@ ghost use lib.ListN.{length};
 ghost use Rattle.record.specs.Record.{recordOf};
 ghost use Rattle.protocol.specs.Boards.{cut};
 ghost use Rattle.client.specs.Send.{recordsOf};
-ghost use Rattle.client.specs.inner.Send.{AddressPre, AnnouncePost, AnnouncePre, FillPost, ToEachPre, ToOnePre, addressed, broadcast, broadcastOf, messageTo, openingOf};
+ghost use Rattle.client.specs.inner.Send.{AddressPre, AnnouncePost, AnnouncePre, ToEachPre, ToOnePre, addressed, broadcast, broadcastOf, filled, messageTo, openingOf};
 
 // What goes to each server alike, whether each gets its element of a board, and that board's length.
 pub(crate) struct Broadcast {
@@ -122,10 +122,10 @@ fn to_one(cfg: Config, b: Broadcast, s: u8, board: &[u8], buffer: &mut [u8])
     address(cfg, b, s, buffer);
 }
 
-// Puts the element of server s, if the message has one, into its record.
+// Encodes the element of server s, if the message has one, where it stands in its record.
 fn fill(cfg: Config, b: Broadcast, s: u8, board: &[u8], buffer: &mut [u8])
     requires { ⌜ ToOnePre cfg b s (now board) (now buffer) ⌝ }
-    ensures { λ _. ⌜ FillPost cfg b s (now (board .entry)) (now (buffer .exit)) ⌝ }
+    ensures { λ _. ⌜ now (buffer .exit) ≡ filled cfg b s (now (board .entry)) (now (buffer .entry)) ⌝ }
 {
     if !b.element {
         return;

@@ -22,12 +22,12 @@ all-yes true true h = (refl, refl)
 all-yes true false h = absurd (omega arith)
 all-yes false b h = absurd (omega arith)
 
-module _ (cfg : Config) (board s buffer : ℕ) where
+module _ (cfg : Config) (board s part : ℕ) where
   abbrev answer : ℕ
-  answer = firstNo (encodeQuestions cfg board s buffer)
+  answer = firstNo (encodeQuestions cfg board s part)
 
   abbrev shape : Bool
-  shape = eqb board (boardLength cfg) && eqb buffer (cfg .e)
+  shape = eqb board (boardLength cfg) && eqb part (cfg .e)
 
   abbrev server : Bool
   server = within 1 (cfg .n) s
@@ -40,15 +40,15 @@ module _ (cfg : Config) (board s buffer : ℕ) where
   unfolding encodeQuestions
   passes = firstNo-pass (questions cfg) (ask 6 shape ∷ ask 18 server ∷ []) (questions-numbered cfg)
 
-  pub encodable : answer ≡ 0 → EncodePre cfg board s buffer
+  pub encodable : answer ≡ 0 → EncodePre cfg board s part
   unfolding encodeQuestions
   encodable h =
       let none : firstNo (questions cfg) ≡ 0 = none-first (questions cfg) (ask 6 shape ∷ ask 18 server ∷ []) h in
       let y = all-yes shape server (sym (passes none) ∙ h) in
       record {
         valid = valid cfg none;
-        board-length = eqb-true board (boardLength cfg) (and-left (eqb board (boardLength cfg)) (eqb buffer (cfg .e)) (y .0));
-        buffer-length = eqb-true buffer (cfg .e) (and-right (eqb board (boardLength cfg)) (eqb buffer (cfg .e)) (y .0));
+        board-length = eqb-true board (boardLength cfg) (and-left (eqb board (boardLength cfg)) (eqb part (cfg .e)) (y .0));
+        part-length = eqb-true part (cfg .e) (and-right (eqb board (boardLength cfg)) (eqb part (cfg .e)) (y .0));
         server-low = within-low 1 (cfg .n) s (y .1);
         server-high = within-high 1 (cfg .n) s (y .1);
       }
@@ -63,17 +63,17 @@ module _ (cfg : Config) (board s buffer : ℕ) where
     misshaped h = sym (passes none ∙ firstNo-no 6 shape (ask 18 server ∷ []) h)
 
     pub wrong-board : (board ≡ boardLength cfg → ⊥) → 6 ≡ answer
-    wrong-board n = misshaped (left-no (eqb board (boardLength cfg)) (eqb buffer (cfg .e)) (ne-eqb board (boardLength cfg) n))
+    wrong-board n = misshaped (left-no (eqb board (boardLength cfg)) (eqb part (cfg .e)) (ne-eqb board (boardLength cfg) n))
 
-    pub wrong-buffer : (buffer ≡ cfg .e → ⊥) → 6 ≡ answer
-    wrong-buffer n = misshaped (right-no (eqb board (boardLength cfg)) (eqb buffer (cfg .e)) (ne-eqb buffer (cfg .e) n))
+    pub wrong-part : (part ≡ cfg .e → ⊥) → 6 ≡ answer
+    wrong-part n = misshaped (right-no (eqb board (boardLength cfg)) (eqb part (cfg .e)) (ne-eqb part (cfg .e) n))
 
-    module _ (lb : board ≡ boardLength cfg) (le : buffer ≡ cfg .e) where
+    module _ (lb : board ≡ boardLength cfg) (le : part ≡ cfg .e) where
       last : answer ≡ firstNo (ask 18 server ∷ [])
       last =
           passes none
           ∙ firstNo-yes 6 shape (ask 18 server ∷ [])
-          (both-yes (eqb board (boardLength cfg)) (eqb buffer (cfg .e)) (eq-eqb board (boardLength cfg) lb) (eq-eqb buffer (cfg .e) le))
+          (both-yes (eqb board (boardLength cfg)) (eqb part (cfg .e)) (eq-eqb board (boardLength cfg) lb) (eq-eqb part (cfg .e) le))
 
       pub no-server : server ≡ false → 18 ≡ answer
       no-server h = sym (last ∙ firstNo-no 18 server [] h)

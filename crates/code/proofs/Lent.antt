@@ -1,10 +1,10 @@
--- A row of e bytes, as it is lent from rows that stand one after the other; and a copy over a buffer.
+-- A row of e bytes, as it is lent from rows that stand one after the other.
 use Prim.Native.Nat.{ℕ, _+_, _*_, _-_, _<_, _≤_}
-use mathlib.Core.Path.{_≡_, ap₂, _∙_}
-use mathlib.Core.List.{List, _++_, append-nil}
+use mathlib.Core.Path.{_≡_, _∙_}
+use mathlib.Core.List.{List}
 use native.Mathlib.Omega.{arith}
-use lib.ListN.{length, getD, take, drop, drop-of-length-le}
-use lib.Seq.{getD-take, getD-drop, take-all}
+use lib.ListN.{length, getD, take, drop}
+use lib.Seq.{getD-take, getD-drop}
 use Rattle.laws.proofs.Parts.{lent-length, part-fits}
 
 -- row i
@@ -17,8 +17,3 @@ lent-row-length k e i board h l = lent-length board (i * e) e (omega (arith, par
 pub lent-row-at : (e i j : ℕ) (board : List ℕ) → j < e → getD (lentRow e board i) j 0 ≡ getD board (i * e + j) 0
 lent-row-at e i j board h =
     getD-take (i * e + e - i * e) (drop (i * e) board) j 0 (omega arith) ∙ getD-drop (i * e) board j 0
-
--- a copy over a buffer of the same length is the whole
-pub copied : (p buffer : List ℕ) (n : ℕ) → n ≡ length p → length buffer ≡ length p → take n p ++ drop n buffer ≡ p
-copied p buffer n e h =
-    ap₂ _++_ (take-all n p (omega arith)) (drop-of-length-le buffer {i = n} (omega arith)) ∙ append-nil p

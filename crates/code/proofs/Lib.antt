@@ -1,5 +1,6 @@
 mod Advanced
 mod Answered
+pub mod Around
 mod Asked
 mod Combined
 mod Counted
@@ -7,7 +8,8 @@ pub mod Decodable
 pub mod Decoding
 mod Digits
 mod Division
-pub mod Encodable
+mod DownTo
+mod Encodable
 mod Factor
 mod Filled
 mod FirstRoots

@@ -1,24 +1,24 @@
 -- Where k is 1, an element is the board.
 use Prim.Native.Nat.{ℕ, _+_, _*_, _-_, _≤_}
-use mathlib.Core.Path.{_≡_, refl, sym, ap, _∙_}
+use mathlib.Core.Path.{_≡_, sym, ap, _∙_}
 use mathlib.Core.Bool.{true}
-use mathlib.Core.List.{List, [], _∷_, _++_}
+use mathlib.Core.List.{List, _++_}
 use native.Mathlib.Omega.{arith}
-use native.Mathlib.Nat.{mul-le-mul-right, one-mul, zero-mul}
+use native.Mathlib.Nat.{mul-le-mul-right, zero-mul}
 use lib.Bits.{xor-zero-l}
-use lib.ListN.{length, getD, set, take, drop, length-take}
+use lib.ListN.{length, getD, take, drop, length-take}
 use lib.Seq.{ext-getD, length-take-le}
 use Rattle.config.specs.declared.Config.{Config}
 use Rattle.config.specs.Config.{boardLength, Valid}
 use Rattle.field.specs.Field.{times, power}
 use Rattle.field.proofs.Laws.{times-one}
 use Rattle.laws.specs.Bytes.{Bytes}
+use Rattle.laws.proofs.Parts.{copied}
 use Rattle.code.specs.Polynomial.{sum}
 use Rattle.code.specs.Element.{byteField, element, elementByte}
-use Rattle.code.specs.inner.Calls.{EncodePre, DecodePre}
+use Rattle.code.specs.inner.Calls.{DecodePre}
 use Rattle.code.specs.Decoded.{decoded, rising}
 use Rattle.code.proofs.Decoding.{length-element, element-at, length-decoded, bytes-decoded, encode-decoded}
-use Rattle.code.proofs.Lent.{copied}
 
 one-term : (f : ℕ → ℕ) (k : ℕ) → k ≡ 1 → sum byteField k f ≡ f 0
 unfolding sum
@@ -32,30 +32,6 @@ element-one cfg board s one lb b =
     ∙ one-term (λ i. times (getD board (i * cfg .e + j) 0) (power s i)) (cfg .k) one
     ∙ ap (λ n. times (getD board n 0) 1) (omega arith)
     ∙ times-one (getD board j 0) (b j))
-
--- an encoder's buffer has the board's length
-pub same-size : (cfg : Config) (board s buffer : ℕ) → EncodePre cfg board s buffer → cfg .k ≡ 1 → buffer ≡ board
-same-size cfg board s buffer h one =
-    h .buffer-length ∙ sym (h .board-length ∙ ap (λ n. n * cfg .e) one ∙ one-mul (cfg .e))
-
-pub copied-board : (cfg : Config) (board buffer : List ℕ) (s n : ℕ) → EncodePre cfg (length board) s (length buffer) → cfg .k ≡ 1 → Bytes board
-    → n ≡ length board → take n board ++ drop n buffer ≡ element cfg board s
-copied-board cfg board buffer s n h one b ln =
-    copied board buffer n ln (same-size cfg (length board) s (length buffer) h one)
-    ∙ sym (element-one cfg board s one (sym (same-size cfg (length board) s (length buffer) h one) ∙ h .buffer-length) b)
-
-one-byte : (board buffer : List ℕ) → length board ≡ 1 → length buffer ≡ length board → set buffer 0 (getD board 0 0) ≡ board
-one-byte [] buffer h l = absurd (omega arith)
-one-byte (b ∷ []) [] h l = absurd (omega arith)
-one-byte (b ∷ []) (a ∷ []) h l = refl
-one-byte (b ∷ []) (a ∷ c ∷ buffer) h l = absurd (omega arith)
-one-byte (b ∷ c ∷ board) buffer h l = absurd (omega arith)
-
-pub copied-byte : (cfg : Config) (board buffer : List ℕ) (s : ℕ) → EncodePre cfg (length board) s (length buffer) → cfg .k ≡ 1 → Bytes board
-    → length board ≡ 1 → set buffer 0 (getD board 0 0) ≡ element cfg board s
-copied-byte cfg board buffer s h one b l =
-    one-byte board buffer l (same-size cfg (length board) s (length buffer) h one)
-    ∙ sym (element-one cfg board s one (sym (same-size cfg (length board) s (length buffer) h one) ∙ h .buffer-length) b)
 
 module _ (cfg : Config) (servers elements buffer : List ℕ) (d : DecodePre cfg servers (length elements) (length buffer)) (one : cfg .k ≡ 1) where
   size : boardLength cfg ≡ cfg .e

@@ -12,15 +12,15 @@ use Rattle.config.specs.Questions.{Question, ask, within, firstNo}
 use Rattle.config.specs.Refusal.{verdictNumber}
 use Rattle.code.specs.Element.{element}
 
--- questions 1 to 5; 6: has the board V bytes, and the buffer E? 18: "is s within 1 to N? (asked last)"
+-- questions 1 to 5; 6: has the board V bytes, and the lent part E? 18: "is s within 1 to N? (asked last)"
 unfoldable pub encodeQuestions : Config → ℕ → ℕ → ℕ → List Question
-encodeQuestions cfg board s buffer =
+encodeQuestions cfg board s part =
     questions cfg
-    ++ ask 6 (eqb board (boardLength cfg) && eqb buffer (cfg .e))
+    ++ ask 6 (eqb board (boardLength cfg) && eqb part (cfg .e))
     ∷ ask 18 (within 1 (cfg .n) s)
     ∷ []
 
--- the answer is the first no; the buffer then holds the element of s, and on a refusal what it held
+-- the answer is the first no; where there is none the part holds the element of s, and on a refusal what it held
 pub record EncodePost (cfg : Config) (board : List ℕ) (s : ℕ) (before after : List ℕ) (r : Verdict) : Type 0 where
   pub number : verdictNumber r ≡ firstNo (encodeQuestions cfg (length board) s (length before))
-  pub buffer : after ≡ cond (eqb (firstNo (encodeQuestions cfg (length board) s (length before))) 0) (element cfg board s) before
+  pub part : after ≡ cond (eqb (firstNo (encodeQuestions cfg (length board) s (length before))) 0) (element cfg board s) before

@@ -1,3 +1,4 @@
+pub mod Around
 pub mod Decode
 pub mod Decoded
 pub mod Element

@@ -1,38 +1,20 @@
-// The element of a server, by Horner's rule over the rows of the board.
+// The element of a server, by Horner's rule over the rows of the board, in the lent part itself.
 ghost use mathlib.Core.Path.{_≡_};
 ghost use lib.ListN.{length};
 ghost use Rattle.code.specs.Element.{element};
 ghost use Rattle.code.specs.inner.Calls.{EncodePre};
 use config::Config;
 
-// Of one row, the element is the board; one byte needs no loop.
-pub(crate) fn encode(cfg: Config, board: &[u8], s: u8, buffer: &mut [u8])
-    requires { ⌜ EncodePre cfg (length (now board)) s (length (now buffer)) ⌝ }
-    ensures { λ _. ⌜ now (buffer .exit) ≡ element cfg (now (board .entry)) s ⌝ }
+// The part takes the last row, and each row before it in turn is a step. The loop counts bytes and not rows: counting rows, the compiler
+// tests once for all rows whether they overlap the part, and makes no vectors.
+pub(crate) fn encode(cfg: Config, board: &[u8], s: u8, part: &mut [u8])
+    requires { ⌜ EncodePre cfg (length (now board)) s (length (now part)) ⌝ }
+    ensures { λ _. ⌜ now (part .exit) ≡ element cfg (now (board .entry)) s ⌝ }
 {
-    if cfg.k == 1 {
-        if board.len() == 1 {
-            buffer[0] = board[0];
-            return;
-        }
-        bytes::copy(board, buffer);
-        return;
+    let mut at = board.len() - cfg.e;
+    bytes::copy(&board[at..], part);
+    while 0 < at {
+        at -= cfg.e;
+        crate::row::step(part, s, &board[at..at + cfg.e]);
     }
-    evaluate(cfg, board, s, buffer);
-}
-
-fn evaluate(cfg: Config, board: &[u8], s: u8, buffer: &mut [u8])
-    requires { ⌜ EncodePre cfg (length (now board)) s (length (now buffer)) ⌝ }
-    ensures { λ _. ⌜ now (buffer .exit) ≡ element cfg (now (board .entry)) s ⌝ }
-{
-    let k = cfg.k;
-    let e = cfg.e;
-    let mut row = [0u8; 64];
-    let mut i = k;
-    while 0 < i {
-        i -= 1;
-        let at = i * e;
-        crate::row::step(&mut row[..e], s, &board[at..at + e]);
-    }
-    bytes::copy(&row[..e], buffer);
 }

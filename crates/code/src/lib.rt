@@ -12,15 +12,16 @@ mod inverse;
 mod question;
 mod row;
 
-// The element of server s of a board, into a buffer of E bytes.
-pub fn encode(cfg: Config, board: &[u8], s: u8, buffer: &mut [u8]) -> Verdict
-    ensures { λ r. ⌜ EncodePost cfg (now (board .entry)) s (now (buffer .entry)) (now (buffer .exit)) r ⌝ }
+// The element of server s of a board, into a lent part of E bytes. The part may start anywhere in the caller's buffer, and the bytes
+// around it stay: specs/Around.
+pub fn encode(cfg: Config, board: &[u8], s: u8, part: &mut [u8]) -> Verdict
+    ensures { λ r. ⌜ EncodePost cfg (now (board .entry)) s (now (part .entry)) (now (part .exit)) r ⌝ }
 {
-    let no = question::encode(cfg, board.len(), s, buffer.len());
+    let no = question::encode(cfg, board.len(), s, part.len());
     if no != 0 {
         return Verdict::of(no);
     }
-    element::encode(cfg, board, s, buffer);
+    element::encode(cfg, board, s, part);
     Verdict::Accepted
 }
 

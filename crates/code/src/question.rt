@@ -8,8 +8,8 @@ ghost use Rattle.code.specs.Decode.{decodeQuestions};
 ghost use Rattle.code.specs.Decoded.{rising};
 use config::Config;
 
-pub(crate) fn encode(cfg: Config, board: usize, s: u8, buffer: usize) -> u8
-    ensures { λ r. ⌜ r ≡ firstNo (encodeQuestions cfg board s buffer) ⌝ }
+pub(crate) fn encode(cfg: Config, board: usize, s: u8, part: usize) -> u8
+    ensures { λ r. ⌜ r ≡ firstNo (encodeQuestions cfg board s part) ⌝ }
 {
     let no = cfg.ask();
     if no != 0 {
@@ -18,7 +18,7 @@ pub(crate) fn encode(cfg: Config, board: usize, s: u8, buffer: usize) -> u8
     if board != cfg.k * cfg.e {
         return 6;
     }
-    if buffer != cfg.e {
+    if part != cfg.e {
         return 6;
     }
     if !cfg.server_exists(s as usize) {

@@ -2,13 +2,12 @@
 -- the lent buffers, has that one among the same parties. Assumes nothing.
 use Prim.Native.Nat.{ℕ, _+_, _-_, _*_, _≤_, _<_}
 use mathlib.Core.Path.{_≡_, refl, sym, ap, ap₂, _∙_}
-use mathlib.Core.List.{List, _++_}
+use mathlib.Core.List.{List}
 use native.Mathlib.Omega.{arith}
-use lib.ListN.{length, take, drop, take-append-drop}
-use lib.Seq.{drop-drop}
+use lib.ListN.{length}
 use Rattle.laws.specs.Parts.{over, part}
 use Rattle.laws.proofs.Lists.{set-same}
-use Rattle.laws.proofs.Parts.{part-other, part-own}
+use Rattle.laws.proofs.Parts.{over-same, part-other, part-own}
 use Rattle.config.specs.declared.Config.{Config}
 use Rattle.config.specs.Config.{boardLength}
 use Rattle.config.specs.Number.{clientNumber, serverNumber}
@@ -38,13 +37,6 @@ pub record Back (cfg : Config) (p : Part) (l : Lent) (ps : Parts) (l′ : Lent) 
   pub stores : l′ .stores ≡ over (p .server * storeLength cfg) (storeLength cfg) (ps .store) (l .stores)
   pub boards : l′ .boards ≡ over (p .client * boardLength cfg) (boardLength cfg) (ps .kept) (l .boards)
   pub elements : l′ .elements ≡ over (p .client * (cfg .n * cfg .e)) (cfg .n * cfg .e) (ps .elements) (l .elements)
-
--- a part that is put back as it was
-pub over-same : (at n : ℕ) (buffer : List ℕ) → over at n (take n (drop at buffer)) buffer ≡ buffer
-over-same at n buffer =
-    ap (λ z. take at buffer ++ (take n (drop at buffer) ++ z)) (sym (drop-drop n at buffer))
-    ∙ ap (λ z. take at buffer ++ z) (take-append-drop n (drop at buffer))
-    ∙ take-append-drop at buffer
 
 -- nothing is put back
 pub back-same : (cfg : Config) (p : Part) (l : Lent) (messages : List ℕ)

@@ -8,25 +8,22 @@ use borrow.Author.Tests.{leb-true, lt-leb, ne-eqb}
 use borrow.Table.Steps.{cases}
 use lib.Dec.{eqb, ltb}
 use lib.ListN.{length, take, drop, replicate, length-drop, drop-of-length-le, take-append-drop}
-use lib.Seq.{paste, take-all, take-length, take-take, drop-drop, length-take-le}
+use lib.Seq.{paste, take-all, take-take, drop-drop, length-take-le}
 use Rattle.laws.proofs.Lists.{drop-take}
+use Rattle.laws.proofs.Parts.{copied, lent-is, lent-length}
 use Rattle.flight.specs.Flight.{AppendPost, DoublePost, RemovePost, TakePost, appended, appends, doubles, fits, recordLength, stands}
 use Rattle.flight.proofs.Laws.{append-count, append-none, appends-true, doubles-past, doubles-true, stands-past, stands-true, take-is, take-long}
 
 -- ---- parts of a buffer that were lent
 
 -- a part of 80 bytes, copied over as many others
-copied : (bytes : List ℕ) (at : ℕ) (zeros r : List ℕ) → at + recordLength ≤ length bytes → length zeros ≡ recordLength
+whole : (bytes : List ℕ) (at : ℕ) (zeros r : List ℕ) → at + recordLength ≤ length bytes → length zeros ≡ recordLength
     → r ≡ take (length (take (at + recordLength - at) (drop at bytes))) (take (at + recordLength - at) (drop at bytes)) ++ drop (length (take (at + recordLength - at) (drop at bytes))) zeros
     → r ≡ take recordLength (drop at bytes)
-copied bytes at zeros r h z e =
-    let n : at + recordLength - at ≡ recordLength = omega arith in
-    let part = take (at + recordLength - at) (drop at bytes) in
-    let size : length part ≡ recordLength = ap (λ k. length (take k (drop at bytes))) n ∙ length-take-le recordLength (drop at bytes) (omega (arith, h, length-drop at bytes)) in
+whole bytes at zeros r h z e =
     e
-    ∙ ap₂ _++_ (take-length part) (drop-of-length-le zeros {i = length part} (omega (arith, z, size)))
-    ∙ append-nil part
-    ∙ ap (λ k. take k (drop at bytes)) n
+    ∙ copied (take (at + recordLength - at) (drop at bytes)) zeros _ refl (z ∙ sym (lent-length bytes at recordLength h))
+    ∙ lent-is bytes at recordLength
 
 -- all from a place on, with other bytes copied over its front
 pasted : (bytes : List ℕ) (at : ℕ) (new mid : List ℕ)
@@ -82,7 +79,7 @@ module _ (n i : ℕ) (bytes : List ℕ) where
       ++ drop (length (take (recordLength * i + recordLength - recordLength * i) (drop (recordLength * i) bytes))) zeros
       → TakePost n i bytes r
   take-there zeros r h l z e =
-      record { taken = rw (stands-true n i bytes h (omega (arith, l))) (copied bytes (recordLength * i) zeros r (omega (arith, h, l)) z e) }
+      record { taken = rw (stands-true n i bytes h (omega (arith, l))) (whole bytes (recordLength * i) zeros r (omega (arith, h, l)) z e) }
 
   pub remove-missing : n ≤ i → RemovePost n i bytes n bytes
   remove-missing h = record { count = rw (stands-past n i bytes h) refl; buffer = rw (stands-past n i bytes h) refl }

@@ -54,10 +54,6 @@ xor-swap a b c d =
 pub xor-cancel : (a b : ℕ) → bitXor a (bitXor a b) ≡ b
 xor-cancel a b = sym (xor-assoc a a b) ∙ ap (λ (x : ℕ). bitXor x b) (xor-self a)
 
--- numbers with the sum 0 are equal
-pub xor-eq : (a b : ℕ) → bitXor a b ≡ 0 → a ≡ b
-xor-eq a b e = sym (xor-zero-r a) ∙ ap (bitXor a) (sym e) ∙ xor-cancel a b
-
 -- shifted by k digits
 pub xor-shl : (a b k : ℕ) → bitXor a b * 2 ^ k ≡ bitXor (a * 2 ^ k) (b * 2 ^ k)
 xor-shl a b k =

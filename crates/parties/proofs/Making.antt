@@ -22,9 +22,9 @@ use Rattle.config.proofs.Questions.{Given, firstNo-given, firstNo-no, firstNo-p
 use Rattle.config.proofs.Refusals.{refusal-low, verdict-given}
 use Rattle.config.proofs.Valid.{valid, valid-asked}
 use Rattle.code.specs.Element.{element}
-use Rattle.code.specs.Encode.{EncodePost, encodeQuestions}
+use Rattle.code.specs.Encode.{EncodePost}
 use Rattle.code.proofs.Decoding.{length-element}
-use Rattle.code.proofs.Encodable.{accepted as encode-accepted}
+use Rattle.code.proofs.Around.{encodes}
 use Rattle.record.specs.Element.{Element, elementWith}
 use Rattle.server.specs.declared.Stepped.{Stepped}
 use Rattle.server.specs.Calls as server
@@ -110,11 +110,8 @@ module _ (cfg : Config) (s : ℕ) (start store : List ℕ) (pre : NodePre cfg s 
   -- its element is encoded
   pub encoded : (buffer after : List ℕ) (r : Verdict) → length buffer ≡ cfg .e → EncodePost cfg start s buffer after r → after ≡ element cfg start s
   encoded buffer after r long post =
-      post .buffer
-      ∙ ap (λ (b : Bool). cond b (element cfg start s) buffer)
-      (eq-eqb (firstNo (encodeQuestions cfg (length start) s (length buffer))) 0
-      (sym (encode-accepted cfg (length start) s (length buffer) (valid-asked cfg (pre .valid)) (pre .start-length) long
-      (within-low 1 (cfg .n) s (pre .inside)) (within-high 1 (cfg .n) s (pre .inside)))))
+      encodes cfg start s buffer after r post (pre .valid) (pre .start-length) long (within-low 1 (cfg .n) s (pre .inside))
+      (within-high 1 (cfg .n) s (pre .inside))
 
   -- and put into its store
   pub node-made : (me : ServerNumber) → serverNumber me ≡ s → (buffer after : List ℕ) → buffer ≡ element cfg start s → (r : Stepped)

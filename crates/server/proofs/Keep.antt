@@ -9,6 +9,8 @@ use borrow.Author.Tests.{le-leb, le-ltb, lt-leb, lt-ltb}
 use native.Mathlib.Decide.{decLe}
 use lib.Dec.{leb}
 use lib.ListN.{length}
+use Rattle.laws.specs.Parts.{over}
+use Rattle.laws.proofs.Parts.{over-length, part-fits}
 use Rattle.config.specs.declared.Config.{Config}
 use Rattle.tag.specs.declared.Tag.{Tag}
 use Rattle.tag.specs.Tag.{allowed, key}
@@ -17,14 +19,13 @@ use Rattle.record.specs.Element.{Element, elementWith}
 use Rattle.protocol.specs.Server.{Stored, atOrBelowFloor, dropSmallest, isStored, store as stores}
 use Rattle.server.specs.declared.State.{State}
 use Rattle.server.specs.inner.Keep.{AppendPost, DropSmallestPost, KeepPre, KeepPost, appended, dropped, lowest}
-use Rattle.server.specs.inner.Places.{Room, placeIn, putAt}
+use Rattle.server.specs.inner.Places.{Room, placeIn}
 use Rattle.server.specs.Within.{among, every}
 use Rattle.server.specs.View.{each, floorOf, placeAt, tagAt, tagsUsed, view}
 use Rattle.server.proofs.Each.{length-each, place-among, place-not-among}
 use Rattle.server.proofs.Limits.{state-allowed, state-count, state-eight, state-once}
 use Rattle.server.proofs.Keys.{small}
 use Rattle.server.proofs.Lists.{stored-among}
-use Rattle.server.proofs.Put.{place-below, put-long}
 use Rattle.server.proofs.Views.{another-view, append-view, itself-view}
 
 -- the place that a walk from 0 gives
@@ -101,7 +102,7 @@ module _ (cfg : Config) (s : State) (t : Tag) (n : ℕ) (element store : List �
             seen =
                 rw (a .state, a .store, not-stored, above-floor, many, lt-ltb (s .count) (cfg .d + 1) (omega arith))
                 (append-view cfg s store t n element (k .sized) (a .eight) eights fits);
-            long = ap length (a .store) ∙ put-long (s .count * cfg .e) (cfg .e) element store (k .sized) fits;
+            long = ap length (a .store) ∙ over-length (s .count * cfg .e) (cfg .e) element store (k .sized) fits;
           }
 
       pub room-drop : Room cfg (s .count) element store
@@ -117,26 +118,26 @@ module _ (cfg : Config) (s : State) (t : Tag) (n : ℕ) (element store : List �
       drop-view : (after : List ℕ) (r : State) → DropSmallestPost cfg s t n element store after r → view cfg r after ≡ dropSmallest key (view cfg s store) new
       drop-view after r d = elim (decLe (s .count) (lowest s t .place)) as (λ _. view cfg r after ≡ dropSmallest key (view cfg s store) new) [
         | yes le ↦
-            let x : after ≡ store = d .store ∙ ap (λ (z : Bool). cond z store (putAt (lowest s t .place * cfg .e) element store)) (le-leb (s .count) (lowest s t .place) le) in
+            let x : after ≡ store = d .store ∙ ap (λ (z : Bool). cond z store (over (lowest s t .place * cfg .e) (cfg .e) element store)) (le-leb (s .count) (lowest s t .place) le) in
             rw (d .state, x)
             (itself-view cfg s store t n element (k .sized) (d .eight) (cfg .c) (k .held .valid .c-high) tag-small all-allowed
             (state-once cfg s (k .held .within)) (nowhere p e h) le)
         | no gt ↦
             let lt : lowest s t .place < s .count = omega arith in
-            let x : after ≡ putAt (lowest s t .place * cfg .e) element store =
-            d .store ∙ ap (λ (z : Bool). cond z store (putAt (lowest s t .place * cfg .e) element store)) (lt-leb (s .count) (lowest s t .place) lt) in
+            let x : after ≡ over (lowest s t .place * cfg .e) (cfg .e) element store =
+            d .store ∙ ap (λ (z : Bool). cond z store (over (lowest s t .place * cfg .e) (cfg .e) element store)) (lt-leb (s .count) (lowest s t .place) lt) in
             rw (d .state, x)
             (another-view cfg s store t n element (k .sized) (d .eight) (cfg .c) (k .held .valid .c-high) tag-small all-allowed
             (state-once cfg s (k .held .within)) (nowhere p e h) lt (room-drop .n-high) (room-drop .fits))
       ]
 
       drop-long : (after : List ℕ) (r : State) → DropSmallestPost cfg s t n element store after r → length after ≡ length store
-      drop-long after r d = ap length (d .store) ∙ elim (decLe (s .count) (lowest s t .place)) as (λ _. length (cond (leb (s .count) (lowest s t .place)) store (putAt (lowest s t .place * cfg .e) element store)) ≡ length store) [
+      drop-long after r d = ap length (d .store) ∙ elim (decLe (s .count) (lowest s t .place)) as (λ _. length (cond (leb (s .count) (lowest s t .place)) store (over (lowest s t .place * cfg .e) (cfg .e) element store)) ≡ length store) [
         | yes le ↦ rw (le-leb (s .count) (lowest s t .place) le)
         | no gt ↦
             let lt : lowest s t .place < s .count = omega arith in
-            let fits : lowest s t .place * cfg .e + cfg .e ≤ length store = omega (arith, place-below (lowest s t .place) (s .count) (cfg .e) lt, room-drop .fits) in
-            rw (lt-leb (s .count) (lowest s t .place) lt) (put-long (lowest s t .place * cfg .e) (cfg .e) element store (k .sized) fits)
+            let fits : lowest s t .place * cfg .e + cfg .e ≤ length store = omega (arith, part-fits (lowest s t .place) (s .count) (cfg .e) lt, room-drop .fits) in
+            rw (lt-leb (s .count) (lowest s t .place) lt) (over-length (lowest s t .place * cfg .e) (cfg .e) element store (k .sized) fits)
       ]
 
       pub keep-drop : cfg .d < s .count → (after : List ℕ) (r : State) → DropSmallestPost cfg s t n element store after r → KeepPost cfg s t n element store after r

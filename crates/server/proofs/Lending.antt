@@ -7,6 +7,7 @@ use native.Mathlib.Nat.{mul-le-mul, mul-le-mul-right, zero-add}
 use native.Mathlib.Omega.{arith}
 use borrow.Author.Tests.{eq-eqb, ne-eqb}
 use lib.ListN.{length, take, drop, length-drop, length-take}
+use Rattle.laws.proofs.Parts as parts
 use Rattle.config.specs.declared.Config.{Config}
 use Rattle.config.specs.Questions.{firstNo}
 use Rattle.tag.specs.declared.Tag.{Tag}
@@ -21,7 +22,6 @@ use Rattle.server.specs.inner.Places.{placeIn}
 use Rattle.server.specs.View.{elementAt, placeAt, storedLength, tagsUsed, view}
 use Rattle.server.proofs.Limits.{state-allowed, state-count, state-eight}
 use Rattle.server.proofs.Lists.{element-found, element-missed}
-use Rattle.server.proofs.Put.{place-below}
 
 module _ (cfg : Config) (s : State) (t : Tag) (store : List ℕ) (held : ValidState cfg s store) (p : ℕ) where
   pub element-there : Small t → p ≡ placeIn t (tagsUsed s) → p < s .count → elementOf key t (view cfg s store .stored)
@@ -42,12 +42,12 @@ module _ (cfg : Config) (s : State) (t : Tag) (store : List ℕ) (held : ValidSt
   pub part-fits : p < s .count → p * cfg .e + cfg .e ≤ length store
   part-fits h =
       let m : s .count * cfg .e ≤ (cfg .d + 1) * cfg .e = mul-le-mul-right (cfg .e) (state-count cfg s (held .within)) in
-      omega (arith, held .long, place-below p (s .count) (cfg .e) h)
+      omega (arith, held .long, parts.part-fits p (s .count) (cfg .e) h)
 
   pub part-low : p < s .count → p * cfg .e + cfg .e ≤ 512
   part-low h =
       let m : s .count * cfg .e ≤ 512 = mul-le-mul (state-eight cfg s (held .within) (held .valid)) (held .valid .e-high) in
-      omega (arith, place-below p (s .count) (cfg .e) h)
+      omega (arith, parts.part-fits p (s .count) (cfg .e) h)
 
   pub part-is : take ((p * cfg .e + cfg .e) - p * cfg .e) (drop (p * cfg .e) store) ≡ elementAt cfg store p
   part-is =

@@ -14,7 +14,6 @@ mod Lending
 pub mod Limits
 mod Lists
 mod Owned
-mod Put
 mod Received
 mod Sent
 mod Spots

@@ -4,13 +4,14 @@ use mathlib.Core.Bool.{true, false}
 use mathlib.Core.List.{List, [], _∷_, _++_}
 use mathlib.Core.Logic.{inl, inr}
 use Prim.Native.Nat.{ℕ, _+_, _-_, _*_, _≤_, _<_}
-use native.Mathlib.Decide.{decLt}
 use native.Mathlib.Nat.{zero-add}
 use native.Mathlib.Omega.{arith}
 use borrow.Author.Tests.{eq-eqb, le-leb, lt-leb}
 use lib.Dec.{eqb}
 use lib.ListN.{length, set}
 use lib.Seq.{getD-set-other, getD-set-same}
+use Rattle.laws.specs.Parts.{over}
+use Rattle.laws.proofs.Parts.{part-fits, part-other, part-own}
 use Rattle.config.specs.declared.Config.{Config}
 use Rattle.tag.specs.declared.Tag.{Tag}
 use Rattle.tag.specs.Tag.{allowed, key, start}
@@ -19,19 +20,17 @@ use Rattle.record.specs.Element.{Element, elementWith}
 use Rattle.protocol.specs.Server.{Stored, addLast, dropSmallest, inPlaceOf, others, smallest}
 use Rattle.server.specs.declared.State.{State}
 use Rattle.server.specs.inner.Keep.{appended, dropped, lowest}
-use Rattle.server.specs.inner.Places.{putAt}
 use Rattle.server.specs.Within.{among, every, once}
-use Rattle.server.specs.View.{each, elementAt, floorOf, placeAt, tagAt, tagsUsed, view}
+use Rattle.server.specs.View.{each, floorOf, placeAt, tagAt, tagsUsed, view}
 use Rattle.server.proofs.Each.{Lowest, among-at, each-last, each-same, every-at, lowest-place}
 use Rattle.server.proofs.Keys.{same-eqb, small}
 use Rattle.server.proofs.Lists.{in-place, least-smallest}
-use Rattle.server.proofs.Put.{place-below, put-above, put-below, put-here}
 
 -- a tag and its element with a length at place p
 module _ (cfg : Config) (tags : List Tag) (lengths store : List ℕ) (p : ℕ) (t : Tag) (n : ℕ) (element : List ℕ) (sized : length element ≡ cfg .e)
     (fits : p * cfg .e + cfg .e ≤ length store) (within : p < length tags) (beside : p < length lengths) where
   abbrev after : ℕ → Stored Element
-  after = placeAt cfg (set tags p t) (set lengths p n) (putAt (p * cfg .e) element store)
+  after = placeAt cfg (set tags p t) (set lengths p n) (over (p * cfg .e) (cfg .e) element store)
 
   pub put-place : after p ≡ record { tag = t; element = elementWith n element }
   put-place =
@@ -40,22 +39,16 @@ module _ (cfg : Config) (tags : List Tag) (lengths store : List ℕ) (p : ℕ) (
         tag = getD-set-same tags p t start within i;
         element = record {
           length = getD-set-same lengths p n 0 beside i;
-          bytes = put-here (p * cfg .e) (cfg .e) element store sized fits i;
+          bytes = part-own (cfg .e) p element store sized fits i;
         };
       }
-
-  other-element : (j : ℕ) → (j ≡ p → ⊥) → elementAt cfg (putAt (p * cfg .e) element store) j ≡ elementAt cfg store j
-  other-element j ne = elim (decLt j p) as (λ _. elementAt cfg (putAt (p * cfg .e) element store) j ≡ elementAt cfg store j) [
-    | yes lt ↦ put-below (p * cfg .e) (cfg .e) element store sized fits (j * cfg .e) (place-below j p (cfg .e) lt)
-    | no ge ↦ put-above (p * cfg .e) (cfg .e) element store sized fits (j * cfg .e) (place-below p j (cfg .e) (omega arith))
-  ]
 
   pub other-place : (j : ℕ) → (j ≡ p → ⊥) → after j ≡ placeAt cfg tags lengths store j
   other-place j ne =
       λ i.
       record {
         tag = getD-set-other tags p j t start ne i;
-        element = record { length = getD-set-other lengths p j n 0 ne i; bytes = other-element j ne i };
+        element = record { length = getD-set-other lengths p j n 0 ne i; bytes = part-other (cfg .e) p element store sized fits j ne i };
       }
 
 module _ (cfg : Config) (s : State) (store : List ℕ) (t : Tag) (n : ℕ) (element : List ℕ) (sized : length element ≡ cfg .e)
@@ -69,10 +62,10 @@ module _ (cfg : Config) (s : State) (store : List ℕ) (t : Tag) (n : ℕ) (elem
 
   -- one more place
   pub append-view : s .count < 8 → s .count * cfg .e + cfg .e ≤ length store
-      → view cfg (appended s t n) (putAt (s .count * cfg .e) element store) ≡ addLast (view cfg s store) new
+      → view cfg (appended s t n) (over (s .count * cfg .e) (cfg .e) element store) ≡ addLast (view cfg s store) new
   unfolding view appended addLast
   append-view room fits =
-      let after = placeAt cfg (set (s .tags) (s .count) t) (set (s .lengths) (s .count) n) (putAt (s .count * cfg .e) element store) in
+      let after = placeAt cfg (set (s .tags) (s .count) t) (set (s .lengths) (s .count) n) (over (s .count * cfg .e) (cfg .e) element store) in
       let within : s .count < length (s .tags) = omega (arith, eight .0) in
       let beside : s .count < length (s .lengths) = omega (arith, eight .1) in
       let same-before : each after 0 (s .count) ≡ each old 0 (s .count) =
@@ -117,18 +110,18 @@ module _ (cfg : Config) (s : State) (store : List ℕ) (t : Tag) (n : ℕ) (elem
     place-by (inr w) h = w .2
 
     pub another-view : p < s .count → s .count ≤ 8 → s .count * cfg .e ≤ length store
-        → view cfg (dropped s t n) (putAt (p * cfg .e) element store) ≡ dropSmallest key (view cfg s store) new
+        → view cfg (dropped s t n) (over (p * cfg .e) (cfg .e) element store) ≡ dropSmallest key (view cfg s store) new
     unfolding view dropped dropSmallest others
     another-view h eights room =
         let is : tagAt (s .tags) p ≡ u = place-by place-is h in
-        let fits : p * cfg .e + cfg .e ≤ length store = omega (arith, place-below p (s .count) (cfg .e) h) in
+        let fits : p * cfg .e + cfg .e ≤ length store = omega (arith, part-fits p (s .count) (cfg .e) h) in
         let within : p < length (s .tags) = omega (arith, eight .0) in
         let beside : p < length (s .lengths) = omega (arith, eight .1) in
         let top : p < 0 + s .count = omega arith in
         let sp : Small (tagAt (s .tags) p) = small clients (tagAt (s .tags) p) high (every-at (tagAt (s .tags)) (allowed clients) 0 (s .count) p all (omega arith) top) in
         let k : eqb (key u) (key t) ≡ false =
         ap (λ (x : Tag). eqb (key x) (key t)) (sym is) ∙ sym (same-eqb (tagAt (s .tags) p) t sp st) ∙ among-at (tagAt (s .tags)) t 0 (s .count) p apart (omega arith) top in
-        let after = placeAt cfg (set (s .tags) p t) (set (s .lengths) p n) (putAt (p * cfg .e) element store) in
+        let after = placeAt cfg (set (s .tags) p t) (set (s .lengths) p n) (over (p * cfg .e) (cfg .e) element store) in
         let taken : inPlaceOf key u new (each old 0 (s .count)) ≡ each after 0 (s .count) =
         in-place clients high old u new after p is (put-place cfg (s .tags) (s .lengths) store p t n element sized fits within beside)
         (other-place cfg (s .tags) (s .lengths) store p t n element sized fits within beside) 0 (s .count) all one (omega arith) top in

@@ -2,7 +2,8 @@
 use tag::Tag;
 ghost use mathlib.Core.Path.{_≡_};
 ghost use Prim.Native.Nat.{_+_, _-_, _*_, _≤_};
-ghost use Rattle.server.specs.inner.Places.{Room, leastFrom, placeIn, putAt};
+ghost use Rattle.laws.specs.Parts.{over};
+ghost use Rattle.server.specs.inner.Places.{Room, leastFrom, placeIn};
 ghost use Rattle.server.specs.View.{each, tagAt};
 use config::Config;
 
@@ -53,7 +54,7 @@ pub(crate) fn lowest(t: Tag, count: usize, tags: [Tag; 8]) -> Least
 // Writes an element to its place in the store.
 pub(crate) fn put(cfg: Config, place: usize, element: &[u8], store: &mut [u8])
     requires { ⌜ Room cfg (place + 1) (now element) (now store) ⌝ }
-    ensures { λ _. ⌜ now (store .exit) ≡ putAt (place * cfg .e) (now (element .entry)) (now (store .entry)) ⌝ }
+    ensures { λ _. ⌜ now (store .exit) ≡ over (place * cfg .e) (cfg .e) (now (element .entry)) (now (store .entry)) ⌝ }
 {
     let from = place * cfg.e;
     let end = from + cfg.e;

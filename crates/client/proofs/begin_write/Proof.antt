@@ -10,6 +10,7 @@ use borrow.Author.Tests.{eqb-true}
 use lib.Dec.{leb}
 use lib.ListN.{length}
 use Rattle.laws.proofs.Bools.{and-left, and-right}
+use Rattle.laws.proofs.Parts.{copied}
 use Rattle.config.specs.Config.{boardLength}
 use Rattle.config.specs.Questions.{firstNo, numbered}
 use Rattle.config.proofs.Questions.{yes-next}
@@ -18,7 +19,7 @@ use Rattle.protocol.specs.Client.{beginQuestions}
 use Rattle.protocol.proofs.Cut.{cut-again}
 use Rattle.client.specs.Questions.{beginWriteQuestions, isBoard, isSends}
 use Rattle.client.specs.State.{bare}
-use Rattle.client.proofs.Answers.{announces, asks, begin-numbered, begin-refused, begun, copied, operation-below, passes}
+use Rattle.client.proofs.Answers.{announces, asks, begin-numbered, begin-refused, begun, operation-below, passes}
 use borrow.Author.Needs.{needs}
 use Rattle.client.proofs.begin_write.Statement.{statement}
 use Rattle.client.proofs.begin_write.Tie as tie
@@ -61,7 +62,7 @@ returns-2 : tie.Need-returns-2
 returns-2 c es = let e = c .before .before .before .before .before .before .before .before .before .before .before .before .before .before in
     let a = s e .args in
     let n = a .length in
-    let copy = c .before .before .before .before .before .before .before .before .before .before .before .before .copy .ensures .1 ∙ copied (now (a .board)) (now (a .kept)) (copy-length e) in
+    let copy = c .before .before .before .before .before .before .before .before .before .before .before .before .copy .ensures .1 ∙ copied (now (a .board)) (now (a .kept)) _ refl (sym (copy-length e)) in
     let same = c .before .before .before .before .before .before .before .before .cut .ensures ∙ ap (cut n) copy in
     begun _ _ _ _ (pass e) (some (boardOf n (now (a .board)))) (now (a .kept)) _ es (now (a .sends)) refl refl refl same
     (asks _ (a .state) (passes _ _ _ _ (pass e) .2) true n (then e .0) _ _ _ es _ []

@@ -5,6 +5,7 @@ use mathlib.Core.Path.{_≡_}
 use mathlib.Core.Option.{Option, none, some}
 use mathlib.Core.List.{List}
 use lib.ListN.{length}
+use Rattle.laws.specs.Parts.{over}
 use Rattle.config.specs.declared.Config.{Config}
 use Rattle.config.specs.Config.{Valid, boardLength, recordLength, sendsLength}
 use Rattle.config.specs.Number.{clientNumber}
@@ -90,9 +91,9 @@ pub record AddressPre (cfg : Config) (b : Broadcast) (s : ℕ) (buffer : List �
   pub high : s ≤ cfg .n
   pub room : length buffer ≡ recordLength
 
--- the element that a buffer holds, if each gets one, is that of server s
-pub record FillPost (cfg : Config) (b : Broadcast) (s : ℕ) (board buffer : List ℕ) : Type 0 where
-  pub element : addressed cfg b s buffer ≡ messageTo cfg b board s
+-- "at offset 16 of their records": the record's bytes with the element of server s in its place, if each gets one; those around it stay
+abbrev pub filled : Config → Broadcast → ℕ → List ℕ → List ℕ → List ℕ
+filled cfg b s board buffer = cond (b .element) (over 16 (cfg .e) (element cfg board s) buffer) buffer
 
 -- a pre-write has a board to take elements from, of a length that fits
 abbrev pub Opens : Config → Phase → ℕ → List ℕ → Type 0

@@ -20,14 +20,14 @@ returns : tie.Need-returns
 returns c =
     let x = c .before .before .before .before .before .args in
     let a =
-    refused (firstNo (encodeQuestions (x .cfg) (length (x .board .now)) (x .s) (length (x .buffer .now)))) (element (x .cfg) (x .board .now) (x .s)) (x .buffer .now) (answer-given (x .cfg) (length (x .board .now)) (x .s) (length (x .buffer .now)))
+    refused (firstNo (encodeQuestions (x .cfg) (length (x .board .now)) (x .s) (length (x .part .now)))) (element (x .cfg) (x .board .now) (x .s)) (x .part .now) (answer-given (x .cfg) (length (x .board .now)) (x .s) (length (x .part .now)))
     (c .before .before .encode .result) (c .of .result) (c .before .before .encode .ensures) (c .before .if1 .taken) (c .of .ensures) in
-    record { number = a .0; buffer = a .1 }
+    record { number = a .0; part = a .1 }
 
 encode-requires-2 : tie.Need-encode-requires-2
 encode-requires-2 c κs =
     let x = c .before .before .before .before .before .args in
-    encodable (x .cfg) (length (x .board .now)) (x .s) (length (x .buffer .now)) (sym (c .before .before .encode .ensures) ∙ c .before .if1 .left)
+    encodable (x .cfg) (length (x .board .now)) (x .s) (length (x .part .now)) (sym (c .before .before .encode .ensures) ∙ c .before .if1 .left)
 
 same-length : tie.Need-same-length
 same-length c = search needs
@@ -36,9 +36,9 @@ returns-2 : tie.Need-returns-2
 returns-2 c =
     let x = c .before .before .before .before .before .before .before .before .args in
     let a =
-    accepted (firstNo (encodeQuestions (x .cfg) (length (x .board .now)) (x .s) (length (x .buffer .now)))) (element (x .cfg) (x .board .now) (x .s)) (x .buffer .now) _
+    accepted (firstNo (encodeQuestions (x .cfg) (length (x .board .now)) (x .s) (length (x .part .now)))) (element (x .cfg) (x .board .now) (x .s)) (x .part .now) _
     (sym (c .before .before .before .before .before .encode .ensures) ∙ c .before .before .before .before .if1 .left) (c .before .before .encode2 .ensures) in
-    record { number = a .0; buffer = a .1 }
+    record { number = a .0; part = a .1 }
 
 pub encode-spec : {M : Type 1} → statement M
 encode-spec =

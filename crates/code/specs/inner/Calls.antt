@@ -9,10 +9,10 @@ use Rattle.config.specs.Config.{boardLength, Valid}
 use Rattle.code.specs.Decoded.{rising}
 
 -- encoding: its questions are all answered yes
-pub record EncodePre (cfg : Config) (board s buffer : ℕ) : Type 0 where
+pub record EncodePre (cfg : Config) (board s part : ℕ) : Type 0 where
   pub valid : Valid cfg
   pub board-length : board ≡ boardLength cfg
-  pub buffer-length : buffer ≡ cfg .e
+  pub part-length : part ≡ cfg .e
   pub server-low : 1 ≤ s
   pub server-high : s ≤ cfg .n
 

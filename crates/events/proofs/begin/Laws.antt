@@ -12,7 +12,7 @@ use lib.Dec.{eqb, leb}
 use lib.ListN.{length, take, drop, length-drop, length-map}
 use lib.Seq.{drop-at, length-take-le}
 use Rattle.laws.specs.Parts.{over, part}
-use Rattle.laws.proofs.Parts.{over-length}
+use Rattle.laws.proofs.Parts.{over-length, over-same}
 use Rattle.config.specs.declared.Config.{Config}
 use Rattle.config.specs.declared.Refusal.{Refusal}
 use Rattle.config.specs.Config.{boardLength}
@@ -48,7 +48,7 @@ use Rattle.events.specs.inner.Part.{acting, refusing}
 use Rattle.events.specs.inner.Turn.{Ready}
 use Rattle.events.proofs.Clients.{idleOf, ask-number, ask-numbered, begin-asked, read-number, write-number}
 use Rattle.events.proofs.Numbers.{early-number, long-number}
-use Rattle.events.proofs.Pairs.{Back, back-same, client-at, over-same, partsOf}
+use Rattle.events.proofs.Pairs.{Back, back-same, client-at, partsOf}
 use Rattle.events.proofs.Ready.{board-long, client-below, client-me, client-within, is-valid, kept-long, messages-long, party-client, server-below}
 use Rattle.events.proofs.Sends.{records-out}
 use Rattle.events.proofs.outcome.Laws.{Moves, acted-on, acted-turn, full-no, refused-on, sends-many, sends-out, sends-sound}

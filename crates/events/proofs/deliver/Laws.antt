@@ -13,6 +13,7 @@ use lib.Seq.{drop-at, length-take-le}
 use Rattle.laws.specs.Lists.{without}
 use Rattle.laws.specs.Parts.{over, part}
 use Rattle.laws.proofs.Lists.{length-without, map-without}
+use Rattle.laws.proofs.Parts.{over-same}
 use Rattle.config.specs.declared.Config.{Config}
 use Rattle.config.specs.declared.Refusal.{Refusal}
 use Rattle.config.specs.Config.{boardLength, questions, storeLength}
@@ -52,7 +53,7 @@ use Rattle.events.specs.inner.Deliver.{HandOverPost, HandedPre, SettlePo
 use Rattle.events.specs.inner.Part.{acting, refusing}
 use Rattle.events.specs.inner.Turn.{Ready}
 use Rattle.events.proofs.Numbers.{ill-number, missing, position-there}
-use Rattle.events.proofs.Pairs.{Back, over-same, partsOf}
+use Rattle.events.proofs.Pairs.{Back, partsOf}
 use Rattle.events.proofs.Ready.{client-me, client-within, count-below, count-fits, is-valid, kept-long, messages-long, read-long, received-long, server-kept, server-me, store-long}
 use Rattle.events.proofs.Sends.{records-out}
 use Rattle.events.proofs.named.Laws.{by-record, place-back}

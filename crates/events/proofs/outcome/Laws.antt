@@ -13,7 +13,7 @@ use lib.Dec.{eqb, leb}
 use lib.ListN.{length, length-append, length-map}
 use Rattle.laws.specs.Parts.{over}
 use Rattle.laws.proofs.Bools.{and-left, and-right}
-use Rattle.laws.proofs.Parts.{over-length, part-fits}
+use Rattle.laws.proofs.Parts.{over-same, over-length, part-fits}
 use Rattle.config.specs.declared.Config.{Config}
 use Rattle.config.specs.declared.Refusal.{Refusal}
 use Rattle.config.specs.Config.{boardLength}
@@ -53,7 +53,7 @@ use Rattle.events.specs.inner.Part.{acting, refusing}
 use Rattle.events.specs.inner.Turn.{Ready, TurnPost}
 use Rattle.events.proofs.RigWithin.{clients-taken, part-within, servers-taken}
 use Rattle.events.proofs.Numbers.{accepted-number, early-number, full-number}
-use Rattle.events.proofs.Pairs.{Back, another, over-same, partsOf, put-among, put-same}
+use Rattle.events.proofs.Pairs.{Back, another, partsOf, put-among, put-same}
 use Rattle.events.proofs.Ready.{boards-long, client-below, client-me, elements-long, is-valid, is-within, kept-long, own-among, pair-within, received-long, server-below, server-me, store-long, stores-long}
 use Rattle.events.proofs.Sends.{messages-behind, room-out}
 

@@ -5,6 +5,7 @@ use mathlib.Core.Path.{_≡_}
 use mathlib.Core.List.{List}
 use lib.Dec.{leb}
 use lib.ListN.{length, set}
+use Rattle.laws.specs.Parts.{over}
 use Rattle.config.specs.declared.Config.{Config}
 use Rattle.tag.specs.declared.Tag.{Tag}
 use Rattle.tag.specs.Tag.{allowed, key}
@@ -15,7 +16,7 @@ use Rattle.server.specs.declared.State.{State}
 use Rattle.server.specs.declared.places.Least.{Least}
 use Rattle.server.specs.Within.{ValidState}
 use Rattle.server.specs.View.{tagsUsed, view}
-use Rattle.server.specs.inner.Places.{leastFrom, putAt}
+use Rattle.server.specs.inner.Places.{leastFrom}
 
 -- t at the first free place, with its length
 unfoldable pub appended : State → Tag → ℕ → State
@@ -31,7 +32,7 @@ appended s t n =
 
 pub record AppendPost (cfg : Config) (s : State) (t : Tag) (n : ℕ) (element before after : List ℕ) (r : State) : Type 0 where
   pub state : r ≡ appended s t n
-  pub store : after ≡ putAt (s .count * cfg .e) element before
+  pub store : after ≡ over (s .count * cfg .e) (cfg .e) element before
   pub eight : (length (s .tags) ≡ 8) × (length (s .lengths) ≡ 8)
 
 -- the lowest of t and the stored tags; t's place is taken for the count
@@ -52,7 +53,7 @@ dropped s t n =
 
 pub record DropSmallestPost (cfg : Config) (s : State) (t : Tag) (n : ℕ) (element before after : List ℕ) (r : State) : Type 0 where
   pub state : r ≡ dropped s t n
-  pub store : after ≡ cond (leb (s .count) (lowest s t .place)) before (putAt (lowest s t .place * cfg .e) element before)
+  pub store : after ≡ cond (leb (s .count) (lowest s t .place)) before (over (lowest s t .place * cfg .e) (cfg .e) element before)
   pub eight : (length (s .tags) ≡ 8) × (length (s .lengths) ≡ 8)
 
 -- a tag and its element, to be stored

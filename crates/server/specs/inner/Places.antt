@@ -1,9 +1,9 @@
 -- The places of stored tags, and of their elements in the store.
-use Prim.Native.Nat.{ℕ, suc, _+_, _*_, _≤_}
+use Prim.Native.Nat.{ℕ, suc, _*_, _≤_}
 use mathlib.Core.Bool.{cond}
 use mathlib.Core.Path.{_≡_}
-use mathlib.Core.List.{List, [], _∷_, _++_}
-use lib.ListN.{length, take, drop}
+use mathlib.Core.List.{List, [], _∷_}
+use lib.ListN.{length}
 use Rattle.config.specs.declared.Config.{Config}
 use Rattle.tag.specs.declared.Tag.{Tag}
 use Rattle.tag.specs.Tag.{above, same}
@@ -18,10 +18,6 @@ placeIn t (x ∷ xs) = cond (same x t) 0 (suc (placeIn t xs))
 unfoldable pub leastFrom : Tag → ℕ → ℕ → List Tag → Least
 leastFrom t p i [] = record { tag = t; place = p }
 leastFrom t p i (x ∷ xs) = cond (above t x) (leastFrom x i (suc i) xs) (leastFrom t p (suc i) xs)
-
--- bytes with others in the place of those from a on
-abbrev pub putAt : ℕ → List ℕ → List ℕ → List ℕ
-putAt a new bs = take a bs ++ (new ++ drop (a + length new) bs)
 
 -- a store has room for n elements like this one
 pub record Room (cfg : Config) (n : ℕ) (element store : List ℕ) : Type 0 where

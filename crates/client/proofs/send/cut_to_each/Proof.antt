@@ -1,16 +1,16 @@
 use denote.Ref.{now}
-use mathlib.Core.Path.{_≡_, sym, ap, _∙_}
+use mathlib.Core.Path.{_≡_, refl, sym, ap, _∙_}
 use mathlib.Core.List.{List}
 use Prim.Native.Nat.{ℕ}
 use native.Mathlib.Nat.{le-of-eq}
 use lib.ListN.{length}
+use Rattle.laws.proofs.Parts.{copied}
 use Rattle.config.specs.declared.Config.{Config}
 use Rattle.protocol.specs.Boards.{cut}
 use Rattle.protocol.proofs.Cut.{length-cut}
 use Rattle.client.specs.declared.send.Broadcast.{Broadcast}
 use Rattle.client.specs.Send.{recordsOf}
 use Rattle.client.specs.inner.Send.{ToEachPre, broadcast}
-use Rattle.client.proofs.Answers.{copied}
 use borrow.Author.Needs.{needs}
 use Rattle.client.proofs.send.cut_to_each.Statement.{statement}
 use Rattle.client.proofs.send.cut_to_each.Tie as tie
@@ -27,7 +27,7 @@ module _ (c : tie.After-cut) where
   whole : c .cut .last .1 .0 ≡ cut (s .args .b .length) (now (s .args .board))
   whole =
       c .cut .ensures
-      ∙ ap (cut (s .args .b .length)) (c .before .before .before .before .copy .ensures .1 ∙ copied (now (s .args .board)) (now (s .args .whole)) (sym (s .pre .1)))
+      ∙ ap (cut (s .args .b .length)) (c .before .before .before .before .copy .ensures .1 ∙ copied (now (s .args .board)) (now (s .args .whole)) _ refl (s .pre .1))
 
 pub cut-to-each-spec : {M : Type 1} → statement M
 cut-to-each-spec =

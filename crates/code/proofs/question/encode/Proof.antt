@@ -6,7 +6,7 @@ use borrow.Author.Tests.{not-true, not-false}
 use lib.Dec.{lit<}
 use Rattle.config.proofs.Valid.{valid}
 use Rattle.code.proofs.Asked.{rows-small}
-use Rattle.code.proofs.Encodable.{refused, wrong-board, wrong-buffer, no-server, some-server}
+use Rattle.code.proofs.Encodable.{refused, wrong-board, wrong-part, no-server, some-server}
 use borrow.Author.Needs.{needs}
 use Rattle.code.proofs.question.encode.Statement.{statement}
 use Rattle.code.proofs.question.encode.Tie as tie
@@ -17,7 +17,7 @@ ask-requires c κs = search needs
 returns : tie.Need-returns
 returns c =
     let x = c .before .before .args in
-    refused (x .cfg) (x .board) (x .s) (x .buffer) (c .before .ask .result) (c .before .ask .ensures) (c .if1 .taken)
+    refused (x .cfg) (x .board) (x .s) (x .part) (c .before .ask .result) (c .before .ask .ensures) (c .if1 .taken)
 
 mul-if2 : tie.Need-mul-if2
 mul-if2 c =
@@ -27,12 +27,12 @@ mul-if2 c =
 returns-2 : tie.Need-returns-2
 returns-2 c =
     let x = c .before .before .before .before .args in
-    wrong-board (x .cfg) (x .board) (x .s) (x .buffer) (sym (c .before .before .before .ask .ensures) ∙ c .before .before .if1 .left) (c .if2 .taken)
+    wrong-board (x .cfg) (x .board) (x .s) (x .part) (sym (c .before .before .before .ask .ensures) ∙ c .before .before .if1 .left) (c .if2 .taken)
 
 returns-3 : tie.Need-returns-3
 returns-3 c =
     let x = c .before .before .before .before .before .before .args in
-    wrong-buffer (x .cfg) (x .board) (x .s) (x .buffer) (sym (c .before .before .before .before .before .ask .ensures) ∙ c .before .before .before .before .if1 .left) (c .if3 .taken)
+    wrong-part (x .cfg) (x .board) (x .s) (x .part) (sym (c .before .before .before .before .before .ask .ensures) ∙ c .before .before .before .before .if1 .left) (c .if3 .taken)
 
 server-exists-requires : tie.Need-server-exists-requires
 server-exists-requires c κs = search needs
@@ -41,14 +41,14 @@ returns-4 : tie.Need-returns-4
 returns-4 c =
     let d = c .before .before in
     let x = d .before .before .before .before .before .before .args in
-    no-server (x .cfg) (x .board) (x .s) (x .buffer) (sym (d .before .before .before .before .before .ask .ensures) ∙ d .before .before .before .before .if1 .left) (d .before .before .if2 .left) (d .if3 .left)
+    no-server (x .cfg) (x .board) (x .s) (x .part) (sym (d .before .before .before .before .before .ask .ensures) ∙ d .before .before .before .before .if1 .left) (d .before .before .if2 .left) (d .if3 .left)
     (sym (c .before .server-exists .ensures) ∙ not-true _ (c .if4 .taken))
 
 returns-5 : tie.Need-returns-5
 returns-5 c =
     let d = c .before .before in
     let x = d .before .before .before .before .before .before .args in
-    some-server (x .cfg) (x .board) (x .s) (x .buffer) (sym (d .before .before .before .before .before .ask .ensures) ∙ d .before .before .before .before .if1 .left) (d .before .before .if2 .left) (d .if3 .left)
+    some-server (x .cfg) (x .board) (x .s) (x .part) (sym (d .before .before .before .before .before .ask .ensures) ∙ d .before .before .before .before .if1 .left) (d .before .before .if2 .left) (d .if3 .left)
     (sym (c .before .server-exists .ensures) ∙ not-false _ (c .if4 .left))
 
 pub encode-spec : {M : Type 1} → statement M

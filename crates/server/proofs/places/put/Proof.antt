@@ -2,7 +2,7 @@ use borrow.Author.Needs.{needs}
 use Prim.Native.Nat.{_+_, _*_, _≤_}
 use native.Mathlib.Omega.{arith}
 use lib.ListN.{length}
-use Rattle.server.proofs.Put.{put-part}
+use Rattle.laws.proofs.Parts.{over-copied}
 use Rattle.server.proofs.places.put.Statement.{statement}
 use Rattle.server.proofs.places.put.Tie as tie
 
@@ -31,7 +31,7 @@ returns : tie.Need-returns
 returns c =
     let s = c .before .before .before .before .before .before .before .before in
     let f : s .args .place * s .args .cfg .e + s .args .cfg .e ≤ length (s .args .store .now) = omega (arith, s .pre .fits) in
-    put-part (s .args .place * s .args .cfg .e) (s .args .cfg .e) (s .args .element .now) (s .args .store .now) _ (s .pre .sized) f (c .before .before .copy .ensures .1)
+    over-copied (s .args .place * s .args .cfg .e) (s .args .cfg .e) (s .args .element .now) (s .args .store .now) _ (s .pre .sized) f (c .before .before .copy .ensures .1)
 
 pub put-spec : {M : Type 1} → statement M
 put-spec =

@@ -8,12 +8,12 @@ use native.Mathlib.Omega.{arith}
 use borrow.Author.Tests.{le-leb, lt-leb}
 use lib.ListN.{length, set}
 use lib.Dec.{leb}
+use Rattle.laws.specs.Parts.{over}
 use Rattle.config.specs.declared.Config.{Config}
 use Rattle.tag.specs.declared.Tag.{Tag}
 use Rattle.server.specs.declared.State.{State}
 use Rattle.server.specs.declared.places.Least.{Least}
 use Rattle.server.specs.inner.Keep.{DropSmallestPost, dropped, floored, lowest}
-use Rattle.server.specs.inner.Places.{putAt}
 use Rattle.server.proofs.Owned.{eight-places}
 use Rattle.server.proofs.serve.drop_smallest.Statement.{statement}
 use Rattle.server.proofs.serve.drop_smallest.Tie as tie
@@ -31,14 +31,14 @@ module _ (cfg : Config) (s : State) (t : Tag) (n : ℕ) (element before after : 
         eight = eight;
       }
 
-  another : l .place < s .count → after ≡ putAt (l .place * cfg .e) element before
+  another : l .place < s .count → after ≡ over (l .place * cfg .e) (cfg .e) element before
       → DropSmallestPost cfg s t n element before after (floored s (l .tag) (set (s .tags) (l .place) t) (set (s .lengths) (l .place) n))
   unfolding dropped
   another h e =
       let b : leb (s .count) (lowest s t .place) ≡ Bool.false = ap (λ (x : Least). leb (s .count) (x .place)) (sym is) ∙ lt-leb (s .count) (l .place) h in
       record {
         state = rw b (ap (λ (x : Least). floored s (x .tag) (set (s .tags) (x .place) t) (set (s .lengths) (x .place) n)) is);
-        store = rw b (e ∙ ap (λ (x : Least). putAt (x .place * cfg .e) element before) is);
+        store = rw b (e ∙ ap (λ (x : Least). over (x .place * cfg .e) (cfg .e) element before) is);
         eight = eight;
       }
 

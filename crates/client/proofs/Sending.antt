@@ -79,13 +79,9 @@ module _ (cfg : Config) (b : Broadcast) (ok : Sendable cfg b) (server : Server) 
 
 -- ---- the element in its record
 
--- a record with the element of server s in its place, or as it was
-abbrev filledIf : Bool → Config → ℕ → List ℕ → List ℕ → List ℕ
-filledIf has cfg s board buffer = cond has (over 16 (cfg .e) (element cfg board s) buffer) buffer
-
 -- nothing to encode
-pub none-filled : (cfg : Config) (b : Broadcast) (s : ℕ) (board buffer : List ℕ) → b .element ≡ false → buffer ≡ filled cfg b s board buffer
-none-filled cfg b s board buffer h = sym (ap (λ (has : Bool). filledIf has cfg s board buffer) h)
+pub none-filled : (cfg : Config) (each : Bool) (s : ℕ) (board buffer : List ℕ) → each ≡ false → buffer ≡ filled cfg each s board buffer
+none-filled cfg each s board buffer h = sym (ap (λ (b : Bool). filled cfg b s board buffer) h)
 
 module _ (cfg : Config) (b : Broadcast) (s : ℕ) (board buffer : List ℕ) (ok : ToOnePre cfg b s board buffer) where
   room : 16 + cfg .e ≤ length buffer
@@ -96,19 +92,19 @@ module _ (cfg : Config) (b : Broadcast) (s : ℕ) (board buffer : List ℕ) (ok 
 
   -- encoded at 16, as the code puts back what it lends
   pub encoded : b .element ≡ true → (part : List ℕ) (r : Verdict) → EncodePost cfg board s (take (16 + cfg .e - 16) (drop 16 buffer)) part r
-      → take 16 buffer ++ (part ++ drop (16 + cfg .e - 16) (drop 16 buffer)) ≡ filled cfg b s board buffer
+      → take 16 buffer ++ (part ++ drop (16 + cfg .e - 16) (drop 16 buffer)) ≡ filled cfg (b .element) s board buffer
   encoded has part r post =
       encodes-over cfg board s 16 (16 + cfg .e - 16) buffer part r (omega (arith, room)) post (ok .goes .valid) (ok .board-length has) lent (ok .low) (ok .high)
       ∙ ap (λ (n : ℕ). over 16 n (element cfg board s) buffer) lent
-      ∙ sym (ap (λ (h : Bool). filledIf h cfg s board buffer) has)
+      ∙ sym (ap (λ (each : Bool). filled cfg each s board buffer) has)
 
   -- the message is then that to server s
-  pub filled-message : addressed cfg b s (filled cfg b s board buffer) ≡ messageTo cfg b board s
+  pub filled-message : addressed cfg b s (filled cfg (b .element) s board buffer) ≡ messageTo cfg b board s
   filled-message = go (b .element)
     where
-      go : (has : Bool)
-          → withElementOf b s (cond has (some (elementWith (b .length) (elementIn cfg (filledIf has cfg s board buffer)))) none)
-          ≡ withElementOf b s (cond has (some (elementWith (b .length) (element cfg board s))) none)
+      go : (each : Bool)
+          → withElementOf b s (cond each (some (elementWith (b .length) (elementIn cfg (filled cfg each s board buffer)))) none)
+          ≡ withElementOf b s (cond each (some (elementWith (b .length) (element cfg board s))) none)
       go true =
           ap (λ (e : List ℕ). withElementOf b s (some (elementWith (b .length) e)))
           (over-there 16 (cfg .e) (element cfg board s) buffer (length-element cfg board s) room)

@@ -125,7 +125,7 @@ fn to_one(cfg: Config, b: Broadcast, s: u8, board: &[u8], buffer: &mut [u8])
 // Encodes the element of server s, if the message has one, where it stands in its record.
 fn fill(cfg: Config, b: Broadcast, s: u8, board: &[u8], buffer: &mut [u8])
     requires { ⌜ ToOnePre cfg b s (now board) (now buffer) ⌝ }
-    ensures { λ _. ⌜ now (buffer .exit) ≡ filled cfg b s (now (board .entry)) (now (buffer .entry)) ⌝ }
+    ensures { λ _. ⌜ now (buffer .exit) ≡ filled cfg (b .element) s (now (board .entry)) (now (buffer .entry)) ⌝ }
 {
     if !b.element {
         return;

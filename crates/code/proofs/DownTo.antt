@@ -29,11 +29,12 @@ not-first : (e i at : ℕ) → at ≡ i * e → 0 < at → 0 < i
 not-first e zero at p h = absurd (omega (arith, zero-mul e))
 not-first e (suc i) at p h = omega arith
 
-module _ (cfg : Config) (board : List ℕ) (s long : ℕ) (h : EncodePre cfg (length board) s long) where
-  -- the part keeps its length
-  pub down-long : (part : List ℕ) (at : ℕ) → DownTo cfg board s part at → length part ≡ cfg .e
-  down-long part at d = ap length (d .holds) ∙ length-tabulate (cfg .e) (λ j. value byteField (drop (d .i) (column (cfg .k) (cfg .e) board j)) s)
+-- the part keeps its length
+pub down-long : (cfg : Config) (board : List ℕ) (s : ℕ) (part : List ℕ) (at : ℕ) → DownTo cfg board s part at → length part ≡ cfg .e
+down-long cfg board s part at d =
+    ap length (d .holds) ∙ length-tabulate (cfg .e) (λ j. value byteField (drop (d .i) (column (cfg .k) (cfg .e) board j)) s)
 
+module _ (cfg : Config) (board : List ℕ) (s long : ℕ) (h : EncodePre cfg (length board) s long) where
   -- ---- the last row
   abbrev last : ℕ
   last = cfg .k - 1

@@ -1,13 +1,14 @@
 -- A server's answers: they are messages of the configuration, and what a read finalise answers. Assumes nothing.
 use mathlib.Core.Path.{_≡_, refl, sym, _∙_, ap, subst}
 use mathlib.Core.Bool.{true, false}
-use mathlib.Core.List.{List, [], _++_, append-nil}
+use mathlib.Core.List.{List, _++_}
 use mathlib.Core.Option.{Option, none, some}
 use Prim.Native.Nat.{ℕ, _-_, _≤_}
 use native.Mathlib.Omega.{arith}
 use lib.Dec.{leb}
-use lib.ListN.{length, take, drop, drop-of-length-le, length-append, length-drop, length-take}
-use lib.Seq.{drop-at, length-take-le, take-at, take-length}
+use lib.ListN.{length, take, drop}
+use Rattle.laws.specs.Parts.{over}
+use Rattle.laws.proofs.Parts.{over-copied-rest, over-length, over-there}
 use Rattle.config.specs.declared.Config.{Config}
 use Rattle.config.specs.declared.Server.{Server as ServerNumber}
 use Rattle.config.specs.Config.{Valid}
@@ -68,34 +69,14 @@ module _ (e : ℕ) (high : e ≤ 64) (answer src part : List ℕ) (eighty : leng
   abbrev copied : List ℕ
   copied = take 16 answer ++ (part ++ drop (length answer - 16) (drop 16 answer))
 
-  front : length (take 16 answer) ≡ 16
-  front = length-take-le 16 answer (omega arith)
-
-  nothing-after : drop (length answer - 16) (drop 16 answer) ≡ []
-  nothing-after = drop-of-length-le (drop 16 answer) {i = length answer - 16} (omega (arith, length-drop 16 answer))
-
-  part-is : part ≡ src ++ drop (length src) (take (length answer - 16) (drop 16 answer))
-  part-is = is ∙ ap (λ (l : List ℕ). l ++ drop (length src) (take (length answer - 16) (drop 16 answer))) (take-length src)
+  is-over : copied ≡ over 16 e src answer
+  is-over = over-copied-rest 16 e src answer part sized-src (omega arith) is
 
   pub copied-long : length copied ≡ 80
-  copied-long =
-      ap (λ (l : List ℕ). length (take 16 answer ++ (part ++ l))) nothing-after ∙ ap (λ (l : List ℕ). length (take 16 answer ++ l)) (append-nil part)
-      ∙ ap (λ (l : List ℕ). length (take 16 answer ++ l)) part-is
-      ∙ length-append (take 16 answer) (src ++ drop (length src) (take (length answer - 16) (drop 16 answer)))
-      ∙ omega (
-        arith,
-        front,
-        length-append src (drop (length src) (take (length answer - 16) (drop 16 answer))),
-        length-drop (length src) (take (length answer - 16) (drop 16 answer)),
-        length-take (length answer - 16) (drop 16 answer),
-        length-drop 16 answer,
-      )
+  copied-long = ap length is-over ∙ over-length 16 e src answer sized-src (omega arith) ∙ eighty
 
   pub copied-element : take e (drop 16 copied) ≡ src
-  copied-element =
-      ap (λ (l : List ℕ). take e l) (drop-at (take 16 answer) (part ++ drop (length answer - 16) (drop 16 answer)) 16 front)
-      ∙ ap (λ (l : List ℕ). take e (part ++ l)) nothing-after ∙ ap (λ (l : List ℕ). take e l) (append-nil part ∙ part-is)
-      ∙ take-at src (drop (length src) (take (length answer - 16) (drop 16 answer))) e sized-src
+  copied-element = ap (λ (l : List ℕ). take e (drop 16 l)) is-over ∙ over-there 16 e src answer sized-src (omega arith)
 
 -- what a read finalise leaves, by what is stored
 module _ (cfg : Config) (s after : State) (h : Header) (store : List ℕ) (is : after ≡ raised s (h .tag)) where

@@ -92,8 +92,8 @@ pub record AddressPre (cfg : Config) (b : Broadcast) (s : ℕ) (buffer : List �
   pub room : length buffer ≡ recordLength
 
 -- "at offset 16 of their records": the record's bytes with the element of server s in its place, if each gets one; those around it stay
-abbrev pub filled : Config → Broadcast → ℕ → List ℕ → List ℕ → List ℕ
-filled cfg b s board buffer = cond (b .element) (over 16 (cfg .e) (element cfg board s) buffer) buffer
+abbrev pub filled : Config → Bool → ℕ → List ℕ → List ℕ → List ℕ
+filled cfg each s board buffer = cond each (over 16 (cfg .e) (element cfg board s) buffer) buffer
 
 -- a pre-write has a board to take elements from, of a length that fits
 abbrev pub Opens : Config → Phase → ℕ → List ℕ → Type 0

@@ -10,7 +10,7 @@ fill-spec =
     tie.close
     (tie.spec
     (λ c. let s = c .before .before .before .before in
-    none-filled (s .args .cfg) (s .args .b) (s .args .s) (now (s .args .board)) (now (s .args .buffer)) (not-true _ (c .if1 .taken)))
+    none-filled (s .args .cfg) (s .args .b .element) (s .args .s) (now (s .args .board)) (now (s .args .buffer)) (not-true _ (c .if1 .taken)))
     (λ c. search needs)
     (λ c. search needs)
     (λ c. search needs)

@@ -56,18 +56,10 @@ add-step c =
     omega (arith, down-fits (x .cfg) (x .board .now) (x .s) (length (x .part .now)) h (d .part) (d .at) (d .inv) (omega arith))
 
 sub-step : tie.Need-sub-step Inv-loop μ-loop
-sub-step c =
-    let x = c .before .before .before .before .before .before .before .before .before .before .before .before .before .args in
-    let h = c .before .before .before .before .before .before .before .before .before .before .before .before .before .pre in
-    let d = c .before .before .before .before .loop in
-    omega (arith, down-fits (x .cfg) (x .board .now) (x .s) (length (x .part .now)) h (d .part) (d .at) (d .inv) (omega arith))
+sub-step c = omega arith
 
 part-step-start : tie.Need-part-step-start Inv-loop μ-loop
-part-step-start c =
-    let x = c .before .before .before .before .before .before .before .before .before .before .before .before .before .args in
-    let h = c .before .before .before .before .before .before .before .before .before .before .before .before .before .pre in
-    let d = c .before .before .before .before .loop in
-    omega (arith, down-fits (x .cfg) (x .board .now) (x .s) (length (x .part .now)) h (d .part) (d .at) (d .inv) (omega arith))
+part-step-start c = omega arith
 
 part-step-end : tie.Need-part-step-end Inv-loop μ-loop
 part-step-end c =
@@ -82,7 +74,7 @@ step-requires c κs =
     let h = c .before .before .before .before .before .before .before .before .before .before .before .before .before .before .pre in
     let d = c .before .before .before .before .before .loop in (
       (omega (arith, h .server-low), omega (arith, h .server-high, h .valid .n-high)),
-      down-long (x .cfg) (x .board .now) (x .s) (length (x .part .now)) h (d .part) (d .at) (d .inv) ∙ sym (down-lent (x .cfg) (x .board .now) (x .s) (length (x .part .now)) h (d .part) (d .at) (d .inv) (omega arith)),
+      down-long (x .cfg) (x .board .now) (x .s) (d .part) (d .at) (d .inv) ∙ sym (down-lent (x .cfg) (x .board .now) (x .s) (length (x .part .now)) h (d .part) (d .at) (d .inv) (omega arith)),
     )
 
 loop-less : tie.Need-loop-less Inv-loop μ-loop
@@ -100,7 +92,7 @@ same-length c =
     let x = c .before .before .before .before .before .before .before .before .before .before .args in
     let h = c .before .before .before .before .before .before .before .before .before .before .pre in
     let d = c .before .loop in
-    down-long (x .cfg) (x .board .now) (x .s) (length (x .part .now)) h (d .part) (d .at) (d .inv) ∙ sym (h .part-length)
+    down-long (x .cfg) (x .board .now) (x .s) (d .part) (d .at) (d .inv) ∙ sym (h .part-length)
 
 returns : tie.Need-returns Inv-loop μ-loop
 returns c =

@@ -1,13 +1,13 @@
 //! Checks of the model and of the search themselves.
 
 use crate::common::{Checks, tell};
-use crate::compare;
 use crate::directed;
-use crate::history::{self, History, Operation, fits, history, search};
-use crate::maker::{List, header};
+use crate::history::{self, History, Operation, fits, history, rises, search, search_rising};
+use crate::list::{List, head};
 use crate::model::*;
 use crate::programs;
 use crate::random::Random;
+use crate::rank_checks;
 
 /// All checks; the number that failed.
 pub fn all() -> usize {
@@ -34,15 +34,17 @@ pub fn all() -> usize {
         orders(),
         orders_of_lengths(),
         small_histories(),
+        rank_checks::all(),
     ];
     tell("model and search", &sections.concat())
 }
 
-fn config(n: usize, k: usize, d: usize, e: usize, c: usize, m: usize) -> Config {
-    Config { n, k, d, e, c, m }
+/// With ranks 0.
+pub fn config(n: usize, k: usize, d: usize, e: usize, c: usize, m: usize) -> Config {
+    Config { n, k, d, e, c, m, ranks: [0; 16] }
 }
 
-fn tag(number: u32, client: u8) -> Tag {
+pub fn tag(number: u32, client: u8) -> Tag {
     Tag { number, client }
 }
 
@@ -75,7 +77,11 @@ fn figures() -> Checks {
         ("elements of 10 20 30", elements == [0, 90, 80, 167, 173]),
         ("servers 2, 4, 5", decode(&five, &given) == [10, 20, 30]),
         ("elements of 1 2", of(&config(3, 2, 0, 1, 1, 1), &[1, 2]) == [3, 5, 7]),
-        ("tags", tag(2, 1) > tag(1, 9) && tag(2, 3) > tag(2, 1)),
+        ("tags", {
+            let of_nine = config(3, 1, 0, 1, 9, 1);
+            let above = |a, b| of_nine.key(a) > of_nine.key(b);
+            above(tag(2, 1), tag(1, 9)) && above(tag(2, 3), tag(2, 1))
+        }),
         ("questions 1 to 5", {
             let asked = |n, k, d, e, c, m| config(n, k, d, e, c, m).ask();
             asked(0, 0, 8, 0, 0, 0) == Err(1)
@@ -257,19 +263,20 @@ fn lines() -> Checks {
     ];
     let example = events.map(|(code, party, at)| [code, party, at, 0, 0, 0, 0]).concat();
     let printed = "1 ok\n2 ok\n3 ok\n4 ok\n5 ok\n6 ok\n7 ok\n8 ok\n9 read 0 0 00\n10 no 8\n";
-    let header = [3, 1, 0, 1, 2, 64, 0, 0];
+    let head = [3, 1, 0, 1, 2, 64, 0, 0, 0, 0];
     vec![
         ("the document's example", board(&example) == printed),
-        ("the same by simulate", simulate(&[&header[..], &example].concat()) == printed),
+        ("the same by simulate", simulate(&[&head[..], &example].concat()) == printed),
         ("nothing in, nothing out", board(&[]).is_empty()),
         ("short", board(&[9, 0, 0, 0, 0, 0, 0, 3, 0]) == "1 no 7\n2 short\n"),
         ("short of its length", board(&[9, 0, 0, 0, 0, 0]) == "1 short\n"),
-        ("header cut short", simulate(&header[..6]) == "0 short\n" && simulate(&[]) == "0 short\n"),
-        ("starting board cut short", simulate(&header[..7]) == "0 short\n"),
+        ("header cut short", simulate(&head[..6]) == "0 short\n" && simulate(&[]) == "0 short\n"),
+        ("starting board cut short", simulate(&head[..9]) == "0 short\n"),
         ("refused making", simulate(&[17, 1, 0, 1, 2, 64, 0]) == "0 no 1\n"),
         (
             "M is little-endian",
-            simulate(&[3, 1, 0, 1, 2, 1, 2]) == "0 no 5\n" && simulate(&[3, 1, 0, 1, 2, 0, 2, 0]).is_empty(),
+            simulate(&[3, 1, 0, 1, 2, 1, 2]) == "0 no 5\n"
+                && simulate(&[3, 1, 0, 1, 2, 0, 2, 0, 0, 0]).is_empty(),
         ),
     ]
 }
@@ -357,7 +364,7 @@ fn lowest_length() -> Checks {
 }
 
 /// A record of `board`.
-fn record(code: u8, party: u8, byte: u8, length: u16) -> Vec<u8> {
+pub fn record(code: u8, party: u8, byte: u8, length: u16) -> Vec<u8> {
     let [low, high] = length.to_le_bytes();
     vec![code, party, 0, 0, byte, low, high]
 }
@@ -371,7 +378,7 @@ fn lines_of_lengths() -> Checks {
         31 => "31 read 1 1\n".to_string(),
         _ => format!("{count} ok\n"),
     });
-    let large = header(&config(16, 16, 0, 64, 1, 64));
+    let large = head(&config(16, 16, 0, 64, 1, 64));
     vec![
         ("four records", board(&four.concat()) == "1 no 19\n2 no 19\n3 no 7\n4 ok\n"),
         ("a read of length 0 prints only its tag", board(&empty.concat()) == of_empty.collect::<String>()),
@@ -389,7 +396,7 @@ fn lines_of_lengths() -> Checks {
 
 /// Lists made for one point each, against the lines due.
 fn directed() -> Checks {
-    directed::all().into_iter().map(|made| (made.name, compare::lines(&made.list) == made.due)).collect()
+    directed::all().into_iter().map(|made| (made.name, made.list.lines() == made.due)).collect()
 }
 
 /// The answer to a read finalise of (1, 2) by client 1, operation 259, where that tag is the floor.
@@ -603,11 +610,12 @@ fn histories_of_lengths() -> Checks {
 }
 
 /// An operation on boards of one byte.
-fn write(byte: u8, begin: usize, end: usize) -> Operation {
-    Operation { write: true, board: history::board(1, &[byte], 1), begin, end: (end > 0).then_some(end) }
+pub fn write(byte: u8, begin: usize, end: usize) -> Operation {
+    let (board, end) = (history::board(1, &[byte], 1), (end > 0).then_some(end));
+    Operation { write: true, board, begin, end, tag: None }
 }
 
-fn read(byte: u8, begin: usize, end: usize) -> Operation {
+pub fn read(byte: u8, begin: usize, end: usize) -> Operation {
     Operation { write: false, ..write(byte, begin, end) }
 }
 
@@ -616,14 +624,20 @@ fn empty(operation: Operation) -> Operation {
     Operation { board: history::board(0, &[], 1), ..operation }
 }
 
-fn from_zero(operations: &[Operation]) -> History {
+pub fn from_zero(operations: &[Operation]) -> History {
     History { start: history::board(1, &[0], 1), operations: operations.to_vec() }
 }
 
 /// An order is found and is one by the document's words.
-fn found(operations: &[Operation]) -> bool {
+pub fn found(operations: &[Operation]) -> bool {
     let history = from_zero(operations);
     search(&history).is_some_and(|order| fits(&history, &order))
+}
+
+/// The same, and its ended writes rise.
+pub fn found_rising(operations: &[Operation]) -> bool {
+    let history = from_zero(operations);
+    search_rising(&history).is_some_and(|order| fits(&history, &order) && rises(&history, &order))
 }
 
 /// Hand-made histories from starting board 0; an end of 0 means unended.
@@ -682,36 +696,48 @@ fn orders_of_lengths() -> Checks {
     ]
 }
 
-/// On random histories of up to five operations the search agrees with trying every order.
+/// On random histories of up to five operations the searches agree with trying every order.
 fn small_histories() -> Checks {
     let random = &mut Random::new(2, 2);
-    let (mut with, mut without, mut agree) = (0, 0, true);
-    for _ in 0..4000 {
-        let mut operations: Vec<Operation> = vec![];
-        let count = random.within(1, 5);
-        let mut times: Vec<usize> = (0..2 * count).collect();
-        for _ in 0..count {
-            let begin = times.remove(0);
-            let end = times.remove(random.below(times.len().min(4)));
-            let unended = random.chance(200);
-            let is_write = unended || random.chance(500);
-            let (length, byte) = random.pick(&[(1, 0), (1, 1), (0, 0)]);
-            let (board, end) = (history::board(length, &[byte], 1), (!unended).then_some(end));
-            operations.push(Operation { write: is_write, board, begin, end });
-        }
+    let (mut agree, mut rising_agree) = (true, true);
+    // Histories without an order, with one, and with one in which the writes rise.
+    let mut met = [0; 3];
+    for _ in 0..3000 {
+        let operations = small_history(random);
         let history = from_zero(&operations);
-        let some = any_order(&history, &mut vec![]);
+        let some = any_order(&history, &mut vec![], &fits);
+        let rising = any_order(&history, &mut vec![], &|h, order| fits(h, order) && rises(h, order));
         agree &= found(&operations) == some;
-        if some { with += 1 } else { without += 1 }
+        rising_agree &= found_rising(&operations) == rising;
+        met[some as usize + rising as usize] += 1;
     }
     vec![
         ("the search agrees with trying every order", agree),
-        ("both sorts occur", with > 500 && without > 500),
+        ("so does that for writes that rise", rising_agree),
+        ("each sort occurs", met.iter().all(|met| *met > 200)),
     ]
 }
 
-fn any_order(history: &History, order: &mut Vec<usize>) -> bool {
-    if fits(history, order) {
+/// Ended writes have tags of few numbers, ranks and clients.
+fn small_history(random: &mut Random) -> Vec<Operation> {
+    let count = random.within(1, 5);
+    let mut times: Vec<usize> = (0..2 * count).collect();
+    let operation = |_| {
+        let begin = times.remove(0);
+        let end = times.remove(random.below(times.len().min(4)));
+        let unended = random.chance(200);
+        let write = unended || random.chance(500);
+        let (length, byte) = random.pick(&[(1, 0), (1, 1), (0, 0)]);
+        let (board, end) = (history::board(length, &[byte], 1), (!unended).then_some(end));
+        let tag = [random.within(1, 2), random.below(2), random.within(1, 3)];
+        let tag = (write && !unended).then_some((tag[0] as u32, tag[1] as u8, tag[2] as u8));
+        Operation { write, board, begin, end, tag }
+    };
+    (0..count).map(operation).collect()
+}
+
+fn any_order(history: &History, order: &mut Vec<usize>, good: &impl Fn(&History, &[usize]) -> bool) -> bool {
+    if good(history, order) {
         return true;
     }
     (0..history.operations.len()).any(|i| {
@@ -719,7 +745,7 @@ fn any_order(history: &History, order: &mut Vec<usize>) -> bool {
             return false;
         }
         order.push(i);
-        let some = any_order(history, order);
+        let some = any_order(history, order, good);
         order.pop();
         some
     })

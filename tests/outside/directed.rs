@@ -1,18 +1,18 @@
 //! Lists made for one point each that random lists seldom meet, with the lines that are due.
 
-use crate::maker::{List, header};
-use crate::model::{CLEARED, Config, PRE_WRITE, QUERY, READ_FINALISE, Rig, WRITE_FINALISE};
+use crate::directed_ranks;
+use crate::list::{List, head};
+use crate::model::{CLEARED, Config, PRE_WRITE, QUERY, READ_FINALISE, WRITE_FINALISE};
 use crate::programs::PROGRAM;
+use crate::script::{Directed, Script};
 
-pub struct Directed {
-    pub name: &'static str,
-    pub list: List,
-    pub due: String,
+/// Kind 9, makings and ranks.
+pub fn all() -> Vec<Directed> {
+    [cleared(), makings(), directed_ranks::all()].into_iter().flatten().collect()
 }
 
-/// Kind 9 and what a reader does with it, where N is 3, k 1, D 0 and E 1, so q is 2, and the starting board is 0. Then
-/// makings with one number just out of range.
-pub fn all() -> Vec<Directed> {
+/// Kind 9 and what a reader does with it, where N is 3, k 1, D 0 and E 1, so q is 2, and the starting board is 0.
+fn cleared() -> Vec<Directed> {
     vec![
         anew().named("counted and elements anew"),
         next_number().named("the next operation number"),
@@ -22,6 +22,12 @@ pub fn all() -> Vec<Directed> {
         lower().named("a lower tag"),
         full().named("13 for kind 9"),
         down().named("kind 9 to a crashed client"),
+    ]
+}
+
+/// With one number just out of range.
+fn makings() -> Vec<Directed> {
+    vec![
         refused("17 servers", Config { n: 17, ..PROGRAM }, 1),
         refused("k above N", Config { k: 4, ..PROGRAM }, 2),
         refused("D 8", Config { d: 8, ..PROGRAM }, 3),
@@ -32,102 +38,14 @@ pub fn all() -> Vec<Directed> {
 }
 
 fn refused(name: &'static str, config: Config, number: u8) -> Directed {
-    let input = [header(&config), vec![0; 80]].concat();
+    let input = [head(&config), vec![0; 80]].concat();
+    making(name, config, input, &format!("no {number}"))
+}
+
+/// A making from this input that comes to no event.
+pub fn making(name: &'static str, config: Config, input: Vec<u8>, due: &str) -> Directed {
     let list = List { general: true, input, config, start: vec![], named: vec![] };
-    Directed { name, list, due: format!("0 no {number}\n") }
-}
-
-/// A list in the making. The model runs along, so that a message can be named by its kind, client and server.
-struct Script {
-    rig: Rig,
-    list: List,
-    due: String,
-}
-
-impl Script {
-    /// For `board` if the configuration is the program's, else for `simulate`.
-    fn new(config: Config) -> Script {
-        let general = (config.c, config.m) != (PROGRAM.c, PROGRAM.m);
-        let start = vec![0; config.v()];
-        let input = if general { [header(&config), start.clone()].concat() } else { vec![] };
-        let rig = Rig::make(config, &start).expect("a configuration in range");
-        let list = List { general, input, config, start, named: vec![] };
-        Script { rig, list, due: String::new() }
-    }
-
-    fn named(self, name: &'static str) -> Directed {
-        Directed { name, list: self.list, due: self.due }
-    }
-
-    fn event(&mut self, [code, party, position, byte]: [u8; 4], due: &str) {
-        self.list.input.extend([code, party, position, 0, byte, 1, 0]);
-        let answer = self.rig.event(code, party, position as usize, &[byte], 1);
-        self.list.named.push(answer.map_or(0, |answer| answer.client()));
-        self.due += &format!("{} {due}\n", self.list.named.len());
-    }
-
-    fn write(&mut self, client: u8, byte: u8) {
-        self.event([1, client, 0, byte], "ok");
-    }
-
-    fn read(&mut self, client: u8) {
-        self.event([2, client, 0, 0], "ok");
-    }
-
-    /// Where the newest such message is; past all if there is none.
-    fn newest(&self, kind: u8, client: u8, server: u8) -> u8 {
-        let flight = &self.rig.flight;
-        let found = flight.iter().rposition(|r| (r.kind, r.client, r.server) == (kind, client, server));
-        found.unwrap_or(flight.len()) as u8
-    }
-
-    /// Hands over the newest message of this kind to or from each of these servers.
-    fn hand(&mut self, client: u8, kind: u8, servers: &[u8]) {
-        for server in servers {
-            self.event([3, 0, self.newest(kind, client, *server), 0], "ok");
-        }
-    }
-
-    /// Hands over one with this line.
-    fn due(&mut self, client: u8, kind: u8, server: u8, due: &str) {
-        self.event([3, 0, self.newest(kind, client, server), 0], due);
-    }
-
-    /// Hands over messages of this kind, then their answers.
-    fn answered(&mut self, client: u8, kind: u8, servers: &[u8]) {
-        self.hand(client, kind, servers);
-        self.hand(client, kind + 1, servers);
-    }
-
-    fn double(&mut self, client: u8, kind: u8, server: u8) {
-        self.event([5, 0, self.newest(kind, client, server), 0], "ok");
-    }
-
-    fn lose(&mut self, client: u8, kind: u8, server: u8) {
-        self.event([4, 0, self.newest(kind, client, server), 0], "ok");
-    }
-
-    /// So many are in flight: there is nothing at that position, and the last one can be doubled and its copy lost.
-    fn in_flight(&mut self, count: u8) {
-        self.event([4, 0, count, 0], "no 8");
-        self.event([5, 0, count - 1, 0], "ok");
-        self.event([4, 0, count, 0], "ok");
-    }
-
-    /// A write of the byte ab by client 2 asks servers 1 and 2, and its pre-writes reach these.
-    fn pre_written(&mut self, servers: &[u8]) {
-        self.write(2, 0xab);
-        self.answered(2, QUERY, &[1, 2]);
-        self.hand(2, PRE_WRITE, servers);
-    }
-
-    /// The pre-writes to servers 1 and 2 are there; the write ends by them.
-    fn written(&mut self) {
-        self.hand(2, PRE_WRITE + 1, &[1, 2]);
-        self.hand(2, WRITE_FINALISE, &[1, 2]);
-        self.hand(2, WRITE_FINALISE + 1, &[1]);
-        self.due(2, WRITE_FINALISE + 1, 2, "written 1 2");
-    }
+    Directed { name, list, due: format!("0 {due}\n") }
 }
 
 /// The read has an element of server 1 when server 2 has cleared its own. It asks again, and neither server 1 nor its
@@ -236,9 +154,7 @@ fn raised() -> Script {
     s.hand(1, READ_FINALISE, &[3]);
     s.hand(1, CLEARED, &[3]);
     s.answered(1, QUERY, &[2, 3]);
-    s.answered(1, READ_FINALISE, &[1]);
-    s.hand(1, READ_FINALISE, &[2]);
-    s.due(1, READ_FINALISE + 1, 2, "read 1 2 ab");
+    s.shows(1, "read 1 2 ab");
     s
 }
 
@@ -287,9 +203,7 @@ fn full() -> Script {
     s.lose(2, QUERY, 3);
     s.written();
     s.answered(1, QUERY, &[1, 2]);
-    s.answered(1, READ_FINALISE, &[1]);
-    s.hand(1, READ_FINALISE, &[2]);
-    s.due(1, READ_FINALISE + 1, 2, "read 1 2 ab");
+    s.shows(1, "read 1 2 ab");
     s
 }
 

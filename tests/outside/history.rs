@@ -1,7 +1,7 @@
 //! Histories, from events and printed answers only, and the search for an order that fits (Wing and
-//! Gong). The search knows operations, boards and times; it knows no tags.
+//! Gong). The search knows operations, boards and times, and of tags only how those of ended writes rise.
 
-use crate::maker::List;
+use crate::list::List;
 use std::collections::{HashMap, HashSet};
 
 /// What the single board keeps and shows: a length and V bytes, zero past it.
@@ -14,6 +14,9 @@ pub fn board(length: usize, bytes: &[u8], v: usize) -> Board {
     (length, kept)
 }
 
+/// A printed tag, with the rank of its client: the number, the rank, the client number.
+pub type Tag = (u32, u8, u8);
+
 #[derive(Clone, Debug)]
 pub struct Operation {
     pub write: bool,
@@ -21,6 +24,8 @@ pub struct Operation {
     pub board: Board,
     pub begin: usize,
     pub end: Option<usize>,
+    /// That of an ended write.
+    pub tag: Option<Tag>,
 }
 
 /// Ended reads and writes and unended writes, by begin. Spent ones and unended reads are left out.
@@ -42,7 +47,7 @@ pub fn history(list: &List, lines: &str) -> Result<History, String> {
         if words[1] == "ok" && matches!(code, 1 | 2) {
             open[event[1] as usize] = Some(operations.len());
             let board = if code == 1 { written(event, v) } else { shown("", v) };
-            operations.push(Operation { write: code == 1, board, begin: time, end: None });
+            operations.push(Operation { write: code == 1, board, begin: time, end: None, tag: None });
         } else if matches!(words[1], "written" | "spent" | "read") {
             let ended = open[client].take().ok_or(format!("nothing open for {client}: {line}"))?;
             let operation = &mut operations[ended];
@@ -55,7 +60,7 @@ pub fn history(list: &List, lines: &str) -> Result<History, String> {
                 "written" if words[3] != client.to_string() => {
                     return Err(format!("not its own tag: {line}"));
                 }
-                "written" => {}
+                "written" => operation.tag = Some(printed(words[2], list.config.ranks[client - 1], client)?),
                 _ => left_out.push(ended),
             }
         }
@@ -63,6 +68,11 @@ pub fn history(list: &List, lines: &str) -> Result<History, String> {
     let kept = operations.into_iter().enumerate();
     let kept = kept.filter(|(i, o)| !left_out.contains(i) && (o.write || o.end.is_some()));
     Ok(History { start: board(v, &list.start, v), operations: kept.map(|(_, o)| o).collect() })
+}
+
+fn printed(number: &str, rank: u8, client: usize) -> Result<Tag, String> {
+    let number = number.parse().map_err(|_| format!("no number of a tag: {number}"))?;
+    Ok((number, rank, client as u8))
 }
 
 /// The board that an event 1 hands in; its length stands at the end.
@@ -110,10 +120,20 @@ pub fn fits(history: &History, order: &[usize]) -> bool {
     each_once && in_time && as_shown
 }
 
+/// Request L5's words: the ended writes stand in rising tag order.
+pub fn rises(history: &History, order: &[usize]) -> bool {
+    let tags: Vec<Tag> = order.iter().filter_map(|i| history.operations[*i].tag).collect();
+    tags.windows(2).all(|two| two[0] < two[1])
+}
+
 struct Search<'a> {
     operations: &'a [Operation],
     /// Each operation's board as a number.
     boards: Vec<usize>,
+    /// The place of each ended write among them, if they are to rise.
+    places: Vec<Option<usize>>,
+    /// Ended writes done.
+    written: usize,
     /// Ended operations not yet done.
     left: usize,
     done: Vec<u64>,
@@ -124,6 +144,25 @@ struct Search<'a> {
 
 /// An order that fits, if there is one.
 pub fn search(history: &History) -> Option<Vec<usize>> {
+    search_by(history, vec![None; history.operations.len()])
+}
+
+/// An order that fits with the ended writes in rising tag order, if there is one.
+pub fn search_rising(history: &History) -> Option<Vec<usize>> {
+    let mut tags: Vec<Tag> = history.operations.iter().filter_map(|o| o.tag).collect();
+    tags.sort();
+    let place = |tag: Tag| tags.partition_point(|other| *other < tag);
+    search_by(history, history.operations.iter().map(|o| o.tag.map(place)).collect())
+}
+
+/// The same with ranks left out of the tags.
+pub fn search_rising_plain(history: &History) -> Option<Vec<usize>> {
+    let mut plain = history.clone();
+    plain.operations.iter_mut().for_each(|o| o.tag = o.tag.map(|(number, _, client)| (number, 0, client)));
+    search_rising(&plain)
+}
+
+fn search_by(history: &History, places: Vec<Option<usize>>) -> Option<Vec<usize>> {
     let operations = &history.operations;
     let mut numbers = HashMap::from([(&history.start, 0)]);
     let boards = operations.iter().map(|o| {
@@ -133,7 +172,8 @@ pub fn search(history: &History) -> Option<Vec<usize>> {
     let boards = boards.collect();
     let left = operations.iter().filter(|o| o.end.is_some()).count();
     let done = vec![0; operations.len().div_ceil(64)];
-    let mut search = Search { operations, boards, left, done, order: vec![], tried: HashSet::new() };
+    let (order, tried) = (vec![], HashSet::new());
+    let mut search = Search { operations, boards, places, written: 0, left, done, order, tried };
     search.go(0, 0).then_some(search.order)
 }
 
@@ -172,18 +212,21 @@ impl Search<'_> {
         }
         for i in self.next(first) {
             let o = &self.operations[i];
-            if !o.write && self.boards[i] != state {
+            let stale = !o.write && self.boards[i] != state;
+            if stale || self.places[i].is_some_and(|place| place != self.written) {
                 continue;
             }
-            let ended = o.end.is_some() as usize;
+            let (ended, written) = (o.end.is_some() as usize, self.places[i].is_some() as usize);
             let after = if o.write { self.boards[i] } else { state };
             self.done[i / 64] ^= 1 << (i % 64);
             self.left -= ended;
+            self.written += written;
             self.order.push(i);
             if self.go(first, after) {
                 return true;
             }
             self.order.pop();
+            self.written -= written;
             self.left += ended;
             self.done[i / 64] ^= 1 << (i % 64);
         }

@@ -1,30 +1,33 @@
 //! The lists of a seed.
 
-use crate::maker::{List, Maker, Mood, Order, Seen, header};
+use crate::list::{List, head};
+use crate::maker::{Maker, Mood, Order, Seen};
 use crate::model::Config;
 use crate::programs::PROGRAM;
 use crate::random::Random;
 
-/// Of four lists in turn one is for the program, one of any configuration, one adverse and one clearing.
-pub const KINDS: u64 = 4;
+/// Of five lists in turn one is for the program, one of any configuration, one adverse, one clearing and one tied.
+pub const KINDS: u64 = 5;
 pub const ADVERSE: u64 = 2;
 pub const CLEARING: u64 = 3;
+pub const TIED: u64 = 4;
 
 /// List `number` of a seed.
 pub fn list(seed: u64, number: u64, seen: &mut Seen) -> List {
     let random = &mut Random::new(seed, number);
     let kind = number % KINDS;
-    if kind == 1 && random.chance(80) {
+    if kind == 1 && random.chance(200) {
         return refused(random);
     }
     let config = match kind {
         0 => PROGRAM,
         1 => any_config(random),
         ADVERSE => small_config(random),
-        _ => clearing_config(random),
+        CLEARING => clearing_config(random),
+        _ => tied_config(random),
     };
     let mood = match kind {
-        ADVERSE => adverse(random, &config),
+        ADVERSE | TIED => adverse(random, &config),
         CLEARING => clearing(random, &config),
         _ => any_mood(random, &config),
     };
@@ -36,7 +39,13 @@ pub fn list(seed: u64, number: u64, seen: &mut Seen) -> List {
     if mood.fill && config.v() <= 64 {
         maker.fill();
     }
-    (0..length).for_each(|_| if noise { maker.noise() } else { maker.any() });
+    let round = if kind == TIED { maker.random.within(20, 20 * config.n) } else { length };
+    for event in 0..length {
+        if kind == TIED && event % round == 0 {
+            maker.tie();
+        }
+        if noise { maker.noise() } else { maker.any() }
+    }
     if mood.settle && !noise {
         maker.settle();
     }
@@ -125,14 +134,43 @@ fn clearing(random: &mut Random, config: &Config) -> Mood {
 fn clearing_config(random: &mut Random) -> Config {
     let Config { n, k, e, .. } = small_config(random);
     let m = if random.chance(150) { random.within(3 * n, 8 * n) } else { 512 };
-    Config { n, k, d: random.pick(&[0, 0, 1]), e, c: random.within(3, 4), m }
+    let (d, c) = (random.pick(&[0, 0, 1]), random.within(3, 4));
+    Config { n, k, d, e, c, m, ranks: ranks(random, c) }
+}
+
+/// Three or four clients that differ in rank, so that those of lower numbers often have the later tag.
+fn tied_config(random: &mut Random) -> Config {
+    let (d, c) = (random.below(3), random.within(3, 4));
+    Config { d, c, ranks: mixed_ranks(random, c), ..small_config(random) }
 }
 
 /// Few servers, with room for all.
 fn small_config(random: &mut Random) -> Config {
     let n = random.within(3, 6);
     let (k, d, e) = (random.within(1, n - 2), random.within(1, 4), random.within(1, 2));
-    Config { n, k, d, e, c: random.within(2, 4), m: 512 }
+    let c = random.within(2, 4);
+    Config { n, k, d, e, c, m: 512, ranks: ranks(random, c) }
+}
+
+/// Mixed mostly, now and then all 0 or all the same.
+fn ranks(random: &mut Random, c: usize) -> [u8; 16] {
+    let mut ranks = [0; 16];
+    match random.below(8) {
+        0 => {}
+        1 => ranks[..c].fill(random.within(1, 3) as u8),
+        _ => ranks = mixed_ranks(random, c),
+    }
+    ranks
+}
+
+/// Any ranks, and in half of the draws falling ones.
+fn mixed_ranks(random: &mut Random, c: usize) -> [u8; 16] {
+    let mut ranks = [0; 16];
+    ranks[..c].fill_with(|| random.below(4) as u8);
+    if random.chance(500) {
+        ranks.sort_by(|a, b| b.cmp(a));
+    }
+    ranks
 }
 
 /// Small numbers mostly, now and then any.
@@ -147,7 +185,7 @@ fn any_config(random: &mut Random) -> Config {
         1 => random.within(2 * n, 64),
         _ => random.within(64, 512),
     };
-    Config { n, k, d, e, c, m }
+    Config { n, k, d, e, c, m, ranks: ranks(random, c) }
 }
 
 /// A making that gets a number, or that is cut short.
@@ -155,25 +193,44 @@ fn refused(random: &mut Random) -> List {
     let mut config = any_config(random);
     let cut = random.chance(400);
     while !cut && (config.ask().is_ok() || random.chance(300)) {
-        match random.below(6) {
+        match random.below(9) {
             0 => config.n = random.pick(&[0, 17, 255]),
             1 => config.k = random.pick(&[0, config.n + 1, 17, 255]),
             2 => config.d = random.pick(&[8, 9, 255]),
             3 => config.e = random.pick(&[0, 65, 255]),
             4 => config.c = random.pick(&[0, 17, 255]),
-            _ => config.m = random.pick(&[0, 513, 768, 65535]),
+            5 => config.m = random.pick(&[0, 513, 768, 65535]),
+            _ => {
+                let last = config.c.clamp(1, 16) - 1;
+                let any = random.within(0, last);
+                rank_too_high(random, &mut config, &[0, last, any]);
+            }
         }
     }
-    let mut input = header(&config);
-    if cut {
-        input.extend(random.bytes(config.v()));
-        let most = if random.chance(500) { 8 } else { input.len() };
-        input.truncate(random.below(most));
-    } else {
-        let more = random.below(3000);
-        input.extend(random.bytes(more));
-    }
+    let input = if cut { cut_short(random, &mut config) } else { going_on(random, &config) };
     List { general: true, input, config, start: vec![], named: vec![] }
+}
+
+fn rank_too_high(random: &mut Random, config: &mut Config, places: &[usize]) {
+    config.ranks[random.pick(places)] = random.pick(&[4, 4, 5, 255]);
+}
+
+/// Short of the header, of the ranks, where one may be too high, or of the starting board.
+fn cut_short(random: &mut Random, config: &mut Config) -> Vec<u8> {
+    let (ranks, whole) = (7 + config.c, 7 + config.c + config.v());
+    let (from, to) = random.pick(&[(0, 7), (7, ranks), (7, ranks), (ranks, whole)]);
+    if random.chance(600) {
+        let last = config.c - 1;
+        rank_too_high(random, config, &[0, 0, last]);
+    }
+    let mut input = [head(config), random.bytes(config.v())].concat();
+    input.truncate(random.within(from, to - 1));
+    input
+}
+
+fn going_on(random: &mut Random, config: &Config) -> Vec<u8> {
+    let more = random.below(3000);
+    [head(config), random.bytes(more)].concat()
 }
 
 /// No faults, few writes at once.
@@ -208,7 +265,7 @@ pub fn long(seed: u64, config: Config, general: bool, events: usize, seen: &mut 
 /// As many in flight as there can be, and more refused; then all is handed over.
 pub fn full(seed: u64, seen: &mut Seen) -> List {
     let random = &mut Random::new(seed, u64::MAX - 2);
-    let config = Config { n: 16, k: 8, d: 3, e: 2, c: 4, m: 512 };
+    let config = Config { n: 16, k: 8, d: 3, e: 2, c: 4, m: 512, ranks: ranks(random, 4) };
     let mood = busy(random, &config);
     let mut maker = Maker::new(random, seen, mood, config, true);
     maker.fill();

@@ -5,20 +5,26 @@ mod checks;
 mod common;
 mod compare;
 mod directed;
+mod directed_ranks;
 mod history;
+mod list;
 mod lists;
 mod maker;
 mod model;
+mod printed;
 mod programs;
 mod random;
+mod rank_checks;
+mod script;
+mod search;
 mod speed;
+mod ties;
 
 use std::path::Path;
 use std::process::exit;
 
 const USAGE: &str = "outside checks
 outside compare SEED LISTS FAILURES DIRECTORY BOARD SIMULATE
-outside search SEED LISTS
 outside speed SEED DIRECTORY BOARD SIMULATE
 outside edit EDIT SOURCES DIRECTORY";
 
@@ -32,7 +38,6 @@ fn main() {
     let failed = match word(1) {
         "checks" => checks::all(),
         "compare" => compare::compare([number(2), number(3), number(4)], word(5), word(6), word(7)),
-        "search" => compare::search_all(number(2), number(3)),
         "speed" => speed::speed(number(2), word(3), word(4), word(5)),
         "edit" => edit(word(2), word(3), word(4)),
         _ => usage(),

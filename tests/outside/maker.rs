@@ -1,27 +1,13 @@
 //! Makes a list of events. The model runs along, so that a draw can name what is in flight.
 
 use crate::common::never;
-use crate::model::{Answer, Board, CLEARED, Client, Config, Phase, READ_FINALISE, Record, Rig};
+use crate::list::{List, head};
+use crate::model::{
+    Answer, Board, CLEARED, Client, Config, Phase, QUERY, READ_FINALISE, Record, Rig, START, Tag,
+};
 use crate::random::Random;
+use crate::ties::{Ties, mixed, plain};
 use std::collections::HashSet;
-
-/// What a program is handed, and what the model knows beyond the lines that it prints.
-pub struct List {
-    /// For `simulate`; else for `board`.
-    pub general: bool,
-    pub input: Vec<u8>,
-    pub config: Config,
-    pub start: Vec<u8>,
-    /// The client that each event's answer names, or 0.
-    pub named: Vec<u8>,
-}
-
-impl List {
-    pub fn events(&self) -> impl Iterator<Item = &[u8]> {
-        let head = if self.general { 7 + self.start.len() } else { 0 };
-        self.input[head..].chunks_exact(6 + self.start.len())
-    }
-}
 
 /// What the lists made so far have met.
 #[derive(Default, Debug)]
@@ -46,6 +32,7 @@ pub struct Seen {
     pub not_awaited: usize,
     pub most_in_flight: usize,
     pub cleared: Cleared,
+    pub ties: Ties,
 }
 
 /// What they have met of kind 9.
@@ -96,7 +83,7 @@ impl Seen {
             ("not awaited (14)", self.not_awaited),
             ("512 in flight", (self.most_in_flight == 512) as usize),
         ];
-        [never(&counts), self.cleared.missing()].concat()
+        [never(&counts), self.cleared.missing(), self.ties.missing()].concat()
     }
 }
 
@@ -170,6 +157,10 @@ pub struct Maker<'a> {
     again: Vec<usize>,
     /// Client, operation number and server of each kind 9 that made a read ask again.
     heeded: HashSet<(u8, u32, u8)>,
+    /// Clients differ in rank.
+    mixed: bool,
+    /// For each client the highest tag of its latest asking, ranks left out.
+    plain: Vec<Tag>,
 }
 
 impl<'a> Maker<'a> {
@@ -181,12 +172,14 @@ impl<'a> Maker<'a> {
         general: bool,
     ) -> Self {
         let start = if general { random.bytes(config.v()) } else { vec![0; config.v()] };
-        let input = if general { [header(&config), start.clone()].concat() } else { vec![] };
+        let input = if general { [head(&config), start.clone()].concat() } else { vec![] };
         let rig = Rig::make(config, &start).expect("a configuration in range");
         let list = List { general, input, config, start, named: vec![] };
         let littered = random.chance(500);
         let (quick, again) = (vec![(0, Phase::Idle, 0); config.c], vec![0; config.c]);
-        Maker { random, seen, mood, rig, list, littered, quick, again, heeded: HashSet::new() }
+        let (mixed, plain) = (mixed(&config), vec![START; config.c]);
+        let heeded = HashSet::new();
+        Maker { random, seen, mood, rig, list, littered, quick, again, heeded, mixed, plain }
     }
 
     /// Puts an event in the list and has the model run it.
@@ -198,6 +191,9 @@ impl<'a> Maker<'a> {
         self.seen.most_in_flight = self.seen.most_in_flight.max(self.rig.flight.len());
         let handed = self.rig.flight.get(position).filter(|_| code == 3).copied();
         let client = handed.map(|r| self.rig.clients[r.client as usize - 1].clone());
+        if let Some(r) = handed.filter(|r| self.mixed && r.for_server()) {
+            self.note_tie(&r);
+        }
         let answer = self.rig.event(code, party, position, bytes, length);
         if let (Some(r), Some(client)) = (handed, client) {
             self.note_handed_over(&r, &client, &answer);
@@ -237,8 +233,27 @@ impl<'a> Maker<'a> {
                 self.seen.cleared.sent += (sent == Some(CLEARED)) as usize;
             }
             CLEARED => self.note_cleared(r, client, answer),
+            2 if self.mixed && client.awaits(r) && answer.is_ok() => self.note_asked(r, client),
             _ => {}
         }
+    }
+
+    /// Notes what ranks will do with a message at a server that is up.
+    fn note_tie(&mut self, r: &Record) {
+        let server = &self.rig.servers[r.server as usize - 1];
+        if server.up {
+            self.seen.ties.at_server(&self.rig.config, server, r);
+        }
+    }
+
+    /// Notes what ranks have done with an answer to a query, and with the tag of a read that has asked.
+    fn note_asked(&mut self, r: &Record, client: &Client) {
+        self.seen.ties.at_client(&self.rig.config, client.tag, r.tag);
+        let place = client.number as usize - 1;
+        let before = if client.counted.is_empty() { START } else { self.plain[place] };
+        self.plain[place] = if plain(r.tag) > plain(before) { r.tag } else { before };
+        let Client { phase, tag, .. } = self.rig.clients[place];
+        self.seen.ties.taken += (phase == Phase::FinalisingRead && tag != self.plain[place]) as usize;
     }
 
     /// Notes what a kind 9 has met.
@@ -283,8 +298,9 @@ impl<'a> Maker<'a> {
 
     /// Notes the length of a read that ends, and whether it has asked again.
     fn note_read(&mut self, answer: &Result<Answer, u8>) {
-        let Ok(Answer::Read(client, _, Board { length, bytes })) = answer else { return };
+        let Ok(Answer::Read(client, tag, Board { length, bytes })) = answer else { return };
         let again = self.again[*client as usize - 1];
+        self.seen.ties.ended += (self.mixed && *tag != self.plain[*client as usize - 1]) as usize;
         self.seen.cleared.ended_after_one += (again == 1) as usize;
         self.seen.cleared.ended_after_more += (again > 1) as usize;
         self.seen.reads_of_length_0 += (*length == 0) as usize;
@@ -510,6 +526,23 @@ impl<'a> Maker<'a> {
         }
     }
 
+    /// All that are idle but one begin to write. Each has its queries answered before anything else happens, so that
+    /// tags of one number come of it.
+    pub fn tie(&mut self) {
+        let mut writers = self.clients(|client| client.phase == Phase::Idle);
+        if writers.len() > 1 {
+            writers.remove(self.random.below(writers.len()));
+        }
+        writers.iter().for_each(|client| self.begin(*client, true));
+        for kind in [QUERY, QUERY + 1] {
+            let theirs = |r: &&Record| r.kind == kind && writers.contains(&r.client);
+            for _ in 0..self.rig.flight.iter().filter(theirs).count() {
+                let first = self.rig.flight.iter().position(|r| theirs(&r));
+                self.position(3, first.expect("one is left"));
+            }
+        }
+    }
+
     /// Everything is handed over, then each client that is idle reads.
     pub fn settle(&mut self) {
         self.mood.adverse = false;
@@ -544,9 +577,4 @@ impl<'a> Maker<'a> {
         let length = if self.random.chance(800) { self.length() } else { self.random.below(65536) };
         self.put(code, party, position, &bytes, length);
     }
-}
-
-pub fn header(config: &Config) -> Vec<u8> {
-    let [n, k, d, e, c] = [config.n, config.k, config.d, config.e, config.c].map(|x| x as u8);
-    [&[n, k, d, e, c], &(config.m as u16).to_le_bytes()[..]].concat()
 }

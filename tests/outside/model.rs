@@ -1,13 +1,13 @@
-//! An independent model of document 01 and of requests L1 and L2 of document 02, from their text alone: field, code,
-//! server, client, rig.
+//! An independent model of document 01 and of requests L1, L2 and L5 of document 02, from their text alone: field,
+//! code, tags, server, client, rig.
 //! A refusal is `Err` with the number of the first question answered no.
 
 use std::collections::BTreeMap;
-use std::sync::LazyLock;
+use std::sync::OnceLock;
 
 // Configuration
 
-#[derive(Clone, Copy, Debug)]
+#[derive(Clone, Copy, Debug, PartialEq)]
 pub struct Config {
     pub n: usize,
     pub k: usize,
@@ -15,6 +15,8 @@ pub struct Config {
     pub e: usize,
     pub c: usize,
     pub m: usize,
+    /// Those of clients 1 to C, in this order.
+    pub ranks: [u8; 16],
 }
 
 pub fn ask(yes: bool, number: u8) -> Result<(), u8> {
@@ -22,8 +24,14 @@ pub fn ask(yes: bool, number: u8) -> Result<(), u8> {
 }
 
 impl Config {
-    /// Questions 1 to 5, as the rig puts them.
+    /// Questions 1 to 5 and 21, as the rig puts them.
     pub fn ask(&self) -> Result<(), u8> {
+        self.ask_numbers()?;
+        ask(self.ranks[..self.c].iter().all(|rank| *rank <= 3), 21)
+    }
+
+    /// Questions 1 to 5.
+    pub fn ask_numbers(&self) -> Result<(), u8> {
         ask((1..=16).contains(&self.n), 1)?;
         ask((1..=self.n).contains(&self.k), 2)?;
         ask(self.d <= 7, 3)?;
@@ -39,6 +47,21 @@ impl Config {
     /// Servers in a quorum.
     pub fn q(&self) -> usize {
         (self.n + self.k).div_ceil(2)
+    }
+
+    /// That of the starting tag, and of a number that no client has, is 0.
+    pub fn rank(&self, client: u8) -> u8 {
+        let place = (client as usize).checked_sub(1);
+        place.filter(|place| *place < self.c).map_or(0, |place| self.ranks[place])
+    }
+
+    /// What tags compare by: the number, then the rank of the tag's client, then the client number.
+    pub fn key(&self, t: Tag) -> impl Ord + use<> {
+        (t.number, self.rank(t.client), t.client)
+    }
+
+    pub fn higher(&self, a: Tag, b: Tag) -> Tag {
+        if self.key(a) > self.key(b) { a } else { b }
     }
 }
 
@@ -77,8 +100,11 @@ pub fn product(a: u8, b: u8) -> u8 {
     sum as u8
 }
 
-static PRODUCTS: LazyLock<Vec<[u8; 256]>> =
-    LazyLock::new(|| (0..=255).map(|a| std::array::from_fn(|b| product(a, b as u8))).collect());
+/// The products of a factor and each byte; worked out when they are first used.
+fn products(factor: u8) -> &'static [u8; 256] {
+    static ROWS: [OnceLock<[u8; 256]>; 256] = [const { OnceLock::new() }; 256];
+    ROWS[factor as usize].get_or_init(|| std::array::from_fn(|b| product(factor, b as u8)))
+}
 
 /// Zero past E.
 pub type Element = [u8; 64];
@@ -99,9 +125,9 @@ impl Piece {
 
 /// Adds `factor` times each byte of `from` to `to`.
 fn add_times(to: &mut [u8], factor: u8, from: &[u8]) {
-    let row = &PRODUCTS[factor as usize];
+    let products = products(factor);
     for (t, f) in to.iter_mut().zip(from) {
-        *t ^= row[*f as usize];
+        *t ^= products[*f as usize];
     }
 }
 
@@ -126,7 +152,7 @@ pub fn decode(config: &Config, parts: &[(u8, Element)]) -> Vec<u8> {
         .map(|(s, element)| [&powers(*s, config.k), &element[..config.e]].concat())
         .collect();
     for i in 0..config.k {
-        let inverse = PRODUCTS[rows[i][i] as usize].iter().position(|p| *p == 1).unwrap();
+        let inverse = products(rows[i][i]).iter().position(|p| *p == 1).unwrap();
         let mut row = vec![0; rows[i].len()];
         add_times(&mut row, inverse as u8, &rows[i]);
         for (j, other) in rows.iter_mut().enumerate() {
@@ -142,10 +168,12 @@ pub fn decode(config: &Config, parts: &[(u8, Element)]) -> Vec<u8> {
 
 // Tags and records
 
-/// The number decides, then the client number.
-#[derive(Clone, Copy, Debug, PartialEq, Eq, PartialOrd, Ord)]
-#[rustfmt::skip]
-pub struct Tag { pub number: u32, pub client: u8 }
+/// Tags are compared by the configuration, which has the ranks.
+#[derive(Clone, Copy, Debug, PartialEq)]
+pub struct Tag {
+    pub number: u32,
+    pub client: u8,
+}
 
 pub const START: Tag = Tag { number: 0, client: 0 };
 
@@ -207,22 +235,32 @@ impl Server {
         self.stored.iter().find(|(tag, _)| *tag == t).map(|(_, piece)| *piece)
     }
 
-    fn at_or_below_floor(&self, t: Tag) -> bool {
-        self.floor.is_some_and(|floor| t <= floor)
+    fn at_or_below_floor(&self, config: &Config, t: Tag) -> bool {
+        self.floor.is_some_and(|floor| config.key(t) <= config.key(floor))
+    }
+
+    /// Question 6, of the stored tags: each once and above the floor, exactly D + 1 where there is one.
+    pub fn in_limits(&self, config: &Config) -> bool {
+        let (count, most) = (self.stored.len(), config.d + 1);
+        let tags = || self.stored.iter().map(|(tag, _)| *tag);
+        let once = |t| tags().filter(|other| *other == t).count() == 1;
+        count <= most
+            && (self.floor.is_none() || count == most)
+            && tags().all(|t| once(t) && !self.at_or_below_floor(config, t))
     }
 
     /// The answer.
     pub fn step(&mut self, config: &Config, r: &Record) -> Record {
         let mut answer = Record { kind: r.kind + 1, piece: None, ..*r };
         if matches!(r.kind, WRITE_FINALISE | READ_FINALISE) {
-            self.highest = self.highest.max(r.tag);
+            self.highest = config.higher(self.highest, r.tag);
         }
         match r.kind {
             QUERY => answer.tag = self.highest,
             PRE_WRITE => self.pre_write(config, r.tag, r.piece.unwrap()),
             READ_FINALISE => {
                 answer.piece = self.stored(r.tag);
-                if answer.piece.is_none() && self.at_or_below_floor(r.tag) {
+                if answer.piece.is_none() && self.at_or_below_floor(config, r.tag) {
                     answer.kind = CLEARED;
                 }
             }
@@ -232,12 +270,13 @@ impl Server {
     }
 
     fn pre_write(&mut self, config: &Config, t: Tag, piece: Piece) {
-        if self.stored(t).is_some() || self.at_or_below_floor(t) {
+        if self.stored(t).is_some() || self.at_or_below_floor(config, t) {
             return;
         }
         self.stored.push((t, piece));
         if self.stored.len() > config.d + 1 {
-            let smallest = self.stored.iter().map(|(tag, _)| *tag).min().unwrap();
+            let tags = self.stored.iter().map(|(tag, _)| *tag);
+            let smallest = tags.min_by_key(|tag| config.key(*tag)).unwrap();
             self.stored.retain(|(tag, _)| *tag != smallest);
             self.floor = Some(smallest);
         }
@@ -317,7 +356,7 @@ impl Client {
         }
         match self.phase {
             Phase::Asking => {
-                let highest = self.tag.max(r.tag);
+                let highest = self.highest(config, r);
                 if self.board.is_none() {
                     Next::Send(Phase::FinalisingRead, highest)
                 } else if highest.number == u32::MAX {
@@ -331,6 +370,11 @@ impl Client {
             Phase::FinalisingWrite => Next::End(Answer::Written(self.number, self.tag)),
             _ => self.next_of_read(config, r),
         }
+    }
+
+    /// Asking: the highest tag with this answer's.
+    fn highest(&self, config: &Config, r: &Record) -> Tag {
+        config.higher(self.tag, r.tag)
     }
 
     fn next_of_cleared(&self) -> Next {
@@ -349,11 +393,11 @@ impl Client {
         Next::End(Answer::Read(self.number, self.tag, Board::cut(&decode(config, &parts), length)))
     }
 
-    fn count(&mut self, r: &Record) {
+    fn count(&mut self, config: &Config, r: &Record) {
         self.counted.push(r.server);
         self.pieces.extend(r.piece.map(|piece| (r.server, piece)));
         if self.phase == Phase::Asking {
-            self.tag = self.tag.max(r.tag);
+            self.tag = self.highest(config, r);
         }
     }
 
@@ -487,7 +531,7 @@ impl Rig {
         self.flight.remove(position);
         match next {
             Next::NotAwaited => {}
-            Next::Count => client.count(&r),
+            Next::Count => client.count(&self.config, &r),
             Next::Send(phase, tag) => client.enter(&self.config, phase, tag, &mut self.flight),
             Next::AskAgain => client.query(&self.config, &mut self.flight),
             Next::End(answer) => {

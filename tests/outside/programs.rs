@@ -41,22 +41,31 @@ pub fn take(input: &mut impl Read, buffer: &mut [u8]) -> io::Result<usize> {
     Ok(got)
 }
 
-/// The program's configuration; its starting board is 0.
-pub const PROGRAM: Config = Config { n: 3, k: 1, d: 0, e: 1, c: 2, m: 64 };
+/// The program's configuration; its ranks and its starting board are 0.
+pub const PROGRAM: Config = Config { n: 3, k: 1, d: 0, e: 1, c: 2, m: 64, ranks: [0; 16] };
 
 pub fn board(input: &mut impl Read, out: &mut impl Write) -> io::Result<()> {
     let rig = Rig::make(PROGRAM, &[0]).expect("the program's configuration");
     events(rig, input, out)
 }
 
-/// Questions 1 to 5 are put to the header, before the starting board is looked at.
+/// Questions 1 to 5 are put to the header, before the ranks are looked at, and 21 to the ranks, before the starting
+/// board is.
 pub fn simulate(input: &mut impl Read, out: &mut impl Write) -> io::Result<()> {
     let mut header = [0; 7];
     if take(input, &mut header)? < 7 {
         return writeln!(out, "0 short");
     }
     let [n, k, d, e, c] = std::array::from_fn(|i| header[i] as usize);
-    let config = Config { n, k, d, e, c, m: u16::from_le_bytes([header[5], header[6]]) as usize };
+    let m = u16::from_le_bytes([header[5], header[6]]) as usize;
+    let mut config = Config { n, k, d, e, c, m, ranks: [0; 16] };
+    if let Err(number) = config.ask_numbers() {
+        return writeln!(out, "0 no {number}");
+    }
+    let ranks = &mut config.ranks[..c];
+    if take(input, ranks)? < c {
+        return writeln!(out, "0 short");
+    }
     if let Err(number) = config.ask() {
         return writeln!(out, "0 no {number}");
     }

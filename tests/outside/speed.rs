@@ -32,7 +32,7 @@ fn time(program: &Path, input: &Path, output: &Path) -> Duration {
 
 /// Prints a row for each program; a difference in the last lines counts as a failure.
 pub fn speed(seed: u64, directory: &str, board: &str, simulate: &str) -> usize {
-    let large = Config { n: 16, k: 8, d: 7, e: 64, c: 16, m: 512 };
+    let large = Config { n: 16, k: 8, d: 7, e: 64, c: 16, m: 512, ranks: [0; 16] };
     println!("seed {seed}: events a second of processor time, the best of {ROUNDS} rounds in turn");
     println!(
         "program  (N, k, E, D, C, M)       events  written   read     model   program  program's time/model's"
@@ -53,7 +53,7 @@ fn row(seed: u64, directory: &Path, name: &str, config: &Config, events: usize, 
         model_best = model_best.min(time(&directory.join(name), &input, &by_model));
         program_best = program_best.min(time(Path::new(program), &input, &by_program));
     }
-    let Config { n, k, d, e, c, m } = config;
+    let Config { n, k, d, e, c, m, .. } = config;
     let config = format!("({n}, {k}, {e}, {d}, {c}, {m})");
     let a_second = |best: Duration| events as f64 / best.as_secs_f64();
     println!(

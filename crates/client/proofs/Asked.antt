@@ -1,5 +1,5 @@
--- A call's questions, as the code asks them: 1 to 6 of the configuration and the state first, then 6 of the buffers lent, then the others.
--- Assumes nothing.
+-- A call's questions, as the code asks them: 1 to 5, 21 and 6 of the configuration and the state first, then 6 of the buffers lent, then the
+-- others. Assumes nothing.
 use mathlib.Core.Path.{_≡_, refl, sym, _∙_}
 use mathlib.Core.Bool.{Bool, true, false, cond, _&&_}
 use mathlib.Core.List.{List, [], _∷_, _++_}

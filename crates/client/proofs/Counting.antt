@@ -19,6 +19,7 @@ use Rattle.config.specs.Questions.{within}
 use Rattle.config.proofs.Questions.{within-low, within-high}
 use Rattle.tag.specs.declared.Tag.{Tag}
 use Rattle.tag.specs.Tag.{allowed, key, same}
+use Rattle.tag.proofs.Order.{same-eqb, small}
 use Rattle.record.specs.declared.Header.{Header}
 use Rattle.record.specs.Calls.{withElement}
 use Rattle.record.specs.Element.{elementWith}
@@ -28,6 +29,7 @@ use Rattle.protocol.specs.Client as protocol
 use Rattle.protocol.specs.Number.{upd}
 use Rattle.protocol.specs.Tags.{higher, sameKey}
 use Rattle.protocol.proofs.Basics.{upd-other, upd-same}
+use Rattle.protocol.proofs.Store.{higher-elim}
 use Rattle.client.specs.declared.Phase.{Phase}
 use Rattle.client.specs.declared.Phase.the-variants.{Idle, Asking, PreWriting, FinalisingWrite, FinalisingRead, Down}
 use Rattle.client.specs.Servers.{member, withinServers}
@@ -36,7 +38,6 @@ use Rattle.client.specs.inner.Count.{awaitsOf, countingOf, firstOf, putO
 use Rattle.client.proofs.Elements.{Roomy, received-put}
 use Rattle.client.proofs.Phases.{set-in, tag-in, tag-within}
 use Rattle.client.proofs.Sets.{member-put, put-within}
-use Rattle.client.proofs.Tags.{higher-allowed, same-key, small}
 
 module _ (cfg : Config) (v : Valid cfg) (h : Header) (server-in : within 1 (cfg .n) (serverNumber (h .server)) ≡ true)
     (tag-ok : allowed (cfg .c) (h .tag) ≡ true) where
@@ -51,12 +52,12 @@ module _ (cfg : Config) (v : Valid cfg) (h : Header) (server-in : within 1 (cfg 
 
   -- ---- awaited
 
-  same-is : (first : Bool) (t : Tag) (counted : ℕ) → tagWithin cfg t counted ≡ true → (first && sameKey key (h .tag) t) ≡ (first && same (h .tag) t)
+  same-is : (first : Bool) (t : Tag) (counted : ℕ) → tagWithin cfg t counted ≡ true → (first && sameKey (key cfg) (h .tag) t) ≡ (first && same (h .tag) t)
   same-is first t counted w =
-      ap (λ (b : Bool). first && b) (same-key (h .tag) t (small cfg v (h .tag) tag-ok) (small cfg v t (tag-in cfg t counted w)))
+      ap (λ (b : Bool). first && b) (sym (same-eqb cfg v (h .tag) t (small cfg v (h .tag) tag-ok) (small cfg v t (tag-in cfg t counted w))))
 
   pub awaits-is : (p : Phase) → phaseWithin cfg p ≡ true → (board : Board) (es : Slots) (bs : List ℕ)
-      → protocol.awaits key (phaseOf cfg p board es) (withElement cfg h bs) ≡ awaitsOf p h
+      → protocol.awaits (key cfg) (phaseOf cfg p board es) (withElement cfg h bs) ≡ awaitsOf p h
   unfolding protocol.awaits protocol.isFirst phaseOf phaseWithin withElement awaitsOf
   awaits-is Idle w board es bs = refl
   awaits-is (Asking writes best counted) w board es bs = refl
@@ -74,11 +75,11 @@ module _ (cfg : Config) (v : Valid cfg) (h : Header) (server-in : within 1 (cfg 
   one-more : (t u : Tag) (counted : ℕ) → tagWithin cfg t counted ≡ true → allowed (cfg .c) u ≡ true → tagWithin cfg u (putOf counted s true) ≡ true
   one-more t u counted w a = tag-within cfg u (putOf counted s true) a (put-in counted true (set-in cfg t counted w))
 
-  pub counting-within : (p : Phase) → phaseWithin cfg p ≡ true → phaseWithin cfg (countingOf p h) ≡ true
+  pub counting-within : (p : Phase) → phaseWithin cfg p ≡ true → phaseWithin cfg (countingOf cfg p h) ≡ true
   unfolding phaseWithin countingOf
   counting-within Idle w = refl
   counting-within (Asking writes best counted) w =
-      one-more best (higher key best (h .tag)) counted w (higher-allowed (cfg .c) best (h .tag) (tag-in cfg best counted w) tag-ok)
+      one-more best (higher (key cfg) best (h .tag)) counted w (higher-elim (key cfg) (λ (t : Tag). allowed (cfg .c) t ≡ true) best (h .tag) (tag-in cfg best counted w) tag-ok)
   counting-within (PreWriting tag counted) w = one-more tag tag counted w (tag-in cfg tag counted w)
   counting-within (FinalisingWrite tag counted) w = one-more tag tag counted w (tag-in cfg tag counted w)
   counting-within (FinalisingRead tag counted sent) w =
@@ -92,7 +93,7 @@ module _ (cfg : Config) (v : Valid cfg) (h : Header) (server-in : within 1 (cfg 
   lengthsAfter ns = cond (h .present) (set ns (s - 1) (h .length)) ns
 
   pub counting-lengths : (p : Phase) (n : ℕ) (ns : List ℕ) → cfg .n ≤ length ns → (h .present ≡ true → leb (h .length) (boardLength cfg) ≡ true)
-      → phaseWithin cfg p ≡ true → lengthsWithin cfg p n ns ≡ true → lengthsWithin cfg (countingOf p h) n (lengthsAfter ns) ≡ true
+      → phaseWithin cfg p ≡ true → lengthsWithin cfg p n ns ≡ true → lengthsWithin cfg (countingOf cfg p h) n (lengthsAfter ns) ≡ true
   unfolding lengthsWithin countingOf phaseWithin
   counting-lengths Idle n ns long fits w l = refl
   counting-lengths (Asking writes best counted) n ns long fits w l = l
@@ -139,11 +140,11 @@ module _ (cfg : Config) (v : Valid cfg) (h : Header) (server-in : within 1 (cfg 
   more es bs = slotsOf (lengthPlaced (withElement cfg h bs) (es .lengths)) (placed cfg (withElement cfg h bs) (es .bytes))
 
   pub counting-is : (p : Phase) → phaseWithin cfg p ≡ true → (board : Board) (es : Slots) (bs : List ℕ) → Roomy cfg es → 16 + cfg .e ≤ length bs
-      → protocol.counting key (phaseOf cfg p board es) (withElement cfg h bs) ≡ phaseOf cfg (countingOf p h) board (more es bs)
+      → protocol.counting (key cfg) (phaseOf cfg p board es) (withElement cfg h bs) ≡ phaseOf cfg (countingOf cfg p h) board (more es bs)
   unfolding protocol.counting phaseOf phaseWithin withElement countingOf
   counting-is Idle w board es bs whole room = refl
   counting-is (Asking writes best counted) w board es bs whole room =
-      ap (protocol.asking (cond writes (some board) none) (higher key best (h .tag))) (sym (member-put counted s true))
+      ap (protocol.asking (cond writes (some board) none) (higher (key cfg) best (h .tag))) (sym (member-put counted s true))
   counting-is (PreWriting tag counted) w board es bs whole room = ap (protocol.preWriting tag) (sym (member-put counted s true))
   counting-is (FinalisingWrite tag counted) w board es bs whole room = ap (protocol.finalisingWrite tag) (sym (member-put counted s true))
   counting-is (FinalisingRead tag counted sent) w board es bs whole room =

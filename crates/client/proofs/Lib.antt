@@ -8,6 +8,7 @@ pub mod Once
 mod Onward
 pub mod Phases
 pub mod Quorum
+pub mod Ranks
 mod Receiving
 pub mod Seen
 mod Sending
@@ -15,6 +16,5 @@ mod Sets
 mod Settling
 pub mod Shown
 mod Stepping
-mod Tags
 pub mod Theorems
 mod Owned

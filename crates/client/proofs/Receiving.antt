@@ -1,4 +1,4 @@
--- A record handed over: what reading it tells, and what questions 1 to 6, 12 and 16 show of it. Assumes nothing.
+-- A record handed over: what reading it tells, and what questions 1 to 5, 21, 6, 12 and 16 show of it. Assumes nothing.
 use mathlib.Core.Path.{_≡_, refl, sym, ap, _∙_}
 use mathlib.Core.Bool.{Bool, true, false, cond, _&&_}
 use mathlib.Core.List.{List, [], _∷_}
@@ -19,7 +19,7 @@ use Rattle.config.proofs.Questions.{within-high, yes-next}
 use Rattle.config.proofs.Refusals.{refusal-low}
 use Rattle.tag.specs.declared.Tag.{Tag}
 use Rattle.tag.specs.Tag.{allowed, key}
-use Rattle.tag.proofs.Order.{same-one}
+use Rattle.tag.proofs.Order.{same-eqb, same-one, small}
 use Rattle.record.specs.declared.Reading.{Reading}
 use Rattle.record.specs.Calls.{ReadPost}
 use Rattle.record.specs.Kinds.{isForClient}
@@ -41,7 +41,6 @@ use Rattle.client.specs.inner.Questions.{Received, sized}
 use Rattle.client.proofs.Asked.{call-passed, call-rest}
 use Rattle.protocol.proofs.Judged.{awaits-it, first-kind, of-operation, of-tag}
 use Rattle.client.proofs.Phases.{phase-in, tag-in}
-use Rattle.client.proofs.Tags.{same-key, small}
 
 -- ---- what reading tells
 
@@ -99,10 +98,10 @@ module _ (cfg : Config) (x : State) (message : List ℕ) (l : Sizes) where
       (record { valid = p .0; within = p .2; lengths = p .1; well-formed = f .0; for-me = i .0 }, yes-next 14 awaits [] (omega arith) (i .1) .0)
 
   -- an allowed tag that is compared equal to the record's is that
-  pub one-tag : Received cfg x message l → (t : Tag) → allowed (cfg .c) t ≡ true → sameKey key (m .tag) t ≡ true → m .tag ≡ t
+  pub one-tag : Received cfg x message l → (t : Tag) → allowed (cfg .c) t ≡ true → sameKey (key cfg) (m .tag) t ≡ true → m .tag ≡ t
   unfolding messageOf
   one-tag k t ok same =
-      same-one (m .tag) t (sym (same-key (m .tag) t (small cfg (k .valid) (m .tag) (its-tag cfg message (k .well-formed))) (small cfg (k .valid) t ok)) ∙ same)
+      same-one (m .tag) t (same-eqb cfg (k .valid) (m .tag) t (small cfg (k .valid) (m .tag) (its-tag cfg message (k .well-formed))) (small cfg (k .valid) t ok) ∙ same)
 
   -- a record of kind 9 "has no element"
   pub cleared-bare : Received cfg x message l → protocol.isCleared (m .kind) ≡ true → m .element ≡ none
@@ -117,7 +116,7 @@ module _ (cfg : Config) (x : State) (message : List ℕ) (l : Sizes) where
   module _ (k : Received cfg x message l) (kept es : List ℕ) (due : awaited cfg (view cfg x kept es) m ≡ true) where
     pub operation-begun : 1 ≤ x .operation
     unfolding messageOf clauses view
-    operation-begun = omega (arith, of-operation key m (view cfg x kept es) due, leb-true 1 (operationAt message) (clause cfg message 3 (k .well-formed)))
+    operation-begun = omega (arith, of-operation (key cfg) m (view cfg x kept es) due, leb-true 1 (operationAt message) (clause cfg message 3 (k .well-formed)))
 
     -- the tag of an answer of kinds 4 and 6 is the client's
     carried : (kind : ℕ) → within 3 6 kind ≡ true → kindNumber (m .kind) ≡ kind → m .tag .client ≡ clientNumber (x .me)
@@ -129,13 +128,13 @@ module _ (cfg : Config) (x : State) (message : List ℕ) (l : Sizes) where
         ∙ eqb-true (m .client) (clientNumber (x .me)) (and-left (eqb (m .client) (clientNumber (x .me))) (isForClient (m .kind)) (k .for-me))
 
     own-of : (kind : ℕ) (t : Tag) (counted : ℕ) → within 3 6 kind ≡ true → tagWithin cfg t counted ≡ true
-        → (protocol.isFirst kind (member counted) m && sameKey key (m .tag) t) ≡ true → t .client ≡ clientNumber (x .me)
+        → (protocol.isFirst kind (member counted) m && sameKey (key cfg) (m .tag) t) ≡ true → t .client ≡ clientNumber (x .me)
     own-of kind t counted in-range w h =
-        let parts = of-tag key kind (member counted) m t h in
+        let parts = of-tag (key cfg) kind (member counted) m t h in
         sym (ap (λ (u : Tag). u .client) (one-tag k t (tag-in cfg t counted w) (parts .1)))
         ∙ carried kind in-range (first-kind kind (member counted) m (λ e. omega (arith, within-high 3 6 kind in-range)) (parts .0))
 
-    own-in : (p : Phase) → phaseWithin cfg p ≡ true → protocol.awaits key (phaseOf cfg p (toWrite x kept) (slots x es)) m ≡ true → OwnTag (x .me) p
+    own-in : (p : Phase) → phaseWithin cfg p ≡ true → protocol.awaits (key cfg) (phaseOf cfg p (toWrite x kept) (slots x es)) m ≡ true → OwnTag (x .me) p
     unfolding phaseOf phaseWithin protocol.awaits
     own-in Idle w h = tt
     own-in (Asking writes best counted) w h = tt
@@ -146,4 +145,4 @@ module _ (cfg : Config) (x : State) (message : List ℕ) (l : Sizes) where
 
     pub write-own : OwnTag (x .me) (x .phase)
     unfolding view
-    write-own = own-in (x .phase) (phase-in cfg x (k .within)) (awaits-it key m (view cfg x kept es) due)
+    write-own = own-in (x .phase) (phase-in cfg x (k .within)) (awaits-it (key cfg) m (view cfg x kept es) due)

@@ -98,7 +98,7 @@ one-element true false u w h e = let z : _≡_ {A = ℕ} 0 1 = cc in absurd (ome
 one-element false b u w h e = absurd (true≢false (sym h))
 
 -- counting keeps the tag
-own-counted : (cfg : Config) (x : State) (h : Header) (p : Phase) → OwnTag (x .me) p → OwnTag (x .me) (countingOf p h)
+own-counted : (cfg : Config) (x : State) (h : Header) (p : Phase) → OwnTag (x .me) p → OwnTag (x .me) (countingOf cfg p h)
 unfolding countingOf
 own-counted cfg x h Idle o = o
 own-counted cfg x h (Asking writes best counted) o = o
@@ -151,9 +151,9 @@ module _ (cfg : Config) (x : State) (message : List ℕ) (l : Lent) (k : Receive
   number : firstNo (stepQuestions cfg x message l) ≡ cond awaited 0 14
   number = received-number cfg x message (sizesOf l) k awaited
 
-  pub not-awaited : {a : Awaited} → a ≡ countOf x h → a ≡ Awaited.Other → {r : Moved} → RefusedPost x 14 r → StepPost cfg x message l l r
+  pub not-awaited : {a : Awaited} → a ≡ countOf cfg x h → a ≡ Awaited.Other → {r : Moved} → RefusedPost x 14 r → StepPost cfg x message l l r
   not-awaited e o post =
-      let out : awaited ≡ false = awaited-is ∙ other-as (eqb (h .operation) (x .operation) && awaitsOf (x .phase) h) (takenOf (x .phase) h) (sym e ∙ o) in
+      let out : awaited ≡ false = awaited-is ∙ other-as (eqb (h .operation) (x .operation) && awaitsOf (x .phase) h) (takenOf cfg (x .phase) h) (sym e ∙ o) in
       step-refused cfg x message l (sym (number ∙ rw out)) (λ z. omega arith) post
 
   pub takes : TakePre cfg h message (l .elements)
@@ -175,9 +175,9 @@ module _ (cfg : Config) (x : State) (message : List ℕ) (l : Lent) (k : Receive
 
   -- ---- it is awaited
 
-  module _ {a : Awaited} (e : a ≡ countOf x h) {t : Taken} (answer : a ≡ Awaited.Answer t) where
-    got : ((eqb (h .operation) (x .operation) && awaitsOf (x .phase) h) ≡ true) × (takenOf (x .phase) h ≡ t)
-    got = answer-as (eqb (h .operation) (x .operation) && awaitsOf (x .phase) h) (takenOf (x .phase) h) t (sym e ∙ answer)
+  module _ {a : Awaited} (e : a ≡ countOf cfg x h) {t : Taken} (answer : a ≡ Awaited.Answer t) where
+    got : ((eqb (h .operation) (x .operation) && awaitsOf (x .phase) h) ≡ true) × (takenOf cfg (x .phase) h ≡ t)
+    got = answer-as (eqb (h .operation) (x .operation) && awaitsOf (x .phase) h) (takenOf cfg (x .phase) h) t (sym e ∙ answer)
 
     due : awaited ≡ true
     due = awaited-is ∙ got .0
@@ -205,7 +205,7 @@ module _ (cfg : Config) (x : State) (message : List ℕ) (l : Lent) (k : Receive
         → StepPost cfg x message l (lent (l .kept) (l .elements) sends′ (l .board)) r
     unfolding view placedAt lengthPlacedAt
     asked-again c {sends′} {r} post =
-        let told : protocol.isCleared (m .kind) ≡ true = cleared-is ∙ cleared-as (protocol.isCleared (h .kind)) (countingOf (x .phase) h) (got .1 ∙ c) in
+        let told : protocol.isCleared (m .kind) ≡ true = cleared-is ∙ cleared-as (protocol.isCleared (h .kind)) (countingOf cfg (x .phase) h) (got .1 ∙ c) in
         let bare : m .element ≡ none = cleared-bare cfg x message (sizesOf l) k told in
         let again = step-again (boards.order cfg) (boards.encode cfg) (boards.decode cfg) cfg (clientNumber (x .me)) m (seen cfg x l) due told in
         moves x refl refl (rw bare) (rw bare) (rw again (post (l .kept) (l .elements) (l .board)))
@@ -220,8 +220,8 @@ module _ (cfg : Config) (x : State) (message : List ℕ) (l : Lent) (k : Receive
       abbrev l₁ : Lent
       l₁ = lent (l .kept) es′ (l .sends) (l .board)
 
-      counts : (protocol.isCleared (h .kind) ≡ false) × (countingOf (x .phase) h ≡ p)
-      counts = counted-as (protocol.isCleared (h .kind)) (countingOf (x .phase) h) p (got .1 ∙ c)
+      counts : (protocol.isCleared (h .kind) ≡ false) × (countingOf cfg (x .phase) h ≡ p)
+      counts = counted-as (protocol.isCleared (h .kind)) (countingOf cfg (x .phase) h) p (got .1 ∙ c)
 
       pub settles : SettlePre cfg later l₁
       unfolding countedOf

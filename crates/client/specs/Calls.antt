@@ -26,7 +26,7 @@ use Rattle.client.specs.Questions.{crashQuestions, stepQuestions}
 use Rattle.client.specs.Send.{front, recordsOf}
 use Rattle.client.specs.State.{Lent, lengthPlaced, placed, seen, stateWithin, view}
 
--- ---- fresh: questions 1 to 5, and 8, does the client exist?
+-- ---- fresh: questions 1 to 5, 21, and 8, does the client exist?
 
 -- idle, the operation number "0 when fresh"
 abbrev pub freshState : Client → State

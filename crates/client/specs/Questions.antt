@@ -25,7 +25,7 @@ isElements cfg n = eqb n (elementsLength cfg)
 abbrev pub isSends : Config → ℕ → Bool
 isSends cfg n = eqb n (sendsLength cfg)
 
--- a call: questions 1 to 5; 6, of the buffers that it is lent and of the state; then the others that concern it
+-- a call: questions 1 to 5 and 21; 6, of the buffers that it is lent and of the state; then the others that concern it
 unfoldable pub callQuestions : Config → Bool → State → List Question → List Question
 callQuestions cfg sized x others = questions cfg ++ ask 6 (sized && stateWithin cfg x) ∷ others
 

@@ -2,12 +2,14 @@
 use super::Phase;
 use super::State;
 use super::servers;
+use config::Config;
 use record::Header;
 use record::Kind;
 use tag::Tag;
 ghost use mathlib.Core.Path.{_≡_};
 ghost use mathlib.Core.Bool.{_&&_};
 ghost use Prim.Native.Nat.{_<_};
+ghost use Rattle.config.specs.Config.{Valid};
 ghost use Rattle.config.specs.Number.{serverNumber};
 ghost use Rattle.protocol.specs.Client.{judged as judgedAs};
 ghost use Rattle.protocol.specs.Tags.{higher as higherOf};
@@ -31,9 +33,9 @@ pub(crate) enum Taken {
 }
 
 // How an answer is taken, if the client awaits it.
-pub(crate) fn count(x: State, h: Header) -> Awaited
-    requires { ⌜ serverNumber (h .server) < 32 ⌝ }
-    ensures { λ r. ⌜ r ≡ countOf x h ⌝ }
+pub(crate) fn count(cfg: Config, x: State, h: Header) -> Awaited
+    requires { ⌜ (Valid cfg) × (serverNumber (h .server) < 32) ⌝ }
+    ensures { λ r. ⌜ r ≡ countOf cfg x h ⌝ }
 {
     if h.operation != x.operation {
         return Awaited::Other;
@@ -46,7 +48,7 @@ pub(crate) fn count(x: State, h: Header) -> Awaited
     if kind.number() == 9 {
         return Awaited::Answer(Taken::Cleared);
     }
-    Awaited::Answer(Taken::Counted(counting(phase, h)))
+    Awaited::Answer(Taken::Counted(counting(cfg, phase, h)))
 }
 
 // Whether a phase awaits an answer: judged as of its kind, of a server not counted yet and, for kinds 4, 6 and 8, of its tag.
@@ -108,9 +110,9 @@ fn first_of_tag(kind: u8, counted: u32, tag: Tag, h: Header) -> bool
 }
 
 // The phase with the answer counted: the highest tag is kept while asking, whether the server sent an element while finalising a read.
-fn counting(phase: Phase, h: Header) -> Phase
-    requires { ⌜ serverNumber (h .server) < 32 ⌝ }
-    ensures { λ r. ⌜ r ≡ countingOf phase h ⌝ }
+fn counting(cfg: Config, phase: Phase, h: Header) -> Phase
+    requires { ⌜ (Valid cfg) × (serverNumber (h .server) < 32) ⌝ }
+    ensures { λ r. ⌜ r ≡ countingOf cfg phase h ⌝ }
 {
     let server = h.server;
     let s = server.number();
@@ -123,7 +125,7 @@ fn counting(phase: Phase, h: Header) -> Phase
             let tag = h.tag;
             Phase::Asking {
                 writes,
-                best: higher(best, tag),
+                best: higher(cfg, best, tag),
                 counted: servers::put(counted, s, true),
             }
         }
@@ -145,11 +147,9 @@ fn counting(phase: Phase, h: Header) -> Phase
 }
 
 // The higher of two tags.
-fn higher(best: Tag, t: Tag) -> Tag
-    ensures { λ r. ⌜ r ≡ higherOf key best t ⌝ }
+fn higher(cfg: Config, best: Tag, t: Tag) -> Tag
+    requires { ⌜ Valid cfg ⌝ }
+    ensures { λ r. ⌜ r ≡ higherOf (key cfg) best t ⌝ }
 {
-    if t.above(best) {
-        return t;
-    }
-    best
+    best.higher(cfg, t)
 }

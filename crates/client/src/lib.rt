@@ -99,7 +99,7 @@ pub struct NewState {
     pub state: State,
 }
 
-// Questions 1 to 5, and 6 of a state: the number of the first that is answered no, or 0.
+// Questions 1 to 5 and 21, and 6 of a state: the number of the first that is answered no, or 0.
 pub fn ask(cfg: Config, state: State) -> u8
     ensures { λ r. ⌜ r ≡ firstNo (stateQuestions cfg state) ⌝ }
 {
@@ -124,7 +124,7 @@ pub fn ask_begin(cfg: Config, state: State) -> u8
     questions::idle(state)
 }
 
-// A fresh client is idle, its operation number 0: questions 1 to 5, and 8, whether the client exists.
+// A fresh client is idle, its operation number 0: questions 1 to 5, 21, and 8, whether the client exists.
 pub fn fresh(cfg: Config, me: Client) -> NewState
     ensures { λ r. ⌜ FreshPost cfg me r ⌝ }
 {
@@ -147,7 +147,7 @@ pub fn fresh(cfg: Config, me: Client) -> NewState
     }
 }
 
-// Begins to write a board of a length, which the client keeps with zeros past it: questions 1 to 6, 19, 9, 10 and 11.
+// Begins to write a board of a length, which the client keeps with zeros past it: questions 1 to 5, 21, 6, 19, 9, 10 and 11.
 pub fn begin_write(
     cfg: Config,
     state: State,
@@ -167,7 +167,7 @@ pub fn begin_write(
     send::announce(cfg, begun(state, true, length), kept, sends)
 }
 
-// Begins to read: questions 1 to 6, 9, 10 and 11.
+// Begins to read: questions 1 to 5, 21, 6, 9, 10 and 11.
 pub fn begin_read(cfg: Config, state: State, sends: &mut [u8]) -> Moved
     ensures { λ r. ⌜ ((kept es : List ℕ) → BeginPost cfg (firstNo (beginReadQuestions cfg state (now (sends .entry)))) state none kept kept es (now (sends .entry)) (now (sends .exit)) r) ⌝ }
 {
@@ -178,8 +178,8 @@ pub fn begin_read(cfg: Config, state: State, sends: &mut [u8]) -> Moved
     again::ask_to_read(cfg, state, sends)
 }
 
-// The step on a record: questions 1 to 6, 12, 16 and 14. The answer is counted, and the client goes on if it has enough; where it tells that
-// the element was cleared, the client asks again.
+// The step on a record: questions 1 to 5, 21, 6, 12, 16 and 14. The answer is counted, and the client goes on if it has enough; where it
+// tells that the element was cleared, the client asks again.
 pub fn step(
     cfg: Config,
     state: State,
@@ -201,7 +201,7 @@ pub fn step(
     match asked {
         Asked::No(no) => refused(state, no),
         Asked::Answer(h) => {
-            let Awaited::Answer(taken) = count::count(state, h) else {
+            let Awaited::Answer(taken) = count::count(cfg, state, h) else {
                 return refused(state, 14);
             };
             match taken {
@@ -215,7 +215,7 @@ pub fn step(
     }
 }
 
-// Crashes a client: questions 1 to 6, and 9.
+// Crashes a client: questions 1 to 5, 21, 6 and 9.
 pub fn crash(cfg: Config, state: State) -> Moved
     ensures { λ r. ⌜ CrashPost cfg state r ⌝ }
 {

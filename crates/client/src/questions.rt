@@ -43,7 +43,7 @@ pub(crate) enum Asked {
     Answer(Header),
 }
 
-// Questions 1 to 6, 19, 9, 10 and 11 of begin write: the number of the first that is answered no, or 0.
+// Questions 1 to 5, 21, 6, 19, 9, 10 and 11 of begin write: the number of the first that is answered no, or 0.
 pub(crate) fn begin_write(
     cfg: Config,
     x: State,
@@ -81,7 +81,7 @@ pub(crate) fn begin_read(cfg: Config, x: State, sends: usize) -> u8
     idle(x)
 }
 
-// Questions 1 to 6, 12 and 16 of a step.
+// Questions 1 to 5, 21, 6, 12 and 16 of a step.
 pub(crate) fn receive(cfg: Config, x: State, message: &[u8], sizes: Sizes) -> Asked
     ensures { λ r. ⌜ ReceivePost cfg x (now (message .entry)) sizes r ⌝ }
 {

@@ -12,7 +12,7 @@ use Rattle.config.specs.Questions.{Question, ask, firstNo}
 use Rattle.config.specs.Refusal.{verdictNumber}
 use Rattle.code.specs.Decoded.{decoded, rising}
 
--- questions 1 to 5; 6: are there as many elements as numbers, of E bytes each, and has the buffer V bytes? 17: "do server numbers
+-- questions 1 to 5 and 21; 6: are there as many elements as numbers, of E bytes each, and has the buffer V bytes? 17: "do server numbers
 -- rise strictly within 1 to N?" 18: "are there at least k?"
 unfoldable pub decodeQuestions : Config → List ℕ → ℕ → ℕ → List Question
 decodeQuestions cfg servers elements buffer =

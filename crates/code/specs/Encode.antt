@@ -12,7 +12,7 @@ use Rattle.config.specs.Questions.{Question, ask, within, firstNo}
 use Rattle.config.specs.Refusal.{verdictNumber}
 use Rattle.code.specs.Element.{element}
 
--- questions 1 to 5; 6: has the board V bytes, and the lent part E? 18: "is s within 1 to N? (asked last)"
+-- questions 1 to 5 and 21; 6: has the board V bytes, and the lent part E? 18: "is s within 1 to N? (asked last)"
 unfoldable pub encodeQuestions : Config → ℕ → ℕ → ℕ → List Question
 encodeQuestions cfg board s part =
     questions cfg

@@ -1,4 +1,4 @@
--- A list of questions. In order: the test `within`; a question that is answered yes or no; a list and then another; questions 1 to 5
+-- A list of questions. In order: the test `within`; a question that is answered yes or no; a list and then another; questions 1 to 5 and 21
 -- and then the rest; the last question; a number that none of the questions has. Assumes nothing.
 use mathlib.Core.Path.{_≡_, refl, sym, _∙_, ap}
 use mathlib.Core.Bool.{Bool, true, false, not, _&&_, false≢true}
@@ -112,7 +112,7 @@ numbered-both [] rest known h = h
 numbered-both (ask number holds ∷ first) rest known h =
     rw (numbered-first number first known, numbered-both first rest (numbered-rest number first known) h)
 
--- ---- questions 1 to 5, and then the rest: `asked` is what `Config::ask` or `Config::ask_rig` gave
+-- ---- questions 1 to 5 and 21, and then the rest: `asked` is what `Config::ask` or `Config::ask_rig` gave
 
 pub questions-numbered : (cfg : Config) → numbered (questions cfg) ≡ true
 unfolding numbered questions
@@ -122,14 +122,14 @@ pub rigQuestions-numbered : (cfg : Config) (m : ℕ) → numbered (rigQuestions 
 unfolding numbered rigQuestions
 rigQuestions-numbered cfg m = refl
 
-stops : (first rest : List Question) (asked : ℕ) → asked ≡ firstNo first → (asked ≡ 0 → ⊥) → asked ≡ firstNo (first ++ rest)
+pub stops : (first rest : List Question) (asked : ℕ) → asked ≡ firstNo first → (asked ≡ 0 → ⊥) → asked ≡ firstNo (first ++ rest)
 stops first rest asked e some = e ∙ sym (firstNo-stop first rest (λ z. some (e ∙ z)))
 
-passes : (first rest : List Question) (asked n : ℕ) → numbered first ≡ true → asked ≡ firstNo first → asked ≡ 0 → n ≡ firstNo rest
+pub passes : (first rest : List Question) (asked n : ℕ) → numbered first ≡ true → asked ≡ firstNo first → asked ≡ 0 → n ≡ firstNo rest
     → n ≡ firstNo (first ++ rest)
 passes first rest asked n known e none h = h ∙ sym (firstNo-pass first rest known (sym e ∙ none))
 
--- one of 1 to 5 is answered no: it is the refusal
+-- one of these is answered no: it is the refusal
 pub early : (cfg : Config) {asked : ℕ} → asked ≡ firstNo (questions cfg) → (asked ≡ 0 → ⊥) → (rest : List Question)
     → asked ≡ firstNo (questions cfg ++ rest)
 early cfg {asked} e some rest = stops (questions cfg) rest asked e some

@@ -1,7 +1,11 @@
--- Document 01, "Configuration", and questions 1 to 5.
-use Prim.Native.Nat.{ℕ, _+_, _*_, _/_, _≤_}
+-- Document 01, "Configuration", with the ranks of document 02, and questions 1 to 5 and 21.
+use Prim.Native.Nat.{ℕ, _+_, _-_, _*_, _/_, _≤_}
+use mathlib.Core.Bool.{Bool, true, cond}
+use mathlib.Core.Path.{_≡_}
 use mathlib.Core.List.{List, [], _∷_, _++_}
 use lib.Dec.{leb}
+use lib.ListN.{getD, replicate}
+use Rattle.laws.specs.Below.{allBelow}
 use Rattle.config.specs.declared.Config.{Config}
 use Rattle.config.specs.Questions.{Question, ask, within}
 
@@ -49,6 +53,26 @@ elementsLength cfg = cfg .n * cfg .e
 abbrev pub quorumOf : Config → ℕ
 quorumOf cfg = (cfg .n + cfg .k + 1) / 2
 
+-- "Give each client a rank from 0 to 3 in the configuration"
+abbrev pub highestRank : ℕ
+highestRank = 3
+
+-- the rank of client c: that of client 1 stands first; a number that no client has, 0 in the starting tag among them, has rank 0
+unfoldable pub rank : Config → ℕ → ℕ
+rank cfg c = cond (within 1 (cfg .c) c) (getD (cfg .ranks) (c - 1) 0) 0
+
+-- every rank 0
+abbrev pub noRanks : List ℕ
+noRanks = replicate mostClients 0
+
+-- "all ranks equal": those of the clients, 1 to C
+abbrev pub RanksEqual : Config → Type 0
+RanksEqual cfg = (c d : ℕ) → within 1 (cfg .c) c ≡ true → within 1 (cfg .c) d ≡ true → rank cfg c ≡ rank cfg d
+
+-- "21, is each rank at most 3": that of each client, 1 to C
+unfoldable pub ranksWithin : Config → Bool
+ranksWithin cfg = allBelow (cfg .c) (λ i. leb (rank cfg (i + 1)) highestRank)
+
 -- "1. Is N in range? 2. Is k? 3. Is D? 4. Is E? 5. Is C"
 abbrev pub questionsTo5 : Config → List Question
 questionsTo5 cfg =
@@ -59,14 +83,19 @@ questionsTo5 cfg =
     ∷ ask 5 (within 1 mostClients (cfg .c))
     ∷ []
 
+-- "21, is each rank at most 3, placed after 5"
 unfoldable pub questions : Config → List Question
-questions cfg = questionsTo5 cfg
+questions cfg = questionsTo5 cfg ++ ask 21 (ranksWithin cfg) ∷ []
 
--- "5. Is C, and in the rig M?": 5 is asked of C, and then of M
+-- "5. Is C, and in the rig M?": 5 is asked of C, and then of M; 21 comes after both
 unfoldable pub rigQuestions : Config → ℕ → List Question
-rigQuestions cfg m = questionsTo5 cfg ++ ask 5 (within 1 mostMessages m) ∷ []
+rigQuestions cfg m = questionsTo5 cfg ++ ask 5 (within 1 mostMessages m) ∷ ask 21 (ranksWithin cfg) ∷ []
 
--- a configuration of which questions 1 to 5 are answered yes
+-- one server and one client, of rank 0
+abbrev pub least : Config
+least = record { n = 1; k = 1; d = 0; e = 1; c = 1; ranks = noRanks }
+
+-- a configuration of which questions 1 to 5 and 21 are answered yes
 pub record Valid (cfg : Config) : Type 0 where
   pub n-low : 1 ≤ cfg .n
   pub n-high : cfg .n ≤ mostServers
@@ -77,3 +106,4 @@ pub record Valid (cfg : Config) : Type 0 where
   pub e-high : cfg .e ≤ mostWidth
   pub c-low : 1 ≤ cfg .c
   pub c-high : cfg .c ≤ mostClients
+  pub ranks-high : (c : ℕ) → rank cfg c ≤ highestRank

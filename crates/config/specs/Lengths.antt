@@ -11,7 +11,7 @@ use Rattle.config.specs.Questions.{firstNo, within}
 abbrev pub messagesLength : ℕ → ℕ
 messagesLength m = cond (within 1 mostMessages m) (recordLength * m) 0
 
--- of a configuration of which questions 1 to 5 are answered yes
+-- of a configuration of which questions 1 to 5 and 21 are answered yes
 abbrev pub validLengths : Config → ℕ → Lengths
 validLengths cfg m =
     record {

@@ -22,11 +22,11 @@ serverNumber s = s .0
 abbrev pub clientNumber : Client → ℕ
 clientNumber c = c .0
 
--- questions 1 to 5, and 8: is it a server's number, 1 to N?
+-- questions 1 to 5, 21, and 8: is it a server's number, 1 to N?
 unfoldable pub serverQuestions : Config → ℕ → List Question
 serverQuestions cfg s = questions cfg ++ ask 8 (within 1 (cfg .n) s) ∷ []
 
--- questions 1 to 5, and 8: is it a client's number, 1 to C?
+-- questions 1 to 5, 21, and 8: is it a client's number, 1 to C?
 unfoldable pub clientQuestions : Config → ℕ → List Question
 clientQuestions cfg c = questions cfg ++ ask 8 (within 1 (cfg .c) c) ∷ []
 

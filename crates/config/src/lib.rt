@@ -1,13 +1,13 @@
-// The configuration of document 01, its questions 1 to 5, the quorum, the lengths of buffers, the numbers of servers and clients,
-// and the names of the refusals. Every function is proved, nothing is assumed, and no public function has a `requires`.
+// The configuration of document 01, with the ranks of document 02: its questions 1 to 5 and 21, the quorum, the lengths of buffers, the numbers of
+// servers and clients, and the names of the refusals. Every function is proved, nothing is assumed, and no public function has a `requires`.
 ghost use mathlib.Core.List.{[], _∷_, _++_};
 ghost use mathlib.Core.Path.{_≡_};
-ghost use Rattle.config.specs.Config.{quorumOf, questions, rigQuestions};
+ghost use Rattle.config.specs.Config.{mostClients, questions, questionsTo5, quorumOf, rank as rankOf, ranksWithin, rigQuestions};
 ghost use Rattle.config.specs.Lengths.{lengthsOf, messagesLength};
 ghost use Rattle.config.specs.Number.{NewClientPost, NewServerPost, clientNumber, serverNumber};
 ghost use Rattle.config.specs.Questions.{ask as question, firstNo, lastQuestion, within as inside};
 ghost use Rattle.config.specs.Refusal.{clamped, passing15, refusalNumber, verdictNumber};
-ghost use Prim.Native.Nat.{min};
+ghost use Prim.Native.Nat.{min, _≤_};
 
 // The most servers.
 pub const MOST_SERVERS: usize = 16;
@@ -24,6 +24,9 @@ pub const MOST_WIDTH: usize = 64;
 // The greatest M.
 pub const MOST_MESSAGES: usize = 512;
 
+// The highest rank.
+pub const HIGHEST_RANK: u8 = 3;
+
 // The bytes of a message record.
 pub const RECORD: usize = 80;
 
@@ -31,43 +34,64 @@ pub const RECORD: usize = 80;
 const LAST_QUESTION: u8 = 28;
 
 // N servers, numbered from 1; the elements of any k of them give a board back; a server keeps D tags besides the newest;
-// an element has E bytes; C clients, numbered from 1. The numbers may have any value: the questions are asked of them.
+// an element has E bytes; C clients, numbered from 1; the rank of client 1 is the first of the ranks, and those past C are not looked at. The
+// numbers may have any value: the questions are asked of them.
 pub struct Config {
     pub n: usize,
     pub k: usize,
     pub d: usize,
     pub e: usize,
     pub c: usize,
+    pub ranks: [u8; 16],
 }
 
+// The least configuration: one server and one client, of rank 0.
+pub const LEAST: Config = Config {
+    n: 1,
+    k: 1,
+    d: 0,
+    e: 1,
+    c: 1,
+    ranks: [0; 16],
+};
+
 impl Config {
-    // Questions 1 to 5: the number of the first that is answered no, or 0.
+    // Questions 1 to 5 and 21: the number of the first that is answered no, or 0.
     pub fn ask(self) -> u8
         ensures { λ r. ⌜ r ≡ firstNo (questions self) ⌝ }
     {
-        if !within(1, MOST_SERVERS, self.n) {
-            return 1;
+        self.ask_rig(1)
+    }
+
+    // The same as the rig puts them: question 5 is of C and of M, the most messages in flight.
+    pub fn ask_rig(self, m: usize) -> u8
+        ensures { λ r. ⌜ r ≡ firstNo (rigQuestions self m) ⌝ }
+    {
+        let no = to_five(self);
+        if no != 0 {
+            return no;
         }
-        if !within(1, self.n, self.k) {
-            return 2;
-        }
-        if MOST_DEPTH < self.d {
-            return 3;
-        }
-        if !within(1, MOST_WIDTH, self.e) {
-            return 4;
-        }
-        if !within(1, MOST_CLIENTS, self.c) {
+        if !within(1, MOST_MESSAGES, m) {
             return 5;
+        }
+        if !ranks_within(self) {
+            return 21;
         }
         0
     }
 
-    // Questions 1 to 5 as the rig puts them: question 5 is of C and of M, the most messages in flight.
-    pub fn ask_rig(self, m: usize) -> u8
-        ensures { λ r. ⌜ r ≡ firstNo (rigQuestions self m) ⌝ }
+    // The rank of a client; 0 where there is none of this number.
+    pub fn rank(self, c: u8) -> u8
+        ensures { λ r. ⌜ r ≡ rankOf self c ⌝ }
     {
-        ask_then(self, 5, MOST_MESSAGES, m)
+        let client = c as usize;
+        if !within(1, self.c, client) {
+            return 0;
+        }
+        if MOST_CLIENTS < client {
+            return 0;
+        }
+        self.ranks[client - 1]
     }
 
     // Is there a server of this number, 1 to N?
@@ -91,7 +115,7 @@ impl Config {
         self.n / 2 + self.k / 2 + (self.n % 2 + self.k % 2 + 1) / 2
     }
 
-    // The lengths that question 6 asks for, with M given: all are 0 where questions 1 to 5 refuse, and that of the messages where M
+    // The lengths that question 6 asks for, with M given: all are 0 where questions 1 to 5 and 21 refuse, and that of the messages where M
     // is out of range.
     pub fn lengths(self, m: usize) -> Lengths
         ensures { λ r. ⌜ r ≡ lengthsOf self m ⌝ }
@@ -135,7 +159,44 @@ pub struct Lengths {
     pub messages: usize,
 }
 
-// Questions 1 to 5, and one more: is x within 1 to `high`?
+// Questions 1 to 5.
+fn to_five(cfg: Config) -> u8
+    ensures { λ r. ⌜ r ≡ firstNo (questionsTo5 cfg) ⌝ }
+{
+    if !within(1, MOST_SERVERS, cfg.n) {
+        return 1;
+    }
+    if !within(1, cfg.n, cfg.k) {
+        return 2;
+    }
+    if MOST_DEPTH < cfg.d {
+        return 3;
+    }
+    if !within(1, MOST_WIDTH, cfg.e) {
+        return 4;
+    }
+    if !within(1, MOST_CLIENTS, cfg.c) {
+        return 5;
+    }
+    0
+}
+
+// Question 21: whether the rank of each client, 1 to C, is at most 3.
+fn ranks_within(cfg: Config) -> bool
+    requires { ⌜ cfg .c ≤ mostClients ⌝ }
+    ensures { λ r. ⌜ r ≡ ranksWithin cfg ⌝ }
+{
+    let mut i = 0;
+    while i < cfg.c {
+        if HIGHEST_RANK < cfg.ranks[i] {
+            return false;
+        }
+        i += 1;
+    }
+    true
+}
+
+// Questions 1 to 5 and 21, and one more: is x within 1 to `high`?
 fn ask_then(cfg: Config, number: u8, high: usize, x: usize) -> u8
     ensures { λ r. ⌜ r ≡ firstNo (questions cfg ++ question number (inside 1 high x) ∷ []) ⌝ }
 {
@@ -176,7 +237,7 @@ pub enum NewClient {
 }
 
 impl Server {
-    // The server of a number: questions 1 to 5, and 8, whether it exists.
+    // The server of a number: questions 1 to 5, 21, and 8, whether it exists.
     pub fn new(cfg: Config, s: u8) -> NewServer
         ensures { λ r. ⌜ NewServerPost cfg s r ⌝ }
     {
@@ -195,7 +256,7 @@ impl Server {
 }
 
 impl Client {
-    // The client of a number: questions 1 to 5, and 8, whether it exists.
+    // The client of a number: questions 1 to 5, 21, and 8, whether it exists.
     pub fn new(cfg: Config, c: u8) -> NewClient
         ensures { λ r. ⌜ NewClientPost cfg c r ⌝ }
     {

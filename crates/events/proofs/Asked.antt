@@ -21,7 +21,7 @@ use Rattle.events.specs.declared.Rig.{Rig}
 use Rattle.events.specs.View.{Lent}
 use Rattle.events.specs.Questions.{eventQuestions, laterQuestions, rigWithin, sized}
 
--- questions 1 to 5 were asked and none is answered no: the refusal is 6, or none
+-- questions 1 to 5 and 21 were asked and none is answered no: the refusal is 6, or none
 module _ (cfg : Config) (m : ℕ) {asked : ℕ} (e : asked ≡ firstNo (rigQuestions cfg m)) (none-yet : asked ≡ 0) (holds : Bool) where
   pub six-no : holds ≡ false → 6 ≡ firstNo (rigQuestions cfg m ++ ask 6 holds ∷ [])
   six-no h = rig-later cfg m e none-yet (ask 6 holds ∷ []) (sym (firstNo-no 6 holds [] h))
@@ -30,7 +30,7 @@ module _ (cfg : Config) (m : ℕ) {asked : ℕ} (e : asked ≡ firstNo (rigQuest
   unfolding firstNo
   six-yes h = rig-later cfg m e none-yet (ask 6 holds ∷ []) (sym (firstNo-yes 6 holds [] h))
 
--- 1 to 5, and 6 with what is behind it, are all answered yes
+-- 1 to 5 and 21, and 6 with what is behind it, are all answered yes
 module _ (cfg : Config) (m : ℕ) (holds : Bool) (rest : List Question) (h : firstNo (rigQuestions cfg m ++ ask 6 holds ∷ rest) ≡ 0) where
   pub is-valid : Valid cfg
   is-valid = rig-valid cfg m refl (none-first (rigQuestions cfg m) (ask 6 holds ∷ rest) h)
@@ -52,7 +52,7 @@ module _ (cfg : Config) (m : ℕ) (r : Rig) (a : BoardCall) (read : List ℕ) (l
   abbrev fits : Bool
   fits = writeFits cfg a (codeOf (a .code))
 
-  -- where 1 to 5 are answered yes, the refusal is 6, or 19, or that of 7 to 13
+  -- where 1 to 5 and 21 are answered yes, the refusal is 6, or 19, or that of 7 to 13
   pub asked-six : firstNo (rigQuestions cfg m) ≡ 0
       → firstNo (eventQuestions cfg m r a read l) ≡ cond shape (firstNo (ask 19 (writeFits cfg a (codeOf (a .code))) ∷ laterQuestions cfg m r a l)) 6
   unfolding eventQuestions firstNo

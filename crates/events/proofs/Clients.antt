@@ -29,7 +29,7 @@ pub ask-numbered : (cfg : Config) (x : State) → numbered (askBeginQuestions cf
 unfolding callQuestions protocol.beginQuestions numbered
 ask-numbered cfg x = numbered-both (questions cfg) (ask 6 (true && stateWithin cfg x) ∷ idleOf cfg x) (questions-numbered cfg) refl
 
--- a call asks the others alone, where 1 to 6 are answered yes
+-- a call asks the others alone, where 1 to 6 and 21 are answered yes
 module _ (cfg : Config) (valid : Valid cfg) (x : State) (within : stateWithin cfg x ≡ true) where
   call-number : (sized : Bool) (others : List Question) → sized ≡ true → firstNo (callQuestions cfg sized x others) ≡ firstNo others
   unfolding callQuestions

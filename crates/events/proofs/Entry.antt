@@ -1,4 +1,4 @@
--- The head of an event: questions 1 to 6. In order: the number of such questions; a part, refused by it and not; a rig, likewise, by the part
+-- The head of an event: questions 1 to 6 and 21. In order: the number of such questions; a part, refused by it and not; a rig, likewise, by the part
 -- that the event names. Assumes nothing.
 use Prim.Native.Nat.{ℕ, _*_, _≤_, _<_}
 use mathlib.Core.Path.{_≡_, refl, sym, ap, ap₂, subst, _∙_}
@@ -41,7 +41,7 @@ use Rattle.events.proofs.Lengths.{boards-are, elements-are, messages-ar
 use Rattle.events.proofs.named.Laws.{names-client, names-server}
 use Rattle.events.proofs.outcome.Laws.{refused-event}
 
--- ---- the number of 1 to 6
+-- ---- the number of 1 to 6 and 21
 
 -- a last question that fails where another does
 stricter : (cfg : Config) (m : ℕ) (x y : Bool) (got : ℕ) → (x ≡ false → y ≡ false) → got ≡ firstNo (rigQuestions cfg m ++ ask 6 x ∷ [])
@@ -223,7 +223,7 @@ module _ (cfg : Config) (m : ℕ) (r : Rig) (a : Call) (board read : List ℕ) (
       ∙ firstNo-stop (rigQuestions cfg m ++ ask 6 six ∷ []) after (λ z. ne (e ∙ z))
       ∙ sym e
 
-  -- it is past its limits, or one of 1 to 5 is answered no
+  -- it is past its limits, or one of 1 to 5 and 21 is answered no
   pub rig-refused : {got : ℕ} → got ≡ firstNo (rigQuestions cfg m ++ ask 6 (rigWithin cfg m r) ∷ []) → (got ≡ 0 → ⊥)
       → {why : Refusal} → refusalNumber why ≡ clamped got → {t : Turn} → t ≡ record { answer = Answer.No why; rig = r }
       → EventPost cfg m r (called a board) read l t read l

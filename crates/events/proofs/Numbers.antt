@@ -1,4 +1,4 @@
--- The number of an event's first no, where questions 1 to 6 are answered yes: it is 19 or one of 7 to 13, or 0. Assumes nothing.
+-- The number of an event's first no, where questions 1 to 6 and 21 are answered yes: it is 19 or one of 7 to 13, or 0. Assumes nothing.
 use Prim.Native.Nat.{ℕ, _≤_, _<_}
 use mathlib.Core.Path.{_≡_, refl, sym, ap, ap₂, _∙_}
 use mathlib.Core.Bool.{Bool, true, false, cond}

@@ -1,4 +1,4 @@
--- An event by the part that it names, where questions 1 to 6 are answered yes: what they show of the part, of its pair and of the lent buffers.
+-- An event by the part that it names, where questions 1 to 6 and 21 are answered yes: what they show of the part, of its pair and of the lent buffers.
 -- Assumes nothing.
 use Prim.Native.Nat.{ℕ, _+_, _*_, _≤_, _<_}
 use mathlib.Core.Path.{_≡_, sym, ap, ap₂, subst, _∙_}

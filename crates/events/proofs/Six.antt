@@ -1,4 +1,4 @@
--- Questions 1 to 6 of an event are answered yes: what they show, and the number of the event's first no, which is then 19 or one of 7 to 13.
+-- Questions 1 to 6 and 21 of an event are answered yes: what they show, and the number of the event's first no, which is then 19 or one of 7 to 13.
 -- Assumes nothing.
 use Prim.Native.Nat.{ℕ, _≤_}
 use mathlib.Core.Path.{_≡_, refl, _∙_}

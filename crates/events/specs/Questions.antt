@@ -103,14 +103,14 @@ abbrev pub laterQuestions : Config → ℕ → Rig → BoardCall → Lent → Li
 laterQuestions cfg m r a l =
     questions cfg m (view cfg r l) a (formedFor cfg (flight r l) (a .position) (codeOf (a .code))) (codeOf (a .code))
 
--- An event: questions 1 to 5; 6, of every buffer handed in, whatever the event, and of the rig; 19; 7 to 13.
+-- An event: questions 1 to 5 and 21; 6, of every buffer handed in, whatever the event, and of the rig; 19; 7 to 13.
 unfoldable pub eventQuestions : Config → ℕ → Rig → BoardCall → List ℕ → Lent → List Question
 eventQuestions cfg m r a read l =
     rigQuestions cfg m
     ++ ask 6 (allSized cfg m (a .board .bytes) read l && rigWithin cfg m r)
     ∷ questionsAfter6 cfg m (view cfg r l) a (formedFor cfg (flight r l) (a .position) (codeOf (a .code))) (codeOf (a .code))
 
--- An event by a part of a rig: 1 to 5; 6, of every buffer handed in, of how many are in flight, of the part's places, which are to be those that
+-- An event by a part of a rig: 1 to 5 and 21; 6, of every buffer handed in, of how many are in flight, of the part's places, which are to be those that
 -- the event names, and of what its parties keep. 19 and 7 to 13 are those of the rig's event (`ChangePost`'s `event`).
 unfoldable pub partQuestions : Config → ℕ → Part → Call → List ℕ → List ℕ → Lent → List Question
 partQuestions cfg m p a board read l =

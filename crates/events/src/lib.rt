@@ -91,7 +91,7 @@ pub struct Sizes {
     pub elements: usize,
 }
 
-// Questions 1 to 5, and 6 of the lengths of a board and of the buffers lent to a rig: the number of the first that is answered no, or 0.
+// Questions 1 to 5 and 21, and 6 of the lengths of a board and of the buffers lent to a rig: the number of the first that is answered no, or 0.
 pub fn ask(cfg: Config, m: usize, board: usize, sizes: Sizes) -> u8
     ensures { λ r. ⌜ r ≡ firstNo (rigQuestions cfg m ++ question 6 (lentSized cfg m board sizes) ∷ []) ⌝ }
 {
@@ -106,7 +106,7 @@ pub fn ask(cfg: Config, m: usize, board: usize, sizes: Sizes) -> u8
 }
 
 // The places of the server and of the client of the number by which an event is called: of event 3 the numbers that its record has, of any
-// other the party's for both, used or not; the first place where there is no such party. Both are below 16 where questions 1 to 5 are
+// other the party's for both, used or not; the first place where there is no such party. Both are below 16 where questions 1 to 5 and 21 are
 // answered yes.
 pub fn names(cfg: Config, count: usize, call: Call, messages: &[u8]) -> Places
     ensures { λ r. ⌜ r ≡ placesOf cfg count call (now (messages .entry)) ⌝ }
@@ -117,7 +117,7 @@ pub fn names(cfg: Config, count: usize, call: Call, messages: &[u8]) -> Places
     }
 }
 
-// An event of a rig, questions 1 to 6, 19 and 7 to 13, for a host that keeps its rig in place: it takes the part whose places `names` gives, and gives it
+// An event of a rig, questions 1 to 5, 21, 6, 19 and 7 to 13, for a host that keeps its rig in place: it takes the part whose places `names` gives, and gives it
 // back for the host to put there. 6 is asked of the buffers and of this part, and of no other party.
 pub fn changes(
     cfg: Config,

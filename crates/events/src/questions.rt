@@ -1,4 +1,4 @@
-// Questions 1 to 6 of an event, but for question 6 of what the parties keep.
+// Questions 1 to 6 and 21 of an event, but for question 6 of what the parties keep.
 use crate::Sizes;
 use config::Config;
 use config::RECORD;

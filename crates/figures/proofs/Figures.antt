@@ -1,12 +1,13 @@
 -- The table of document 01's figures holds: each is computed. Assumes nothing.
 use mathlib.Core.Path.{refl}
 use Rattle.figures.specs.Figures.{Figures}
+use Rattle.laws.specs.Below.{allBelow}
 use Rattle.laws.specs.Bytes.{tabulate}
 use Rattle.field.specs.Field.{times, partialProduct, doubled, double, power, inverseOf, inverseBelow}
 use Rattle.code.specs.Element.{element, elementByte}
 use Rattle.code.specs.Decoded.{decoded, decodedByte}
 use Rattle.code.specs.Polynomial as polynomial
-use Rattle.config.specs.Config.{questions}
+use Rattle.config.specs.Config.{questions, ranksWithin}
 use Rattle.config.specs.Questions.{firstNo}
 use Rattle.record.specs.Record.{all, allZero, clauses, elementBytes, fourBytes, headerBytes, kindOf, messageClauses, messageOf, ofConfig, recordOf, twoBytes, wellFormed}
 use Rattle.protocol.proofs.Evaluate.{answersTo}
@@ -15,7 +16,7 @@ use Rattle.server.specs.Within.{among, every, floorWithin, lengthsWithin, numbe
 use Rattle.server.specs.View.{each, view}
 
 pub figures : Figures
-unfolding times partialProduct doubled double power inverseOf inverseBelow element elementByte decoded decodedByte tabulate polynomial.sum polynomial.value polynomial.carried polynomial.rooted polynomial.roots polynomial.divided polynomial.scaled polynomial.lagrange polynomial.interpolated answersTo questions firstNo all allZero clauses elementBytes fourBytes headerBytes kindOf messageClauses messageOf ofConfig recordOf twoBytes wellFormed stepQuestions among every floorWithin tagsWithin lengthsWithin numbersWithin once stateWithin each view
+unfolding times partialProduct doubled double power inverseOf inverseBelow element elementByte decoded decodedByte tabulate polynomial.sum polynomial.value polynomial.carried polynomial.rooted polynomial.roots polynomial.divided polynomial.scaled polynomial.lagrange polynomial.interpolated answersTo questions ranksWithin allBelow firstNo all allZero clauses elementBytes fourBytes headerBytes kindOf messageClauses messageOf ofConfig recordOf twoBytes wellFormed stepQuestions among every floorWithin tagsWithin lengthsWithin numbersWithin once stateWithin each view
 figures =
     record {
       quorum-5-3 = refl;

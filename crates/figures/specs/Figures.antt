@@ -6,7 +6,7 @@ use mathlib.Core.Option.{Option, none, some}
 use mathlib.Core.List.{List, [], _∷_, map}
 use lib.ListN.{length, replicate}
 use Rattle.config.specs.declared.Config.{Config}
-use Rattle.config.specs.Config.{quorumOf}
+use Rattle.config.specs.Config.{noRanks, quorumOf}
 use Rattle.config.specs.Questions.{firstNo}
 use Rattle.field.specs.Field.{times}
 use Rattle.code.specs.Element.{element}
@@ -24,9 +24,9 @@ use Rattle.server.specs.declared.State.{State}
 use Rattle.server.specs.Calls.{stepQuestions}
 use Rattle.server.specs.View.{view}
 
--- N servers, any k, D, E and C clients
+-- N servers, any k, D, E and C clients, all of rank 0
 abbrev pub config : ℕ → ℕ → ℕ → ℕ → ℕ → Config
-config n k d e c = record { n = n; k = k; d = d; e = e; c = c }
+config n k d e c = record { n = n; k = k; d = d; e = e; c = c; ranks = noRanks }
 
 -- (z, c)
 abbrev pub tag : ℕ → ℕ → Tag
@@ -60,7 +60,7 @@ readFinalise z c = message ReadFinalise 1 (tag z c) none
 
 -- server 1 with D 0 is handed a message
 abbrev pub step : Server Element → Message Element → Served Element
-step v m = serverStep key 0 1 v m
+step v m = serverStep (key one) 0 1 v m
 
 -- "D 0, fresh", and after each of the pre-writes
 abbrev pub server-0 : Server Element
@@ -114,14 +114,14 @@ pub record Figures : Type 0 where
   pub two-2 : element three (1 ∷ 2 ∷ []) 2 ≡ 5 ∷ []
   pub two-3 : element three (1 ∷ 2 ∷ []) 3 ≡ 7 ∷ []
   -- "Tag (2, 1) is above (1, 9), and (2, 3) above (2, 1)."
-  pub tag-by-number : above (tag 2 1) (tag 1 9) ≡ true
-  pub tag-by-client : above (tag 2 3) (tag 2 1) ≡ true
+  pub tag-by-number : above (config 1 1 0 1 9) (tag 2 1) (tag 1 9) ≡ true
+  pub tag-by-client : above (config 1 1 0 1 9) (tag 2 3) (tag 2 1) ≡ true
   -- "D 0, fresh: pre-write (1, 1) gives floor (0, 0); then (2, 1) gives floor (1, 1);"
   pub floor-1 : server-1 .floor ≡ some (tag 0 0)
   pub floor-2 : server-2 .floor ≡ some (tag 1 1)
   -- "then (1, 2) gives floor (1, 2), not stored, acknowledged;"
   pub floor-3 : server-3 .server .floor ≡ some (tag 1 2)
-  pub not-stored : elementOf key (tag 1 2) (server-3 .server .stored) ≡ none
+  pub not-stored : elementOf (key one) (tag 1 2) (server-3 .server .stored) ≡ none
   pub acknowledged : server-3 .answer ≡ some (message PreWriteAnswer 2 (tag 1 2) none)
   -- "a read finalise of (1, 1) gets 15; one of (3, 1) is answered without an element." In document 02: "Where a server step gave 15 it now sends
   -- a record of kind 9".

@@ -40,7 +40,7 @@ pub record RanPost (cfg : Config) (m : ℕ) (rig : Rig) (l : Lent) (first : ℕ)
   pub whole : r .taken ≤ length input
   -- they are the rig's events, one after the other, the rig being kept in place
   pub steps : InPlace cfg m rig l events (r .rig) l′
-  -- there are none where one of questions 1 to 5 is answered no; and where there are none, rig and buffers are as they were
+  -- there are none where one of questions 1 to 5 and 21 is answered no; and where there are none, rig and buffers are as they were
   pub refused : (firstNo (rigQuestions cfg m) ≡ 0 → ⊥) → events ≡ []
   pub held : events ≡ [] → (r .rig ≡ rig) × (l′ ≡ l)
   pub count : r .count ≡ countAfter first (length events)

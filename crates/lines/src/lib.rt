@@ -27,6 +27,7 @@ pub const PROGRAM: Config = Config {
     d: 0,
     e: 1,
     c: 2,
+    ranks: [0; 16],
 };
 
 pub const PROGRAM_MESSAGES: usize = 64;

@@ -10,7 +10,8 @@ use lib.ListN.{length}
 use Rattle.laws.proofs.Bools.{and-left}
 use Rattle.config.specs.declared.Refusal.the-variants.{Seed, Shape}
 use Rattle.config.specs.declared.Verdict.{Verdict}
-use Rattle.config.specs.Config.{rigQuestions}
+use Rattle.laws.specs.Below.{allBelow}
+use Rattle.config.specs.Config.{rank, ranksWithin, rigQuestions}
 use Rattle.config.specs.Questions.{firstNo}
 use Rattle.events.specs.View.{Lent}
 use Rattle.events.specs.Questions.{rigWithin, sized, sizedBy}
@@ -77,7 +78,7 @@ make-no {seed} {count} {out} z =
 -- the buffers that it lends to its rig have their lengths
 pub lends : (l : Lent) → length (l .messages) ≡ 5120 → length (l .stores) ≡ 3 → length (l .boards) ≡ 2 → length (l .elements) ≡ 6
     → rig.makeNo program programMessages programStart l ≡ 0
-unfolding firstNo rigQuestions rig.makeQuestions sizedBy
+unfolding allBelow firstNo rank ranksWithin rigQuestions rig.makeQuestions sizedBy
 lends l m s b e =
     rw (eq-eqb (length (l .messages)) 5120 m, eq-eqb (length (l .stores)) 3 s, eq-eqb (length (l .boards)) 2 b, eq-eqb (length (l .elements)) 6 e)
 

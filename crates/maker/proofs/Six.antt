@@ -7,7 +7,8 @@ use native.Mathlib.Omega.{arith}
 use native.Mathlib.Decide.{ℕ-discrete}
 use borrow.Author.Tests.{eq-eqb, ne-eqb}
 use lib.Dec.{eqb}
-use Rattle.config.specs.Config.{rigQuestions}
+use Rattle.laws.specs.Below.{allBelow}
+use Rattle.config.specs.Config.{rank, ranksWithin, rigQuestions}
 use Rattle.config.specs.Questions.{ask, firstNo}
 use Rattle.lines.specs.Program.{program, programMessages}
 
@@ -21,9 +22,9 @@ whole-is long count h = elim (ℕ-discrete (long / 7) count) as (λ _. eqb (long
 pub not-whole : (long count : ℕ) → (long % 7 ≡ 0 → ⊥) → false ≡ eqb long (count * 7)
 not-whole long count h = sym (ne-eqb long (count * 7) (λ e. h (omega (arith, e))))
 
--- the program's configuration passes 1 to 5
+-- the program's configuration passes 1 to 5 and 21
 pub asked-is : (b : Bool) → eqb (firstNo (rigQuestions program programMessages ++ ask 6 b ∷ [])) 0 ≡ b
-unfolding firstNo rigQuestions
+unfolding allBelow firstNo rank ranksWithin rigQuestions
 asked-is true = refl
 asked-is false = refl
 

@@ -19,7 +19,7 @@ use Rattle.config.specs.Questions.{within}
 use Rattle.config.proofs.Questions.{within-true}
 use Rattle.tag.specs.declared.Tag.{Tag}
 use Rattle.tag.specs.Tag.{allowed, key, start}
-use Rattle.tag.proofs.Order.{allowed-client, key-one}
+use Rattle.tag.proofs.Order.{key-one, small}
 use Rattle.code.specs.Element.{element}
 use Rattle.code.proofs.Decoding.{length-element}
 use Rattle.record.specs.declared.Kind.{Kind}
@@ -50,6 +50,7 @@ use Rattle.protocol.specs.Server as server
 use Rattle.protocol.specs.Server.{addLast, answerTo, atOrBelowFloor, dropSmallest, elementOf, finalised, freshServer, inPlaceOf, isStored, noServer, others, readAnswer, serverStepOf, smallest, store, storeElement}
 use Rattle.protocol.specs.Tags.{higher, sameKey}
 use Rattle.protocol.proofs.Basics.{cond-elim, upd-elim}
+use Rattle.protocol.proofs.Store.{higher-elim}
 use Rattle.protocol.proofs.Judged.{awaits-it, first-kind, of-operation, of-tag}
 use Rattle.parties.specs.Sound.{Sound}
 use Rattle.parties.proofs.Sound.{sound-none, sound-one, sound-toEach}
@@ -100,15 +101,13 @@ pub record ActedFits (cfg : Config) (x : BoardActed) : Type 0 where
 start-fits : (cfg : Config) → TagFits cfg start
 start-fits cfg = (refl, omega arith)
 
-higher-fits : (cfg : Config) (t u : Tag) → TagFits cfg t → TagFits cfg u → TagFits cfg (higher key t u)
-unfolding higher
-higher-fits cfg t u a b = cond-elim (TagFits cfg) (ltb (key t) (key u)) u t (λ _. b) (λ _. a)
+higher-fits : (cfg : Config) (t u : Tag) → TagFits cfg t → TagFits cfg u → TagFits cfg (higher (key cfg) t u)
+higher-fits cfg t u a b = higher-elim (key cfg) (TagFits cfg) t u a b
 
 -- one key, one tag
-one-tag : (cfg : Config) → Valid cfg → (t u : Tag) → TagFits cfg t → TagFits cfg u → sameKey key t u ≡ true → t ≡ u
+one-tag : (cfg : Config) → Valid cfg → (t u : Tag) → TagFits cfg t → TagFits cfg u → sameKey (key cfg) t u ≡ true → t ≡ u
 one-tag cfg valid t u a b h =
-    key-one t u (omega (arith, allowed-client (cfg .c) t (a .0), valid .c-high)) (omega (arith, allowed-client (cfg .c) u (b .0), valid .c-high))
-    (eqb-true (key t) (key u) h)
+    key-one cfg valid t u (small cfg valid t (a .0)) (small cfg valid u (b .0)) (eqb-true (key cfg t) (key cfg u) h)
 
 -- ---- what a message of the configuration says
 
@@ -213,21 +212,21 @@ module _ (cfg : Config) (c : ℕ) (own : within 1 (cfg .c) c ≡ true) (o : ℕ)
 
   module _ (valid : Valid cfg) (m : BoardMessage) (good : ofConfig cfg m ≡ true) (mine : m .client ≡ c) where
     -- an awaited answer to a pre-write has the client's own tag
-    own-tag : (t : Tag) (cs : ℕ → Bool) → TagFits cfg t → (isFirst 4 cs m && sameKey key (m .tag) t) ≡ true → t .client ≡ c
+    own-tag : (t : Tag) (cs : ℕ → Bool) → TagFits cfg t → (isFirst 4 cs m && sameKey (key cfg) (m .tag) t) ≡ true → t .client ≡ c
     own-tag t cs h a =
-        let parts = of-tag key 4 cs m t a in
+        let parts = of-tag (key cfg) 4 cs m t a in
         let four = first-kind 4 cs m (λ e. omega arith) (parts .0) in
         let one = one-tag cfg valid (m .tag) t (message-fits cfg m good) h (parts .1) in
         let own : ownTag 4 (m .client) (m .tag) ≡ true = subst (λ k. ownTag k (m .client) (m .tag) ≡ true) four (own-clause cfg m good) in
         sym (ap (λ u. u .client) one) ∙ eqb-true (m .tag .client) (m .client) own ∙ mine
 
-    settled-fits : (p : BoardPhase) → PhaseFits cfg p → awaits key p m ≡ true
-        → MovedFits cfg (settling (encode cfg) (decode cfg) cfg c o (counting key p m))
+    settled-fits : (p : BoardPhase) → PhaseFits cfg p → awaits (key cfg) p m ≡ true
+        → MovedFits cfg (settling (encode cfg) (decode cfg) cfg c o (counting (key cfg) p m))
     unfolding settling counting PhaseFits awaits client.endRead
     settled-fits idle h a = stays-fits cfg _ tt
     settled-fits (asking b t cs) h a =
         let f = higher-fits cfg t (m .tag) (h .0) (message-fits cfg m good) in
-        cond-elim (MovedFits cfg) (enough cfg _) _ _ (λ _. asked-fits b (h .1) (higher key t (m .tag)) f) (λ _. stays-fits cfg _ (f, h .1))
+        cond-elim (MovedFits cfg) (enough cfg _) _ _ (λ _. asked-fits b (h .1) (higher (key cfg) t (m .tag)) f) (λ _. stays-fits cfg _ (f, h .1))
     settled-fits (preWriting t cs) h a =
         cond-elim (MovedFits cfg) (enough cfg _) _ _ (λ _. writes-fit t h (own-tag t cs h a)) (λ _. stays-fits cfg _ h)
     settled-fits (finalisingWrite t cs) h a = cond-elim (MovedFits cfg) (enough cfg _) _ _ (λ _. ends-fits cfg o _) (λ _. stays-fits cfg _ h)
@@ -259,13 +258,13 @@ module _ (cfg : Config) (c : ℕ) (own : within 1 (cfg .c) c ≡ true) (x : Boar
       → MovedFits cfg (clientStep cfg c x m)
   unfolding client.clientStep client.receives client.settle client.counted awaited
   step-fits valid fits m good mine =
-      cond-elim (MovedFits cfg) (awaited key x m) (client.receives key (encode cfg) (decode cfg) cfg c x m) (stays x)
+      cond-elim (MovedFits cfg) (awaited (key cfg) x m) (client.receives (key cfg) (encode cfg) (decode cfg) cfg c x m) (stays x)
       (λ a.
       cond-elim (MovedFits cfg) (client.isCleared (m .kind)) (client.askAgain cfg c (x .operation))
-      (settling (encode cfg) (decode cfg) cfg c (x .operation) (counting key (x .phase) m))
+      (settling (encode cfg) (decode cfg) cfg c (x .operation) (counting (key cfg) (x .phase) m))
       (λ _. again-fits)
-      (λ _. settled-fits cfg c own (x .operation) (subst (λ n. within 1 highestNumber n ≡ true) (of-operation key m x a) (operation-within cfg m good)) valid m good mine
-      (x .phase) fits (awaits-it key m x a)))
+      (λ _. settled-fits cfg c own (x .operation) (subst (λ n. within 1 highestNumber n ≡ true) (of-operation (key cfg) m x a) (operation-within cfg m good)) valid m good mine
+      (x .phase) fits (awaits-it (key cfg) m x a)))
       (λ _. stays-fits cfg x fits)
 
 -- ---- a server
@@ -276,42 +275,42 @@ module _ (cfg : Config) where
   add-fits [] y h k = (k, tt)
   add-fits (x ∷ xs) y h k = (h .0, add-fits xs y (h .1) k)
 
-  in-place-fits : (u : Tag) (xs : List BoardStored) (y : BoardStored) → StoreFits cfg xs → StoredFits cfg y → StoreFits cfg (inPlaceOf key u y xs)
+  in-place-fits : (u : Tag) (xs : List BoardStored) (y : BoardStored) → StoreFits cfg xs → StoredFits cfg y → StoreFits cfg (inPlaceOf (key cfg) u y xs)
   unfolding StoreFits inPlaceOf
   in-place-fits u [] y h k = tt
   in-place-fits u (x ∷ xs) y h k =
-      cond-elim (StoreFits cfg) (sameKey key (x .tag) u) (y ∷ xs) (x ∷ inPlaceOf key u y xs) (λ _. (k, h .1)) (λ _. (h .0, in-place-fits u xs y (h .1) k))
+      cond-elim (StoreFits cfg) (sameKey (key cfg) (x .tag) u) (y ∷ xs) (x ∷ inPlaceOf (key cfg) u y xs) (λ _. (k, h .1)) (λ _. (h .0, in-place-fits u xs y (h .1) k))
 
-  others-fit : (u : Tag) (xs : List BoardStored) (y : BoardStored) → StoreFits cfg xs → StoredFits cfg y → StoreFits cfg (others key u y xs)
+  others-fit : (u : Tag) (xs : List BoardStored) (y : BoardStored) → StoreFits cfg xs → StoredFits cfg y → StoreFits cfg (others (key cfg) u y xs)
   unfolding others
   others-fit u xs y h k =
-      cond-elim (StoreFits cfg) (sameKey key u (y .tag)) xs (inPlaceOf key u y xs) (λ _. h) (λ _. in-place-fits u xs y h k)
+      cond-elim (StoreFits cfg) (sameKey (key cfg) u (y .tag)) xs (inPlaceOf (key cfg) u y xs) (λ _. h) (λ _. in-place-fits u xs y h k)
 
-  store-fits : (v : BoardServer) (y : BoardStored) → ServerFits cfg v → StoredFits cfg y → ServerFits cfg (store key (cfg .d) v y)
+  store-fits : (v : BoardServer) (y : BoardStored) → ServerFits cfg v → StoredFits cfg y → ServerFits cfg (store (key cfg) (cfg .d) v y)
   unfolding store addLast dropSmallest
   store-fits v y h k =
-      cond-elim (ServerFits cfg) (isStored key (y .tag) (v .stored) || atOrBelowFloor key (y .tag) (v .floor)) v
-      (cond (ltb (length (v .stored)) (cfg .d + 1)) (addLast v y) (dropSmallest key v y)) (λ _. h)
-      (λ _. cond-elim (ServerFits cfg) (ltb (length (v .stored)) (cfg .d + 1)) (addLast v y) (dropSmallest key v y)
+      cond-elim (ServerFits cfg) (isStored (key cfg) (y .tag) (v .stored) || atOrBelowFloor (key cfg) (y .tag) (v .floor)) v
+      (cond (ltb (length (v .stored)) (cfg .d + 1)) (addLast v y) (dropSmallest (key cfg) v y)) (λ _. h)
+      (λ _. cond-elim (ServerFits cfg) (ltb (length (v .stored)) (cfg .d + 1)) (addLast v y) (dropSmallest (key cfg) v y)
       (λ _. record { highest = h .highest; stored = add-fits (v .stored) y (h .stored) k })
-      (λ _. record { highest = h .highest; stored = others-fit (smallest key (y .tag) (v .stored)) (v .stored) y (h .stored) k }))
+      (λ _. record { highest = h .highest; stored = others-fit (smallest (key cfg) (y .tag) (v .stored)) (v .stored) y (h .stored) k }))
 
   element-fits : (v : BoardServer) (t : Tag) (e : Option Element) → ServerFits cfg v → TagFits cfg t → sized cfg e ≡ true
-      → ServerFits cfg (storeElement key (cfg .d) v t e)
+      → ServerFits cfg (storeElement (key cfg) (cfg .d) v t e)
   unfolding storeElement
   element-fits v t none h k z = h
   element-fits v t (some e) h k z = store-fits v (record { tag = t; element = e }) h (k, z)
 
-  finalised-fits : (v : BoardServer) (t : Tag) → ServerFits cfg v → TagFits cfg t → ServerFits cfg (finalised key v t)
+  finalised-fits : (v : BoardServer) (t : Tag) → ServerFits cfg v → TagFits cfg t → ServerFits cfg (finalised (key cfg) v t)
   unfolding finalised
   finalised-fits v t h k = record { highest = higher-fits cfg (v .highest) t (h .highest) k; stored = h .stored }
 
   -- a stored element has E bytes and a length that fits
-  stored-sized : (t : Tag) (xs : List BoardStored) → StoreFits cfg xs → sized cfg (elementOf key t xs) ≡ true
+  stored-sized : (t : Tag) (xs : List BoardStored) → StoreFits cfg xs → sized cfg (elementOf (key cfg) t xs) ≡ true
   unfolding StoreFits elementOf
   stored-sized t [] h = refl
   stored-sized t (x ∷ xs) h =
-      cond-elim (λ o. sized cfg o ≡ true) (sameKey key (x .tag) t) (some (x .element)) (elementOf key t xs)
+      cond-elim (λ o. sized cfg o ≡ true) (sameKey (key cfg) (x .tag) t) (some (x .element)) (elementOf (key cfg) t xs)
       (λ _. h .0 .1) (λ _. stored-sized t xs (h .1))
 
 module _ (cfg : Config) (s : ℕ) (v : BoardServer) (fits : ServerFits cfg v) (m : BoardMessage) (good : ofConfig cfg m ≡ true) (mine : m .server ≡ s) where
@@ -327,15 +326,15 @@ module _ (cfg : Config) (s : ℕ) (v : BoardServer) (fits : ServerFits cfg v) (m
   own-of : (kind : Kind) → m .kind ≡ kind → ownTag (kindNumber kind) (m .client) (m .tag) ≡ true
   own-of kind e = subst (λ (k : Kind). ownTag (kindNumber k) (m .client) (m .tag) ≡ true) e (own-clause cfg m good)
 
-  read-sound : (e : Option Element) → sized cfg e ≡ true → Sound cfg (toList (some (readAnswer key s (v .floor) m e)))
+  read-sound : (e : Option Element) → sized cfg e ≡ true → Sound cfg (toList (some (readAnswer (key cfg) s (v .floor) m e)))
   unfolding readAnswer toList
   read-sound none h =
-      cond-elim (λ (kind : Kind). Sound cfg (toList (some (answerTo s m kind (m .tag) none)))) (atOrBelowFloor key (m .tag) (v .floor)) Cleared ReadFinaliseAnswer
+      cond-elim (λ (kind : Kind). Sound cfg (toList (some (answerTo s m kind (m .tag) none)))) (atOrBelowFloor (key cfg) (m .tag) (v .floor)) Cleared ReadFinaliseAnswer
       (λ _. answer-is-of Cleared (m .tag) none (message-fits cfg m good) refl refl refl refl)
       (λ _. answer-is-of ReadFinaliseAnswer (m .tag) none (message-fits cfg m good) refl refl refl refl)
   read-sound (some e) h = answer-is-of ReadFinaliseAnswer (m .tag) (some e) (message-fits cfg m good) h refl refl refl
 
-  sound-of : (kind : Kind) → m .kind ≡ kind → Sound cfg (toList (serverStepOf kind key (cfg .d) s v m .answer))
+  sound-of : (kind : Kind) → m .kind ≡ kind → Sound cfg (toList (serverStepOf kind (key cfg) (cfg .d) s v m .answer))
   unfolding serverStepOf server.query server.preWrite server.writeFinalise server.readFinalise toList
   sound-of Query e = answer-is-of QueryAnswer (v .highest) none (fits .highest) refl refl refl refl
   sound-of QueryAnswer e = sound-none
@@ -343,11 +342,11 @@ module _ (cfg : Config) (s : ℕ) (v : BoardServer) (fits : ServerFits cfg v) (m
   sound-of PreWriteAnswer e = sound-none
   sound-of WriteFinalise e = answer-is-of WriteFinaliseAnswer (m .tag) none (message-fits cfg m good) refl refl (own-of WriteFinalise e) refl
   sound-of WriteFinaliseAnswer e = sound-none
-  sound-of ReadFinalise e = read-sound (elementOf key (m .tag) (v .stored)) (stored-sized cfg (m .tag) (v .stored) (fits .stored))
+  sound-of ReadFinalise e = read-sound (elementOf (key cfg) (m .tag) (v .stored)) (stored-sized cfg (m .tag) (v .stored) (fits .stored))
   sound-of ReadFinaliseAnswer e = sound-none
   sound-of Cleared e = sound-none
 
-  fits-of : (kind : Kind) → ServerFits cfg (serverStepOf kind key (cfg .d) s v m .server)
+  fits-of : (kind : Kind) → ServerFits cfg (serverStepOf kind (key cfg) (cfg .d) s v m .server)
   unfolding serverStepOf server.query server.preWrite server.writeFinalise server.readFinalise
   fits-of Query = fits
   fits-of QueryAnswer = fits

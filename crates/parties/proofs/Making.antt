@@ -41,7 +41,7 @@ use Rattle.parties.specs.declared.Node.{Node}
 use Rattle.parties.specs.Fresh.{FreshClientPost, FreshServerPost, freshNode, freshState, serverNo, freshServerQuestions}
 use Rattle.parties.specs.inner.Fresh.{NodePost, NodePre}
 
--- the questions of a server, where 1 to 5 are answered yes
+-- the questions of a server, where 1 to 5 and 21 are answered yes
 module _ (cfg : Config) (s start store : ℕ) {asked : ℕ} (e : asked ≡ firstNo (questions cfg)) (none-yet : asked ≡ 0) where
   abbrev long : Bool
   long = eqb start (boardLength cfg) && eqb store (storeLength cfg)

@@ -64,7 +64,7 @@ absent (some e) h = absurd (true≢false (sym h))
 
 module _ (cfg : Config) (c : ℕ) (w : BoardMessage) (of : ofConfig cfg w ≡ true) where
   abbrev step : BoardClient → BoardMoved
-  step x = protocol.clientStep key (encode cfg) (decode cfg) cfg c x w
+  step x = protocol.clientStep (key cfg) (encode cfg) (decode cfg) cfg c x w
 
   abbrev Bare : BoardMoved → Type 0
   Bare y = (w .element ≡ none) × (y .ended ≡ nothing)
@@ -93,13 +93,13 @@ module _ (cfg : Config) (c : ℕ) (w : BoardMessage) (of : ofConfig cfg w ≡ tr
   abbrev Silent : BoardMoved → Type 0
   Silent y = Sends y → ⊥
 
-  by-phase : (o : ℕ) (p : BoardPhase) → awaits key p w ≡ true → Sends (settles o (counting key p w)) → Bare (settles o (counting key p w))
+  by-phase : (o : ℕ) (p : BoardPhase) → awaits (key cfg) p w ≡ true → Sends (settles o (counting (key cfg) p w)) → Bare (settles o (counting (key cfg) p w))
   unfolding awaits counting settling stays sendWriteFinalises ends endRead
   by-phase o idle h s = absurd (s refl)
   by-phase o (asking b t cs) h s =
       (bare 2 (λ b. refl) (first-kind 2 cs w (λ e. omega arith) h), cond-elim Quiet (enough cfg _) _ _ (λ _. asked-quiet o b _) (λ _ _. refl) s)
   by-phase o (preWriting t cs) h s =
-      (bare 4 (λ b. refl) (first-kind 4 cs w (λ e. omega arith) (of-tag key 4 cs w t h .0)), cond-elim Quiet (enough cfg _) _ _ (λ _ _. refl) (λ _ _. refl) s)
+      (bare 4 (λ b. refl) (first-kind 4 cs w (λ e. omega arith) (of-tag (key cfg) 4 cs w t h .0)), cond-elim Quiet (enough cfg _) _ _ (λ _ _. refl) (λ _ _. refl) s)
   by-phase o (finalisingWrite t cs) h s = absurd (cond-elim Silent (enough cfg _) _ _ (λ _ n. n refl) (λ _ n. n refl) s)
   by-phase o (finalisingRead t cs es) h s = absurd (cond-elim Silent (enoughToRead cfg _ _) _ _ (λ _ n. n refl) (λ _ n. n refl) s)
   by-phase o down h s = absurd (s refl)
@@ -114,11 +114,11 @@ module _ (cfg : Config) (c : ℕ) (w : BoardMessage) (of : ofConfig cfg w ≡ tr
   pub sends-bare : (x : BoardClient) → Sends (step x) → Bare (step x)
   unfolding protocol.clientStep receives settle counted stays awaited
   sends-bare x =
-      cond-elim (λ y. Sends y → Bare y) (awaited key x w) (receives key (encode cfg) (decode cfg) cfg c x w) (stays x)
+      cond-elim (λ y. Sends y → Bare y) (awaited (key cfg) x w) (receives (key cfg) (encode cfg) (decode cfg) cfg c x w) (stays x)
       (λ e.
-      cond-elim (λ y. Sends y → Bare y) (isCleared (w .kind)) (askAgain cfg c (x .operation)) (settles (x .operation) (counting key (x .phase) w))
+      cond-elim (λ y. Sends y → Bare y) (isCleared (w .kind)) (askAgain cfg c (x .operation)) (settles (x .operation) (counting (key cfg) (x .phase) w))
       (again-bare (x .operation))
-      (λ _. by-phase (x .operation) (x .phase) (awaits-it key w x e)))
+      (λ _. by-phase (x .operation) (x .phase) (awaits-it (key cfg) w x e)))
       (λ _ s. absurd (s refl))
 
 -- ---- the questions
@@ -145,7 +145,7 @@ module _ (cfg : Config) (x : client.State) (handed kept es sends read : List ℕ
   w = messageOf cfg handed
 
   abbrev expected : Bool
-  expected = awaited key (clientView.view cfg x kept es) w
+  expected = awaited (key cfg) (clientView.view cfg x kept es) w
 
   -- the step asks one question more, 14
   one-more : stepQuestions cfg x handed (lent kept es sends read) ≡ list ++ ask 14 expected ∷ []
@@ -262,10 +262,10 @@ module _ (cfg : Config) (x : Pair) (handed store kept es es′ sends sends′ re
     unfolding protocol.clientStep
     either-way =
         ap (λ k. cond (eqb k 0) move (stays before)) (step-pass cfg me handed kept es sends read none-no)
-        ∙ told (awaited key before m)
+        ∙ told (awaited (key cfg) before m)
       where
-        told : (z : Bool) → cond (eqb (cond z 0 14) 0) (cond z (receives key (encode cfg) (decode cfg) cfg c before m) (stays before)) (stays before)
-            ≡ cond z (receives key (encode cfg) (decode cfg) cfg c before m) (stays before)
+        told : (z : Bool) → cond (eqb (cond z 0 14) 0) (cond z (receives (key cfg) (encode cfg) (decode cfg) cfg c before m) (stays before)) (stays before)
+            ≡ cond z (receives (key cfg) (encode cfg) (decode cfg) cfg c before m) (stays before)
         told true = refl
         told false = refl
 
@@ -276,9 +276,9 @@ module _ (cfg : Config) (x : Pair) (handed store kept es es′ sends sends′ re
         let s = serverNumber (x .node .state .me) in
         subst (λ n. delivers cfg handed (withPair p s v (x .node .up) n before)
         ≡ record {
-          parties = withPair p s v (x .node .up) n (protocol.clientStep key (encode cfg) (decode cfg) cfg n before m .client);
-          sends = protocol.clientStep key (encode cfg) (decode cfg) cfg n before m .sends;
-          answer = parties.answerOf n (protocol.clientStep key (encode cfg) (decode cfg) cfg n before m .ended);
+          parties = withPair p s v (x .node .up) n (protocol.clientStep (key cfg) (encode cfg) (decode cfg) cfg n before m .client);
+          sends = protocol.clientStep (key cfg) (encode cfg) (decode cfg) cfg n before m .sends;
+          answer = parties.answerOf n (protocol.clientStep (key cfg) (encode cfg) (decode cfg) cfg n before m .ended);
         })
         (for-me cfg me handed kept es sends read none-no)
         (deliver-client (order cfg) (encode cfg) (decode cfg) cfg p v before m s (x .node .up) (its-kind cfg me handed kept es sends read none-no))
@@ -343,7 +343,7 @@ module _ (cfg : Config) (x : Pair) (handed store kept es es′ sends sends′ re
       let n : stepped ≡ refusalNumber why = sym (post .answered .number) ∙ ap verdictNumber e in
       let some-no : stepped ≡ 0 → ⊥ = λ z. omega (arith, number-low why, n, z) in
       let same : refusalNumber why ≡ refusal = elim (ℕ-discrete refusal 0) as (λ _. refusalNumber why ≡ refusal) [
-        | yes z ↦ absurd (either (awaited key before m) (step-pass cfg me handed kept es sends read z) some-no (λ k. not-14 (post .answered .number ∙ k)))
+        | yes z ↦ absurd (either (awaited (key cfg) before m) (step-pass cfg me handed kept es sends read z) some-no (λ k. not-14 (post .answered .number ∙ k)))
         | no k ↦ sym n ∙ step-stop cfg me handed kept es sends read k
       ] in
       let still : unlessNo stepped before move ≡ stays before = ap (λ (b : Bool). cond b move (stays before)) (ne-eqb stepped 0 some-no) in

@@ -27,7 +27,7 @@ freshNode length s = record { state = server.freshState (record { 0 = s }) lengt
 abbrev pub freshState : ℕ → client.State
 freshState c = clientCalls.freshState (record { 0 = c })
 
--- A server: questions 1 to 5; 6, the lengths of the starting board and of the store; 8, is it a server's number?
+-- A server: questions 1 to 5 and 21; 6, the lengths of the starting board and of the store; 8, is it a server's number?
 unfoldable pub freshServerQuestions : Config → ℕ → ℕ → ℕ → List Question
 freshServerQuestions cfg s start store =
     questions cfg ++ ask 6 (eqb start (boardLength cfg) && eqb store (storeLength cfg)) ∷ ask 8 (within 1 (cfg .n) s) ∷ []
@@ -45,7 +45,7 @@ pub record FreshServerPost (cfg : Config) (s : ℕ) (start before after : List �
   -- a refusal gives server 1 with a board of one byte, and leaves the store
   pub refused : (serverNo cfg s start before ≡ 0 → ⊥) → (r .node ≡ freshNode 1 1) × (after ≡ before)
 
--- A client: questions 1 to 5, and 8. A refusal gives client 1.
+-- A client: questions 1 to 5, 21 and 8. A refusal gives client 1.
 pub record FreshClientPost (cfg : Config) (c : ℕ) (r : NewState) : Type 0 where
   pub number : verdictNumber (r .verdict) ≡ firstNo (clientQuestions cfg c)
   pub made : firstNo (clientQuestions cfg c) ≡ 0 → r .state ≡ freshState c

@@ -23,6 +23,6 @@ unfoldable pub clientInPlace : Config → ℕ → Option client.State → Bool
 clientInPlace cfg i none = false
 clientInPlace cfg i (some x) = eqb (clientNumber (x .me)) (i + 1) && stateWithin cfg x
 
--- A party in a place: questions 1 to 5; 6, as one of the two above answers it.
+-- A party in a place: questions 1 to 5 and 21; 6, as one of the two above answers it.
 abbrev pub placeQuestions : Config → Bool → List Question
 placeQuestions cfg within = questions cfg ++ ask 6 within ∷ []

@@ -11,7 +11,7 @@ ghost use Rattle.client.specs.Questions.{beginReadQuestions, beginWriteQuestion
 ghost use Rattle.protocol.specs.Boards.{boardOf};
 ghost use Rattle.parties.specs.Acts.{ActPost, begins, parts};
 
-// The client begins to write a board of a length, which it keeps: questions 1 to 6, 19, 9, 10 and 11.
+// The client begins to write a board of a length, which it keeps: questions 1 to 5, 21, 6, 19, 9, 10 and 11.
 pub fn write(
     cfg: Config,
     pair: Pair,
@@ -27,7 +27,7 @@ pub fn write(
     outcome::moved(pair, y)
 }
 
-// The client begins to read: questions 1 to 6, 9, 10 and 11.
+// The client begins to read: questions 1 to 5, 21, 6, 9, 10 and 11.
 pub fn read(cfg: Config, pair: Pair, sends: &mut [u8]) -> Acted
     ensures { λ r. ⌜ ((store kept es read : List ℕ) → ActPost cfg (firstNo (beginReadQuestions cfg (pair .client) (now (sends .entry)))) (begins cfg pair none) pair (parts store kept es) (now (sends .entry)) read r (parts store kept es) (now (sends .exit)) read) ⌝ }
 {

@@ -26,7 +26,7 @@ pub fn server(pair: Pair) -> Acted
     outcome::quiet(Pair { node: down, client })
 }
 
-// The client crashes: questions 1 to 6, and 9.
+// The client crashes: questions 1 to 5, 21, 6 and 9.
 pub fn client(cfg: Config, pair: Pair) -> Acted
     ensures { λ r. ⌜ ((l : Parts) (sends read : List ℕ) → ActPost cfg (firstNo (crashQuestions cfg (pair .client))) (crashesClient pair) pair l sends read r l sends read) ⌝ }
 {

@@ -15,7 +15,7 @@ ghost use Rattle.config.specs.Questions.{firstNo};
 ghost use Rattle.parties.specs.Acts.{ActPost, ClientPost, delivers, parts, toClientQuestions};
 ghost use Rattle.server.specs.Calls.{stepQuestions};
 
-// The server is handed a record: questions 1 to 5, 6, 12 and 16. Where it is down the message is gone.
+// The server is handed a record: questions 1 to 5, 21, 6, 12 and 16. Where it is down the message is gone.
 pub fn server(cfg: Config, pair: Pair, handed: &[u8], store: &mut [u8], answer: &mut [u8]) -> Acted
     ensures { λ r. ⌜ ((kept es read : List ℕ) → ActPost cfg (firstNo (stepQuestions cfg (pair .node .state) (now (handed .entry)) (length (now (store .entry))) (length (now (answer .entry))))) (delivers cfg (now (handed .entry))) pair (parts (now (store .entry)) kept es) (now (answer .entry)) read r (parts (now (store .exit)) kept es) (now (answer .exit)) read) ⌝ }
 {
@@ -32,7 +32,7 @@ pub fn server(cfg: Config, pair: Pair, handed: &[u8], store: &mut [u8], answer: 
     outcome::stepped(pair, y)
 }
 
-// The client is handed a record: questions 1 to 5, 6, 12 and 16. An answer that is not awaited, 14, changes nothing and sends nothing.
+// The client is handed a record: questions 1 to 5, 21, 6, 12 and 16. An answer that is not awaited, 14, changes nothing and sends nothing.
 pub fn client(
     cfg: Config,
     pair: Pair,

@@ -3,6 +3,7 @@ use crate::Node;
 use client::NewState;
 use config::Client;
 use config::Config;
+use config::LEAST;
 use config::NewClient;
 use config::NewServer;
 use config::Server;
@@ -22,7 +23,7 @@ pub struct NewNode {
     pub node: Node,
 }
 
-// The server of a number, fresh and up: questions 1 to 5, 6 and 8. Its element of the starting board goes into its store. On a refusal the
+// The server of a number, fresh and up: questions 1 to 5, 21, 6 and 8. Its element of the starting board goes into its store. On a refusal the
 // server is of no use.
 pub fn server(cfg: Config, s: u8, start: &[u8], store: &mut [u8]) -> NewNode
     ensures { λ r. ⌜ FreshServerPost cfg s (now (start .entry)) (now (store .entry)) (now (store .exit)) r ⌝ }
@@ -40,7 +41,7 @@ pub fn server(cfg: Config, s: u8, start: &[u8], store: &mut [u8]) -> NewNode
     }
 }
 
-// The client of a number, fresh: questions 1 to 5, and 8. On a refusal the client is of no use.
+// The client of a number, fresh: questions 1 to 5, 21 and 8. On a refusal the client is of no use.
 pub fn client(cfg: Config, c: u8) -> NewState
     ensures { λ r. ⌜ FreshClientPost cfg c r ⌝ }
 {
@@ -57,13 +58,7 @@ pub fn client(cfg: Config, c: u8) -> NewState
 fn least_client() -> client::State
     ensures { λ r. ⌜ r ≡ freshState 1 ⌝ }
 {
-    let cfg = Config {
-        n: 1,
-        k: 1,
-        d: 0,
-        e: 1,
-        c: 1,
-    };
+    let cfg = LEAST;
     let me = client_number(cfg, 1);
     let made = client::fresh(cfg, me);
     made.state
@@ -104,13 +99,7 @@ fn asked(cfg: Config, s: u8, start: usize, store: usize) -> u8
 fn least() -> Node
     ensures { λ r. ⌜ r ≡ freshNode 1 1 ⌝ }
 {
-    let cfg = Config {
-        n: 1,
-        k: 1,
-        d: 0,
-        e: 1,
-        c: 1,
-    };
+    let cfg = LEAST;
     let start = [0u8; 1];
     let mut store = [0u8; 1];
     node(cfg, 1, &start, &mut store)

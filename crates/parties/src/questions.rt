@@ -1,5 +1,5 @@
-// Question 6 of a party in its place of a rig, for whoever keeps the parties in places: the number of the first of 1 to 6 that is answered
-// no, or 0. A party's own number is that of its place: server s and client c stand in the places s - 1 and c - 1.
+// Question 6 of a party in its place of a rig, for whoever keeps the parties in places: the number of the first of 1 to 6 and 21 that is
+// answered no, or 0. A party's own number is that of its place: server s and client c stand in the places s - 1 and c - 1.
 use crate::Node;
 use config::Config;
 ghost use mathlib.Core.Option.{some};

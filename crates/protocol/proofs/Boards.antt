@@ -1,6 +1,6 @@
 -- The documents' tags and code are what the theorem over the protocol asks for: an order of tags, and a code of which any k elements
 -- of a board give that board back, its length too.
-use Prim.Native.Nat.{ℕ, _+_, _<_, _≤_}
+use Prim.Native.Nat.{ℕ, _+_, _≤_}
 use mathlib.Core.Path.{_≡_, refl, sym, ap, ap₂, _∙_}
 use mathlib.Core.Bool.{true}
 use mathlib.Core.List.{List, [], _∷_, map, List·Memᴰ}
@@ -9,9 +9,7 @@ use borrow.Author.Tests.{leb-true, lt-ltb, le-leb}
 use lib.ListN.{length, length-map}
 use Rattle.config.specs.declared.Config.{Config}
 use Rattle.config.specs.Config.{Valid, boardLength}
-use Rattle.tag.specs.declared.Tag.{Tag}
-use Rattle.tag.specs.Tag.{key}
-use Rattle.tag.proofs.Order.{key-one}
+use Rattle.tag.proofs.Order.{above-key, key-one, number-above}
 use Rattle.code.specs.Decoded.{decodedPairs, risingAbove}
 use Rattle.code.specs.Element.{element}
 use Rattle.code.proofs.Decoding.{decode-pairs}
@@ -22,16 +20,12 @@ use Rattle.protocol.specs.Laws.{TagOrder, Coding, Rising, ElementsOf}
 use Rattle.protocol.proofs.Cut.{filled-is}
 use Rattle.protocol.proofs.Theorem as theorem
 
-next-key : (t : Tag) (c : ℕ) → t .client ≤ 16 → 1 ≤ c → key t < key (record { number = t .number + 1; client = c })
-unfolding key
-next-key t c h l = omega arith
-
--- document 01's order of tags
+-- the documents' order of tags
 pub tag-order : (cfg : Config) → Valid cfg → TagOrder cfg (order cfg)
 tag-order cfg v =
     record {
-      injective = λ t u a b e. key-one t u (omega (arith, a, v .c-high)) (omega (arith, b, v .c-high)) e;
-      next = λ t c a l h. next-key t c (omega (arith, a, v .c-high)) l;
+      injective = λ t u a b e. key-one cfg v t u (omega (arith, a, v .c-high)) (omega (arith, b, v .c-high)) e;
+      next = λ t c a l h. above-key cfg v (record { number = t .number + 1; client = c }) t (omega (arith, h, v .c-high)) (omega (arith, a, v .c-high)) (number-above cfg _ t (omega arith));
     }
 
 abbrev numbers : {A : Type 0} → List (ℕ × A) → List ℕ

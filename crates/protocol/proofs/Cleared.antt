@@ -6,6 +6,7 @@ use mathlib.Core.Option.{Option, none, some}
 use mathlib.Core.List.{List, [], _∷_, _++_}
 use lib.ListN.{replicate}
 use Rattle.config.specs.declared.Config.{Config}
+use Rattle.config.specs.Config.{noRanks}
 use Rattle.config.specs.Questions.{firstNo}
 use Rattle.tag.specs.declared.Tag.{Tag}
 use Rattle.tag.specs.Tag.{key}
@@ -48,13 +49,13 @@ lateRead =
     read 1 ∷ hand (0 ∷ 0 ∷ 1 ∷ 1 ∷ []) ++ write 2 171 ∷ hand (4 ∷ 4 ∷ 5 ∷ 5 ∷ 5 ∷ 5 ∷ 1 ∷ [])
     ++ double 7 ∷ hand (7 ∷ 7 ∷ 5 ∷ 5 ∷ 8 ∷ 8 ∷ 9 ∷ 9 ∷ 5 ∷ 5 ∷ 7 ∷ 7 ∷ 7 ∷ 7 ∷ 8 ∷ 8 ∷ 1 ∷ 7 ∷ [])
 
-pub late-read : answersTo key encode decode config (λ v. true) 64 0 lateRead
+pub late-read : answersTo (key config) encode decode config (λ v. true) 64 0 lateRead
     ≡ replicate 21 nothingEnded ++ writtenBy 2 (tag 1 2) ∷ replicate 7 nothingEnded ++ readBy 1 (tag 1 2) 171 ∷ nothingEnded ∷ nothingEnded ∷ []
 unfolding answersTo
 late-read = refl
 
 abbrev lateEvents : List (Event ℕ)
-lateEvents = Rig.run key encode decode config (λ v. true) 64 (Rig.freshRig config encode 0) lateRead
+lateEvents = Rig.run (key config) encode decode config (λ v. true) 64 (Rig.freshRig config encode 0) lateRead
 
 -- "To the history this is one read, begun once": at its begin, and nothing begins where it asks again
 pub one-read : (history lateEvents 0 ≡ showed 171 29) × (history lateEvents 14 ≡ noOperation) × (history lateEvents 5 ≡ wrote 171 21)
@@ -73,7 +74,7 @@ spent-left-out = refl
 -- servers 1 and 2, and it takes (2, 3). Client 2's write of 68 clears that; the read asks again, servers 1 and 3 answer, and it ends with the
 -- lower tag (1, 2).
 abbrev three : Config
-three = record { n = 3; k = 1; d = 0; e = 1; c = 3 }
+three = record { n = 3; k = 1; d = 0; e = 1; c = 3; ranks = noRanks }
 
 abbrev lowerTag : List (Call ℕ)
 lowerTag =
@@ -82,13 +83,13 @@ lowerTag =
     ++ read 1 ∷ hand (8 ∷ 10 ∷ 8 ∷ 9 ∷ [])
     ++ write 2 68 ∷ hand (13 ∷ 14 ∷ 13 ∷ 13 ∷ 14 ∷ 10 ∷ 15 ∷ 15 ∷ 17 ∷ 16 ∷ 16 ∷ 16 ∷ 18 ∷ 17 ∷ 17 ∷ [])
 
-pub lower-tag : answersTo key encode decode three (λ v. true) 64 0 lowerTag
+pub lower-tag : answersTo (key three) encode decode three (λ v. true) 64 0 lowerTag
     ≡ replicate 12 nothingEnded ++ writtenBy 2 (tag 1 2) ∷ replicate 30 nothingEnded ++ readBy 1 (tag 1 2) 34 ∷ []
 unfolding answersTo
 lower-tag = refl
 
 abbrev lowerEvents : List (Event ℕ)
-lowerEvents = Rig.run key encode decode three (λ v. true) 64 (Rig.freshRig three encode 0) lowerTag
+lowerEvents = Rig.run (key three) encode decode three (λ v. true) 64 (Rig.freshRig three encode 0) lowerTag
 
 pub lower-history :
     (history lowerEvents 0 ≡ wrote 34 12)
@@ -109,7 +110,7 @@ abbrev cleared : ℕ → Tag → ℕ → Message ℕ
 cleared s t o = record { kind = Cleared; client = 1; server = s; operation = o; tag = t; element = none }
 
 abbrev step : Client ℕ ℕ → Message ℕ → Moved ℕ ℕ
-step x m = clientStep key encode decode config 1 x m
+step x m = clientStep (key config) encode decode config 1 x m
 
 -- "raises its operation number by 1 and queries again", and the number 4,294,967,295 is taken too
 pub asks-again : (step (reading 5) (cleared 1 (tag 2 1) 5) ≡ sendQueries config 1 6 none)
@@ -139,7 +140,7 @@ abbrev message : Kind → Tag → Option ℕ → Message ℕ
 message kind t e = record { kind = kind; client = 3; server = 1; operation = 4; tag = t; element = e }
 
 abbrev serves : Server ℕ → Message ℕ → Served ℕ
-serves v m = serverStep key 0 1 v m
+serves v m = serverStep (key config) 0 1 v m
 
 -- fresh, and after pre-writes of (1, 1) and (2, 1): the floor is (1, 1), and H is still (0, 0)
 abbrev fresh : Server ℕ
@@ -177,7 +178,7 @@ abbrev first : Call ℕ
 first = record { code = 3; party = 0; position = 0; board = 0 }
 
 abbrev hands : ℕ → ℕ → ℕ
-hands most o = firstNo (Rig.questions key encode decode config most (full o) first true (some Rig.handOver))
+hands most o = firstNo (Rig.questions (key config) encode decode config most (full o) first true (some Rig.handOver))
 
 -- "13. Would at most M be in flight afterwards?": one is left and three queries come; a read that ends spent sends none
 pub thirteen : (hands 4 5 ≡ 0) × (hands 3 5 ≡ 13) × (hands 1 highestNumber ≡ 0)
@@ -185,6 +186,6 @@ unfolding answersTo
 thirteen = (refl, refl, refl)
 
 -- and then nothing moves: the record is still in flight
-pub nothing-moves : Rig.event key encode decode config (λ v. true) 3 (full 5) first .rig ≡ full 5
+pub nothing-moves : Rig.event (key config) encode decode config (λ v. true) 3 (full 5) first .rig ≡ full 5
 unfolding answersTo
 nothing-moves = refl

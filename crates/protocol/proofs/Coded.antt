@@ -8,6 +8,7 @@ use mathlib.Core.Option.{some, none}
 use mathlib.Core.List.{List, [], _∷_, _++_, map}
 use lib.ListN.{replicate}
 use Rattle.config.specs.declared.Config.{Config}
+use Rattle.config.specs.Config.{noRanks}
 use Rattle.config.specs.Questions.{firstNo}
 use Rattle.tag.specs.declared.Tag.{Tag}
 use Rattle.tag.specs.Tag.{key}
@@ -19,7 +20,7 @@ use Rattle.protocol.specs.Server.{Server, serverStep, freshServer}
 use Rattle.protocol.proofs.Evaluate.{answersTo}
 
 abbrev config : Config
-config = record { n = 5; k = 3; d = 1; e = 1; c = 2 }
+config = record { n = 5; k = 3; d = 1; e = 1; c = 2; ranks = noRanks }
 
 abbrev encode : List ℕ → ℕ → List ℕ
 encode v s = v
@@ -60,7 +61,7 @@ abbrev readingAgain : List (Call (List ℕ))
 readingAgain =
     call 4 0 0 ∷ call 6 5 0 ∷ call 2 1 0 ∷ hand 4 0 ++ hand 1 0 ++ hand 4 0 ++ hand 4 0 ++ hand 1 4 ++ hand 1 3 ++ hand 2 1
 
-pub write-and-read : answersTo key encode decode config (λ v. true) 64 [] (writing ++ reading ++ readingAgain)
+pub write-and-read : answersTo (key config) encode decode config (λ v. true) 64 [] (writing ++ reading ++ readingAgain)
     ≡ replicate 29 nothingEnded
     ++ writtenBy 1 (tag 1 1)
     ∷ replicate 20 nothingEnded
@@ -83,7 +84,7 @@ abbrev fourth : Message (List ℕ)
 fourth = record { kind = QueryAnswer; client = 1; server = 4; operation = 1; tag = tag 1 1; element = none }
 
 abbrev step : Client (List ℕ) (List ℕ) → Moved (List ℕ) (List ℕ)
-step x = clientStep key encode decode config 1 x fourth
+step x = clientStep (key config) encode decode config 1 x fourth
 
 -- "at number 4,294,967,295 it ends spent, idle", and at the number before it does not
 pub spent-at : (step (asked 4294967295) .ended ≡ Ended.spent) × (step (asked 4294967295) .sends ≡ [])
@@ -99,7 +100,7 @@ numbers-used-up = refl
 -- D 1: two tags are kept; the third drops the smallest, whose place it takes
 abbrev preWritten : Tag → Server (List ℕ) → Server (List ℕ)
 preWritten t v =
-    serverStep key 1 1 v (record { kind = PreWrite; client = 1; server = 1; operation = 1; tag = t; element = some (t .number ∷ []) }) .server
+    serverStep (key config) 1 1 v (record { kind = PreWrite; client = 1; server = 1; operation = 1; tag = t; element = some (t .number ∷ []) }) .server
 
 pub two-kept : preWritten (tag 2 1) (preWritten (tag 1 1) (freshServer (0 ∷ [])))
     ≡ record {

@@ -8,16 +8,20 @@ use mathlib.Core.List.{List, [], _∷_, _++_}
 use lib.ListN.{length, replicate}
 use native.Mathlib.Omega.{arith}
 use Rattle.config.specs.declared.Config.{Config}
+use Rattle.laws.specs.Below.{allBelow}
+use Rattle.config.specs.Config.{noRanks, questions, rank, ranksWithin}
 use Rattle.config.specs.Questions.{firstNo}
+use Rattle.config.proofs.Valid.{valid}
 use Rattle.tag.specs.Tag.{key}
 use Rattle.protocol.specs.Rig
 use Rattle.protocol.specs.Laws.{TagOrder, Coding, Rising, ElementsOf}
 use Rattle.protocol.proofs.Evaluate.{answersTo, computed}
 use Rattle.protocol.proofs.Theorem.{atomic-calls}
+use Rattle.protocol.proofs.Boards.{tag-order}
 use Rattle.protocol.specs.Board.{Atomic, Call, Answer, Event, refused, nothingEnded, writtenBy, readBy, wrote, showed, history, StandsFirst}
 
 abbrev pub config : Config
-config = record { n = 3; k = 1; d = 0; e = 1; c = 2 }
+config = record { n = 3; k = 1; d = 0; e = 1; c = 2; ranks = noRanks }
 
 abbrev pub encode : ℕ → ℕ → ℕ
 encode v s = v
@@ -26,17 +30,9 @@ abbrev pub decode : List (ℕ × ℕ) → ℕ
 decode [] = 0
 decode (x ∷ xs) = x .1
 
--- "The number decides, then the client number."
-tags : TagOrder config key
-unfolding key
-tags =
-    record {
-      injective = λ t u h i e.
-          let number : t .number ≡ u .number = omega arith in
-          let client : t .client ≡ u .client = omega arith in
-          λ j. record { number = number j; client = client j };
-      next = λ t c h i j. omega arith;
-    }
+tags : TagOrder config (key config)
+unfolding firstNo questions ranksWithin rank allBelow
+tags = tag-order config (valid config refl)
 
 -- one element is the board
 coding : Coding config (λ (v : ℕ). Unit {0}) encode decode
@@ -67,7 +63,7 @@ answers =
     nothingEnded ∷
     nothingEnded ∷ nothingEnded ∷ readBy 1 (record { number = 0; client = 0 }) 0 ∷ refused 8 ∷ []
 
-pub example : answersTo key encode decode config (λ v. true) 64 0 calls ≡ answers
+pub example : answersTo (key config) encode decode config (λ v. true) 64 0 calls ≡ answers
 unfolding answersTo calls answers
 example = refl
 
@@ -100,26 +96,26 @@ refusal-answers =
     refused 8 ∷
     refused 8 ∷ nothingEnded ∷ refused 9 ∷ refused 13 ∷ nothingEnded ∷ nothingEnded ∷ refused 13 ∷ []
 
-pub refused-so : answersTo key encode decode config (λ v. true) 3 0 refusals ≡ refusal-answers
+pub refused-so : answersTo (key config) encode decode config (λ v. true) 3 0 refusals ≡ refusal-answers
 unfolding answersTo refusals refusal-answers
 refused-so = refl
 
 -- Question 12 comes before 13: client 1 asks, and the first of its three messages would be handed over. An ill-formed one gets 12, whether M is
 -- 64 or 2; a well-formed one gets 13 if M is 2, since its answer is a third.
 abbrev asks : Rig.Rig ℕ ℕ
-asks = Rig.event key encode decode config (λ v. true) 64 (Rig.freshRig config encode 0) (call 2 1 0) .rig
+asks = Rig.event (key config) encode decode config (λ v. true) 64 (Rig.freshRig config encode 0) (call 2 1 0) .rig
 
 abbrev hands : ℕ → Bool → ℕ
-hands most formed = firstNo (Rig.questions key encode decode config most asks (call 3 0 0) formed (some Rig.handOver))
+hands most formed = firstNo (Rig.questions (key config) encode decode config most asks (call 3 0 0) formed (some Rig.handOver))
 
 pub twelve-first : (hands 64 true ≡ 0) × (hands 64 false ≡ 12) × (hands 2 false ≡ 12) × (hands 2 true ≡ 13)
 unfolding answersTo
 twelve-first = (refl, refl, refl, refl)
 
 -- the theorem, for this configuration and code: every list of calls has a history with an order that fits
-pub example-atomic : (calls : List (Call ℕ)) → Atomic key 0 (Rig.run key encode decode config (λ v. true) 64 (Rig.freshRig config encode 0) calls)
+pub example-atomic : (calls : List (Call ℕ)) → Atomic (key config) 0 (Rig.run (key config) encode decode config (λ v. true) 64 (Rig.freshRig config encode 0) calls)
 example-atomic calls =
-    atomic-calls config key tags (λ v. Unit {0}) encode decode coding (omega arith) 0 tt (λ v. true) 64 calls (λ a i e f. tt)
+    atomic-calls config (key config) tags (λ v. Unit {0}) encode decode coding (omega arith) 0 tt (λ v. true) 64 calls (λ a i e f. tt)
 
 -- A write and a read of it: client 1 begins to write 7, and what is first in flight is handed over 18 times; then client 2 begins to read, and it is
 -- handed over 12 times more.
@@ -129,7 +125,7 @@ handed times = replicate times (call 3 0 0)
 pub write-then-read : List (Call ℕ)
 write-then-read = record { code = 1; party = 1; position = 0; board = 7 } ∷ handed 18 ++ call 2 2 0 ∷ handed 12
 
-pub write-then-read-answers : answersTo key encode decode config (λ v. true) 64 0 write-then-read
+pub write-then-read-answers : answersTo (key config) encode decode config (λ v. true) 64 0 write-then-read
     ≡ replicate 17 nothingEnded
     ++ writtenBy 1 (record { number = 1; client = 1 })
     ∷ replicate 12 nothingEnded
@@ -140,7 +136,7 @@ unfolding answersTo write-then-read
 write-then-read-answers = refl
 
 abbrev events : List (Event ℕ)
-events = Rig.run key encode decode config (λ v. true) 64 (Rig.freshRig config encode 0) write-then-read
+events = Rig.run (key config) encode decode config (λ v. true) 64 (Rig.freshRig config encode 0) write-then-read
 
 -- the event at place 17 ends the write, and that at place 30 the read, of what was written
 pub write-then-read-history : (history events 0 ≡ wrote 7 17) × (history events 19 ≡ showed 7 30)

@@ -6,7 +6,8 @@ use mathlib.Core.List.{List, [], _∷_, _++_}
 use lib.ListN.{replicate}
 use native.Mathlib.Omega.{arith}
 use Rattle.config.specs.declared.Config.{Config}
-use Rattle.config.specs.Config.{questions}
+use Rattle.laws.specs.Below.{allBelow}
+use Rattle.config.specs.Config.{noRanks, questions, rank, ranksWithin}
 use Rattle.config.specs.Questions.{firstNo}
 use Rattle.config.proofs.Valid.{valid}
 use Rattle.laws.specs.Bytes.{Bytes, tabulate}
@@ -69,7 +70,7 @@ is-board = record { whole = length-cut 1 (7 ∷ []); fits = omega arith; filled 
     byte (suc i) = omega arith
 
 back : decode config ((1, encode config seven 1) ∷ []) ≡ seven
-unfolding ElementsOf Rising questions firstNo
+unfolding ElementsOf Rising questions firstNo ranksWithin rank allBelow
 back = coding config (valid config refl) .back seven is-board ((1, encode config seven 1) ∷ []) refl (omega arith, omega arith, tt) (refl, tt)
 
 pub full : answers (writeThenRead 1) ≡ shows (record { length = 1; bytes = 7 ∷ [] })
@@ -79,7 +80,7 @@ full = ap shows back
 -- N 3, k 2, E 1, and so q 3 and V 2. Client 1 reads: server 3 answers with length 2, then server 2 with length 1, and server 1 with length
 -- 0. Servers 1 and 2 are decoded from, and the length is that of server 1.
 abbrev pair : Config
-pair = record { n = 3; k = 2; d = 0; e = 1; c = 2 }
+pair = record { n = 3; k = 2; d = 0; e = 1; c = 2; ranks = noRanks }
 
 abbrev sent : ℕ → Message Element
 sent s =

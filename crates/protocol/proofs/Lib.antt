@@ -3,6 +3,7 @@ mod Example
 mod Coded
 pub mod Basics
 pub mod Judged
+pub mod Keys
 mod Quorum
 pub mod Pairs
 mod World
@@ -13,7 +14,7 @@ mod LogEnded
 mod LogBegan
 mod LogWithdrew
 mod Change
-mod Store
+pub mod Store
 mod ServerMove
 mod Send
 mod Count
@@ -28,6 +29,8 @@ mod Fresh
 pub mod Flight
 pub mod Reordered
 pub mod Alike
+pub mod Limited
+pub mod EqualRanks
 mod Move
 mod Sort
 mod Replay
@@ -44,3 +47,4 @@ pub mod Decoded
 mod ShortBoards
 mod Lengths
 mod Cleared
+mod Ties

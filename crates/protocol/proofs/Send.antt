@@ -13,7 +13,7 @@ use Rattle.protocol.specs.Client.{sendEach}
 use Rattle.protocol.proofs.World.{Setting, Knowledge, Known, GoodMessage}
 
 -- what holds of each holds of all
-toEach-all : {A : Type 0} (P : A → Type 0) (f : ℕ → A) → ((s : ℕ) → P (f s)) → (n : ℕ) (x : A) → List·Memᴰ x (toEach n f) → P x
+pub toEach-all : {A : Type 0} (P : A → Type 0) (f : ℕ → A) → ((s : ℕ) → P (f s)) → (n : ℕ) (x : A) → List·Memᴰ x (toEach n f) → P x
 unfolding toEach
 toEach-all P f h zero x i = absurd (List·Memᴰ·not-nil i)
 toEach-all P f h (suc n) x i =

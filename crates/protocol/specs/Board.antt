@@ -211,13 +211,13 @@ module _ {Value : Type 0} where
   tagOf none = none
   tagOf (some e) = answerTag (e .1)
 
-  -- Beside an order that fits, and not asked by it: ended writes stand in rising tag order.
+  -- "some order that fits has its ended writes in rising tag order": of two ended writes in the order, the first has the lower tag
   unfoldable pub TagsRise : (Tag → ℕ) → List (Event Value) → List ℕ → Type 0
   TagsRise key events order =
       (p r : ℕ) (v w : Value) (e f : ℕ) (t u : Tag) → StandsFirst p r order → history events p ≡ wrote v e → history events r ≡ wrote w f → tagOf (endAt events p) ≡ some t → tagOf (endAt events r) ≡ some u → key t < key u
 
--- What is to be shown of every list: "Every list's history has an order that fits." In the order found, ended writes stand in rising tag
--- order too.
+-- What is to be shown of every list: "Every list's history has an order that fits." And: "some order that fits has its ended writes in
+-- rising tag order".
 pub record Atomic {Value : Type 0} (key : Tag → ℕ) (start : Value) (events : List (Event Value)) : Type 0 where
   pub order : List ℕ
   pub fits : Fits (history events) start order

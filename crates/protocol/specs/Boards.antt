@@ -72,9 +72,9 @@ bytesSent x = (x .0, x .1 .bytes)
 abbrev pub decode : Config → List (ℕ × Element) → Board
 decode cfg xs = boardOf (lowestLength xs) (decodedPairs cfg (map bytesSent xs))
 
--- the order of tags, as a key: "The number decides, then the client number."
+-- the order of tags, as a key: "by number, then by the rank of the tag's client, then by client number"
 abbrev pub order : Config → Tag → ℕ
-order cfg = key
+order cfg = key cfg
 
 -- ---- the types
 

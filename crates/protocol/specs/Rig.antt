@@ -113,7 +113,7 @@ module _ {Value Element : Type 0} (key : Tag → ℕ) (encode : Value → ℕ �
   moveOf r a (some w) = move r a w
 
   -- The questions of an event, in order: "7. Is the event 1 to 7?"; 8 to 11; "12. Is the record handed over well formed?", whose answer is
-  -- handed in, since a model has no bytes (1 to 6 are of numbers and buffers, and of these it has none either); and 13, where M is the
+  -- handed in, since a model has no bytes (1 to 6 and 21 are of the configuration and of buffers, and of these it asks nothing either); and 13, where M is the
   -- most that may be in flight.
   unfoldable pub questions : ℕ → Rig Value Element → Call Value → Bool → Option Code → List Question
   questions most r a formed none = ask 7 false ∷ []

@@ -32,7 +32,7 @@ withElement cfg h bs =
       element = cond (h .present) (some (elementWith (h .length) (elementIn cfg bs))) none;
     }
 
--- Reading: questions 1 to 5; 6, the buffer's length; 12, "Is the record handed over well formed?"
+-- Reading: questions 1 to 5 and 21; 6, the buffer's length; 12, "Is the record handed over well formed?"
 unfoldable pub readQuestions : Config → List ℕ → List Question
 readQuestions cfg bs = questions cfg ++ ask 6 (eqb (length bs) recordLength) ∷ ask 12 (wellFormed cfg bs) ∷ []
 
@@ -72,7 +72,7 @@ isSound h = all (soundClauses (kindNumber (h .kind)) (clientNumber (h .client)) 
 unfoldable pub isHeader : Config → Header → List ℕ → Bool
 isHeader cfg h bs = ofConfig cfg (withElement cfg h bs) && lengthFits cfg (h .present) (h .length)
 
--- Writing: questions 1 to 5; 6, the buffer's length; 12, does the header break no rule of the record?
+-- Writing: questions 1 to 5 and 21; 6, the buffer's length; 12, does the header break no rule of the record?
 unfoldable pub writeQuestions : Config → Header → List ℕ → List Question
 writeQuestions cfg h bs =
     questions cfg ++ ask 6 (eqb (length bs) recordLength) ∷ ask 12 (isHeader cfg h bs) ∷ []

@@ -101,7 +101,7 @@ impl Kind {
     }
 }
 
-// The message of a record: questions 1 to 5, 6 and 12. Its element, if one is present, is the E bytes at 16.
+// The message of a record: questions 1 to 5, 21, 6 and 12. Its element, if one is present, is the E bytes at 16.
 pub fn read(cfg: Config, buf: &[u8]) -> Reading
     ensures { λ r. ⌜ ReadPost cfg (now (buf .entry)) r ⌝ }
 {
@@ -159,7 +159,7 @@ fn parse(cfg: Config, buf: &[u8]) -> Reading
     Reading::Message(h)
 }
 
-// The record of a message: questions 1 to 5; 6, the buffer's length; 12, a header that breaks a rule of the record. Where an
+// The record of a message: questions 1 to 5 and 21; 6, the buffer's length; 12, a header that breaks a rule of the record. Where an
 // element is present, the E bytes at 16 are it and stay; all past it is made zero. On a refusal the record holds what it held.
 pub fn write(cfg: Config, h: Header, buf: &mut [u8]) -> Verdict
     ensures { λ r. ⌜ WritePost cfg h (now (buf .entry)) (now (buf .exit)) r ⌝ }

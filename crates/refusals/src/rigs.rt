@@ -68,6 +68,7 @@ pub(crate) fn make() -> Left {
         d: 0,
         e: 1,
         c: 2,
+        ranks: [0; 16],
     };
     let start = [0u8; 1];
     let mut messages = [165u8; 5120];

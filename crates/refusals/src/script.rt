@@ -28,8 +28,17 @@ pub(crate) fn field(line: [u8; 96], j: usize) -> u8
     c - 48
 }
 
+// The ranks of clients 1 and 2, and of a third, which there is not.
+fn ranks(line: [u8; 96]) -> [u8; 16] {
+    let mut all = [0u8; 16];
+    all[0] = field(line, 53);
+    all[1] = field(line, 54);
+    all[2] = field(line, 55);
+    all
+}
+
 // N, k, D, E and C; M; code, party, position, the board's byte and its length in two bytes, the lowest first; and of the lengths of six
-// buffers 0 for one too short, 1 for the right one, 2 for one too long.
+// buffers 0 for one too short, 1 for the right one, 2 for one too long; further on the ranks.
 pub(crate) fn handed(line: [u8; 96]) -> Given
     ensures { λ r. ⌜ (r .board ≤ 2) × (r .read ≤ 2) × (r .messages ≤ 5121) × (r .stores ≤ 4) × (r .boards ≤ 3) × (r .elements ≤ 7) ⌝ }
 {
@@ -39,6 +48,7 @@ pub(crate) fn handed(line: [u8; 96]) -> Given
         d: field(line, 4) as usize,
         e: field(line, 5) as usize,
         c: field(line, 6) as usize,
+        ranks: ranks(line),
     };
     let call = Call {
         code: field(line, 10),

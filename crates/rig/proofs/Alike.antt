@@ -65,20 +65,20 @@ use Rattle.events.proofs.RigWithin.{servers-within}
 
 module _ (cfg : Config) (v : Valid cfg) where
   -- what stands in a place
-  place-once : (i : ℕ) (x : Option Node) (store : List ℕ) → serverInPlace cfg i x ≡ true → StoredOnce key (serverSeen cfg x store .stored)
+  place-once : (i : ℕ) (x : Option Node) (store : List ℕ) → serverInPlace cfg i x ≡ true → StoredOnce (key cfg) (serverSeen cfg x store .stored)
   unfolding serverInPlace serverSeen
   place-once i none store h = absurd (true≢false (sym h))
   place-once i (some x) store h =
-      server-once cfg (v .c-high) (serverView.view cfg (x .state) store)
+      server-once cfg v (serverView.view cfg (x .state) store)
       (server-within cfg (x .state) store
       (and-right (eqb (serverNumber (x .state .me)) (i + 1)) (limits.stateWithin cfg (x .state)) h))
 
-  seen-once : (m : ℕ) (r : Rig) (l : Lent) → rigWithin cfg m r ≡ true → OnceEach key (partiesOf cfg r l)
+  seen-once : (m : ℕ) (r : Rig) (l : Lent) → rigWithin cfg m r ≡ true → OnceEach (key cfg) (partiesOf cfg r l)
   unfolding partiesOf serverOf place serverSeen noServer StoredOnce
   seen-once m r l h s = by (within 1 (cfg .n) s) refl
     where
       by : (b : Bool) → within 1 (cfg .n) s ≡ b
-          → StoredOnce key (serverSeen cfg (cond b (getElem? (r .servers) (s - 1)) none) (part (storeLength cfg) (s - 1) (l .stores)) .stored)
+          → StoredOnce (key cfg) (serverSeen cfg (cond b (getElem? (r .servers) (s - 1)) none) (part (storeLength cfg) (s - 1) (l .stores)) .stored)
       by true e =
           place-once (s - 1) (getElem? (r .servers) (s - 1)) (part (storeLength cfg) (s - 1) (l .stores))
           (below-at (cfg .n) (λ i. serverInPlace cfg i (getElem? (r .servers) i)) (servers-within cfg m r h) (s - 1)
@@ -144,7 +144,7 @@ module _ (cfg : Config) (m : ℕ) (r z : Rig) (l k : Lent) (alike : Alike cfg m 
     abbrev six : Bool
     six = lengths (length read) && sized cfg m l && rigWithin cfg m r
 
-    view-once : firstNo (rigQuestions cfg m) ≡ 0 → six ≡ true → OnceEach key (view cfg r l .parties)
+    view-once : firstNo (rigQuestions cfg m) ≡ 0 → six ≡ true → OnceEach (key cfg) (view cfg r l .parties)
     unfolding view
     view-once five h = seen-once cfg (rig-valid cfg m refl five) m r l (and-right (lengths (length read) && sized cfg m l) (rigWithin cfg m r) h)
 

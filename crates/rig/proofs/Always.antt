@@ -1,5 +1,5 @@
--- A fresh rig passes every question about a state and its buffers, and every event keeps that: along a list of events 1 to 5 are never
--- refused, and 6 only for how many bytes the board handed in or the buffer lent for a read has. Assumes nothing.
+-- A fresh rig passes every question about a state and its buffers, and every event keeps that: along a list of events 1 to 5 and 21 are
+-- never refused, and 6 only for how many bytes the board handed in or the buffer lent for a read has. Assumes nothing.
 use Prim.Native.Nat.{ℕ}
 use mathlib.Core.Path.{_≡_, refl, sym, ap, _∙_}
 use mathlib.Core.Bool.{Bool, true, false, cond, _&&_}

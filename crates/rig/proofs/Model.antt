@@ -1,21 +1,24 @@
 -- A list of events in which every board handed in and every buffer lent for a read has V bytes is the protocol's run of its calls: no event is
--- refused that the protocol does not refuse. Assumes nothing.
+-- refused that the protocol does not refuse. With all ranks equal it is the run without ranks. Assumes nothing.
 use Prim.Native.Nat.{ℕ}
 use mathlib.Core.Path.{_≡_, refl, sym, ap, ap₂, _∙_}
 use mathlib.Core.List.{List, [], _∷_, _++_, map-append}
 use borrow.Author.Tests.{eq-eqb}
 use lib.ListN.{length}
 use Rattle.config.specs.declared.Config.{Config}
-use Rattle.config.specs.Config.{boardLength}
+use Rattle.config.specs.Config.{RanksEqual, boardLength}
 use Rattle.config.specs.Questions.{firstNo}
-use Rattle.protocol.specs.Boards.{BoardCall, BoardEvent, BoardRig, event as protocolEvent, freshRig, moveOf, questionsAfter6, run, startingBoard}
+use Rattle.tag.specs.Tag.{plainKey}
+use Rattle.protocol.specs.Boards.{BoardCall, BoardEvent, BoardRig, decode, encode, event as protocolEvent, fitsIn, freshRig, moveOf, questionsAfter6, run, startingBoard}
 use Rattle.protocol.specs.Rig as protocol
 use Rattle.protocol.specs.Rig.{codeOf, unlessNo}
 use Rattle.events.specs.declared.Rig.{Rig}
 use Rattle.events.specs.View.{Lent, view}
 use Rattle.events.specs.Calls.{outcome}
 use Rattle.rig.specs.Runs.{Runs, Whole, callsOf, event, made}
+use Rattle.protocol.proofs.EqualRanks.{equal-run}
 use Rattle.rig.proofs.Always.{always-asks}
+use Rattle.rig.proofs.Atomic.{origin}
 use Rattle.rig.proofs.Never.{always-twelve}
 
 module _ (cfg : Config) (m : ℕ) where
@@ -73,3 +76,9 @@ module _ (cfg : Config) (m : ℕ) where
     pub as-run : {r : Rig} {l : Lent} {events : List BoardEvent} (runs : Runs cfg m start r l events) → Whole runs
         → events ≡ run cfg m (freshRig cfg (startingBoard cfg start)) (callsOf events)
     as-run runs w = as-both runs w .1
+
+    -- "With all ranks equal and at most 3, every answer is the one given today": such a list is the run by document 01's order of tags.
+    pub equal-ranks : RanksEqual cfg → {r : Rig} {l : Lent} {events : List BoardEvent} (runs : Runs cfg m start r l events) → Whole runs
+        → events ≡ protocol.run plainKey (encode cfg) (decode cfg) cfg (fitsIn cfg) m (protocol.freshRig cfg (encode cfg) (startingBoard cfg start)) (callsOf events)
+    equal-ranks equal {events = events} runs w =
+        as-run runs w ∙ equal-run cfg (origin cfg m start runs .0) equal m (startingBoard cfg start) (callsOf events)

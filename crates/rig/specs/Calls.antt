@@ -20,7 +20,7 @@ use Rattle.rig.specs.declared.Made.{Made}
 abbrev pub leastRig : Rig
 leastRig = record { servers = replicate 16 (freshNode 1 1); clients = replicate 16 (freshState 1); count = 0 }
 
--- Making: questions 1 to 5; 6, of the starting board and of the buffers lent.
+-- Making: questions 1 to 5 and 21; 6, of the starting board and of the buffers lent.
 unfoldable pub makeQuestions : Config → ℕ → List ℕ → Lent → List Question
 makeQuestions cfg m start l = rigQuestions cfg m ++ ask 6 (eqb (length start) (boardLength cfg) && sized cfg m l) ∷ []
 

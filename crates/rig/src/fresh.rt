@@ -1,5 +1,6 @@
 // A fresh rig.
 use config::Config;
+use config::LEAST;
 use events::Rig;
 use parties::Node;
 ghost use mathlib.Core.Bool.{true};
@@ -55,13 +56,7 @@ fn clients(cfg: Config, mut states: [client::State; 16]) -> [client::State; 16]
 pub(crate) fn least() -> Rig
     ensures { λ r. ⌜ r ≡ leastRig ⌝ }
 {
-    let cfg = Config {
-        n: 1,
-        k: 1,
-        d: 0,
-        e: 1,
-        c: 1,
-    };
+    let cfg = LEAST;
     let start = [0u8; 1];
     let mut store = [0u8; 1];
     let made = parties::fresh::server(cfg, 1, &start, &mut store);

@@ -28,7 +28,7 @@ pub struct Made {
     pub rig: Rig,
 }
 
-// Questions 1 to 5, and 6 of what a rig keeps: the number of the first that is answered no, or 0. The buffers lent to it are not asked.
+// Questions 1 to 5 and 21, and 6 of what a rig keeps: the number of the first that is answered no, or 0. The buffers lent to it are not asked.
 pub fn ask(cfg: Config, m: usize, rig: Rig) -> u8
     ensures { λ r. ⌜ r ≡ firstNo (rigQuestions cfg m ++ question 6 (rigWithin cfg m rig) ∷ []) ⌝ }
 {
@@ -45,7 +45,7 @@ pub fn ask(cfg: Config, m: usize, rig: Rig) -> u8
     0
 }
 
-// A fresh rig: questions 1 to 5, and 6. The servers' elements of the starting board go into their stores. On a refusal the rig is of
+// A fresh rig: questions 1 to 5 and 21, and 6. The servers' elements of the starting board go into their stores. On a refusal the rig is of
 // no use.
 pub fn make(
     cfg: Config,
@@ -77,7 +77,7 @@ pub fn make(
     }
 }
 
-// An event of the rig: questions 1 to 13, and 19 after 6. `board` is the board handed in, of which the call has the length, `read` the buffer lent
+// An event of the rig: questions 1 to 5, 21, 6, 19 and 7 to 13. `board` is the board handed in, of which the call has the length, `read` the buffer lent
 // for a read; each has V bytes, whatever the event.
 pub fn event(
     cfg: Config,

@@ -4,18 +4,19 @@ use mathlib.Core.Path.{_≡_, refl, sym, _∙_, ap, ap₂, subst, subst₂}
 use mathlib.Core.Bool.{Bool, true, false, cond, not, _&&_, _||_}
 use mathlib.Core.List.{List, [], _∷_}
 use mathlib.Core.Option.{Option, none, some}
-use Prim.Native.Nat.{ℕ, _+_, _≤_}
+use Prim.Native.Nat.{ℕ, _+_}
 use native.Mathlib.Decide.{ℕ-discrete}
 use borrow.Author.Tests.{eqb-true, not-true}
 use lib.Dec.{eqb, leb}
 use lib.ListN.{length}
 use Rattle.config.specs.declared.Config.{Config}
-use Rattle.config.specs.Config.{boardLength}
+use Rattle.config.specs.Config.{Valid, boardLength}
 use Rattle.config.specs.Number.{serverNumber}
 use Rattle.config.specs.Questions.{firstNo, within}
 use Rattle.laws.proofs.Bools.{and-left, and-right}
 use Rattle.tag.specs.declared.Tag.{Tag}
 use Rattle.tag.specs.Tag.{above, allowed, key, same}
+use Rattle.tag.proofs.Order.{small}
 use Rattle.record.specs.Element.{Element}
 use Rattle.record.specs.Message.{Message}
 use Rattle.record.specs.Record.{messageOf}
@@ -30,7 +31,6 @@ use Rattle.server.specs.View.{view}
 use Rattle.server.specs.Within.{among, every, floorWithin, storedLengths, lengthsWithin, once, serverWithin, stateWithin, tagsOf, tagsWithin}
 use Rattle.server.proofs.Asked.{state-valid, step-accepted}
 use Rattle.server.proofs.Invariant.{tags-of, tags-stored}
-use Rattle.server.proofs.Keys.{small}
 use Rattle.server.proofs.Laws.{server-within, state-view}
 use Rattle.server.proofs.Limits.{within-allowed, within-once}
 use Rattle.server.proofs.Tags.{same-turned}
@@ -99,7 +99,7 @@ floor-reordered : (cfg : Config) (f : Option Tag) {ts us : List Tag} → Reorder
 unfolding floorWithin
 floor-reordered cfg none r = refl
 floor-reordered cfg (some f) r =
-    ap₂ {A = ℕ} (λ (n : ℕ) (b : Bool). allowed (cfg .c) f && eqb n (cfg .d + 1) && b) (reordered-long r) (every-reordered (λ (x : Tag). above x f) r)
+    ap₂ {A = ℕ} (λ (n : ℕ) (b : Bool). allowed (cfg .c) f && eqb n (cfg .d + 1) && b) (reordered-long r) (every-reordered (λ (x : Tag). above cfg x f) r)
 
 pub within-reordered : (cfg : Config) (h : Tag) (f : Option Tag) {ts us : List Tag} → Reordered ts us → tagsWithin cfg h f ts ≡ tagsWithin cfg h f us
 unfolding tagsWithin
@@ -118,22 +118,22 @@ within-alike cfg {v} {w} alike =
 
 module _ {Element : Type 0} (cfg : Config) where
   -- where its tags are allowed and there once, they are once by their keys
-  once-by-key : cfg .c ≤ 16 → (xs : List (Stored Element)) → every (allowed (cfg .c)) (tagsOf xs) ≡ true → once (tagsOf xs) ≡ true → StoredOnce key xs
+  once-by-key : Valid cfg → (xs : List (Stored Element)) → every (allowed (cfg .c)) (tagsOf xs) ≡ true → once (tagsOf xs) ≡ true → StoredOnce (key cfg) xs
   unfolding every once tagsOf StoredOnce
-  once-by-key high [] a o = tt
-  once-by-key high (x ∷ xs) a o =
+  once-by-key valid [] a o = tt
+  once-by-key valid (x ∷ xs) a o =
       let ax = and-left (allowed (cfg .c) (x .tag)) (every (allowed (cfg .c)) (tagsOf xs)) a in
       let axs = and-right (allowed (cfg .c) (x .tag)) (every (allowed (cfg .c)) (tagsOf xs)) a in
       let gone = not-true (among (x .tag) (tagsOf xs)) (and-left (not (among (x .tag) (tagsOf xs))) (once (tagsOf xs)) o) in (
-        tags-stored (cfg .c) high (x .tag) (small (cfg .c) (x .tag) high ax) xs axs ∙ gone,
-        once-by-key high xs axs (and-right (not (among (x .tag) (tagsOf xs))) (once (tagsOf xs)) o),
+        tags-stored cfg valid (x .tag) (small cfg valid (x .tag) ax) xs axs ∙ gone,
+        once-by-key valid xs axs (and-right (not (among (x .tag) (tagsOf xs))) (once (tagsOf xs)) o),
       )
 
 -- a server that passes question 6 has each stored tag once
-pub server-once : (cfg : Config) → cfg .c ≤ 16 → (v : Server Element) → serverWithin cfg v ≡ true → StoredOnce key (v .stored)
-server-once cfg high v h =
+pub server-once : (cfg : Config) → Valid cfg → (v : Server Element) → serverWithin cfg v ≡ true → StoredOnce (key cfg) (v .stored)
+server-once cfg valid v h =
     let ts = tagsOf (v .stored) in
-    once-by-key cfg high (v .stored) (within-allowed cfg (v .highest) (v .floor) ts (tags-of cfg v h)) (within-once cfg (v .highest) (v .floor) ts (tags-of cfg v h))
+    once-by-key cfg valid (v .stored) (within-allowed cfg (v .highest) (v .floor) ts (tags-of cfg v h)) (within-once cfg (v .highest) (v .floor) ts (tags-of cfg v h))
 
 -- ---- the calls
 
@@ -148,14 +148,14 @@ module _ (cfg : Config) (s z : State) (storeS storeZ : List ℕ) (alike : AlikeS
   state-alike =
       state-view cfg s storeS ∙ ap₂ (λ n b. within 1 (cfg .n) n && b) (alike .me) (within-alike cfg (alike .seen)) ∙ sym (state-view cfg z storeZ)
 
-  -- questions 1 to 6 of a state have the same answers
+  -- questions 1 to 6 and 21 of a state have the same answers
   pub ask-alike : stateQuestions cfg s (length storeS) ≡ stateQuestions cfg z (length storeZ)
   unfolding stateQuestions
   ask-alike = rw (alike .long, state-alike)
 
   -- where they are answered yes, the protocol's server has each stored tag once
-  view-once : cfg .c ≤ 16 → stateWithin cfg s ≡ true → StoredOnce key (v .stored)
-  view-once high h = server-once cfg high v (server-within cfg s storeS h)
+  view-once : Valid cfg → stateWithin cfg s ≡ true → StoredOnce (key cfg) (v .stored)
+  view-once valid h = server-once cfg valid v (server-within cfg s storeS h)
 
   -- Lending: one number, and one part, the element or none.
   module _ (t : Tag) (lentS lentZ : List ℕ) (toldS toldZ : ℕ) (postS : LendPost cfg s t storeS lentS toldS) (postZ : LendPost cfg z t storeZ lentZ toldZ) where
@@ -163,17 +163,17 @@ module _ (cfg : Config) (s z : State) (storeS storeZ : List ℕ) (alike : AlikeS
     asked = firstNo (stateQuestions cfg s (length storeS))
 
     part-by : (b : Bool) → eqb asked 0 ≡ b
-        → cond b (lentBytes (elementOf key t (v .stored))) [] ≡ cond b (lentBytes (elementOf key t (w .stored))) []
+        → cond b (lentBytes (elementOf (key cfg) t (v .stored))) [] ≡ cond b (lentBytes (elementOf (key cfg) t (w .stored))) []
     part-by true e =
         let held = state-valid cfg s storeS (eqb-true asked 0 e) in
-        ap lentBytes (element-reordered key t (alike .seen .stored) (view-once (held .valid .c-high) (held .within)))
+        ap lentBytes (element-reordered (key cfg) t (alike .seen .stored) (view-once (held .valid) (held .within)))
     part-by false e = refl
 
     pub lend-alike : (toldS ≡ toldZ) × (lentS ≡ lentZ)
     lend-alike =
         let e : asked ≡ firstNo (stateQuestions cfg z (length storeZ)) = ap firstNo ask-alike in (
           postS .number ∙ e ∙ sym (postZ .number),
-          postS .part ∙ part-by (eqb asked 0) refl ∙ ap (λ n. cond (eqb n 0) (lentBytes (elementOf key t (w .stored))) []) e ∙ sym (postZ .part),
+          postS .part ∙ part-by (eqb asked 0) refl ∙ ap (λ n. cond (eqb n 0) (lentBytes (elementOf (key cfg) t (w .stored))) []) e ∙ sym (postZ .part),
         )
 
   -- Step: one number, one answer, and two such states.
@@ -195,19 +195,19 @@ module _ (cfg : Config) (s z : State) (storeS storeZ : List ℕ) (alike : AlikeS
 
       -- an accepted step: the protocol's answers are one, and so are its servers
       module _ (e : firstS ≡ 0) where
-        its-once : StoredOnce key (v .stored)
+        its-once : StoredOnce (key cfg) (v .stored)
         its-once =
             let held = step-accepted cfg s handed (length storeS) (length answer) e .0 in
-            view-once (held .valid .c-high) (held .within)
+            view-once (held .valid) (held .within)
 
         answers-one : outcome cfg s storeS got .answer ≡ outcome cfg z storeZ got .answer
         answers-one =
-            answer-same key (cfg .d) v w (alike .seen) its-once (serverNumber (s .me)) got ∙ ap (λ n. serverStep key (cfg .d) n w got .answer) (alike .me)
+            answer-same (key cfg) (cfg .d) v w (alike .seen) its-once (serverNumber (s .me)) got ∙ ap (λ n. serverStep (key cfg) (cfg .d) n w got .answer) (alike .me)
 
         servers-one : SameButOrder (outcome cfg s storeS got .server) (outcome cfg z storeZ got .server)
         servers-one =
-            subst (λ n. SameButOrder (outcome cfg s storeS got .server) (serverStep key (cfg .d) n w got .server)) (alike .me)
-            (server-same key (cfg .d) v w (alike .seen) its-once (serverNumber (s .me)) got)
+            subst (λ n. SameButOrder (outcome cfg s storeS got .server) (serverStep (key cfg) (cfg .d) n w got .server)) (alike .me)
+            (server-same (key cfg) (cfg .d) v w (alike .seen) its-once (serverNumber (s .me)) got)
 
       answer-by : (b : Bool) → eqb firstS 0 ≡ b
           → cond b (answerBytes cfg (outcome cfg s storeS got .answer) answer) answer ≡ cond b (answerBytes cfg (outcome cfg z storeZ got .answer) answer) answer

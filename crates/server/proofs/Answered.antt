@@ -148,7 +148,7 @@ module _ (cfg : Config) (s : State) (handed store answer storeAfter answerAfter 
   pub step-answers : (x : Message Element) × (outcome cfg s store got .answer ≡ some x) × (answerAfter ≡ recordOf cfg x)
   step-answers =
       let mine = step-accepted cfg s handed (length store) (length answer) first .1 in
-      let a = answers-each keyOf (cfg .d) me seen got (and-right (eqb (got .server) me) (isForServer (got .kind)) mine) in
+      let a = answers-each (keyOf cfg) (cfg .d) me seen got (and-right (eqb (got .server) me) (isForServer (got .kind)) mine) in
       (a .0, a .1, answer-is (a .0) (a .1))
 
   kind-is : (x : Message Element) → answerAfter ≡ recordOf cfg x → kindAt answerAfter ≡ kindNumber (x .kind)
@@ -156,25 +156,25 @@ module _ (cfg : Config) (s : State) (handed store answer storeAfter answerAfter 
   kind-is x e = ap kindAt e
 
   -- "Where a server step gave 15 it now sends a record of kind 9, which repeats client, operation number and tag and has no element."
-  pub step-cleared : Due keyOf seen got → answerAfter ≡ recordOf cfg (answerTo me got Cleared (got .tag) none)
-  step-cleared due = answer-is _ (cleared-sent keyOf (cfg .d) me seen got due)
+  pub step-cleared : Due (keyOf cfg) seen got → answerAfter ≡ recordOf cfg (answerTo me got Cleared (got .tag) none)
+  step-cleared due = answer-is _ (cleared-sent (keyOf cfg) (cfg .d) me seen got due)
 
   sent-nine : kindAt answerAfter ≡ 9 → (x : Message Element) × (outcome cfg s store got .answer ≡ some x) × (kindNumber (x .kind) ≡ 9)
   sent-nine nine = let a = step-answers in (a .0, a .1, sym (kind-is (a .0) (a .2)) ∙ nine)
 
   -- it sends kind 9 exactly where kind 9 is due
-  pub step-cleared-exactly : kindAt answerAfter ≡ 9 ↔ Due keyOf seen got
+  pub step-cleared-exactly : kindAt answerAfter ≡ 9 ↔ Due (keyOf cfg) seen got
   unfolding answerTo
-  step-cleared-exactly = (λ nine. cleared-exactly keyOf (cfg .d) me seen got .0 (sent-nine nine), λ due. kind-is _ (step-cleared due))
+  step-cleared-exactly = (λ nine. cleared-exactly (keyOf cfg) (cfg .d) me seen got .0 (sent-nine nine), λ due. kind-is _ (step-cleared due))
 
   -- so never without a floor
   pub step-cleared-has-floor : kindAt answerAfter ≡ 9 → s .floor ≡ Floor.None → ⊥
   unfolding view
   step-cleared-has-floor nine bare =
       let a = sent-nine nine in
-      cleared-has-floor keyOf (cfg .d) me seen got (a .0) (a .1) (a .2) (ap floorOf bare)
+      cleared-has-floor (keyOf cfg) (cfg .d) me seen got (a .0) (a .1) (a .2) (ap floorOf bare)
 
   -- a read finalise raises H, whatever the kind of its answer
-  pub step-read-raises : got .kind ≡ ReadFinalise → r .state .highest ≡ higher keyOf (s .highest) (got .tag)
+  pub step-read-raises : got .kind ≡ ReadFinalise → r .state .highest ≡ higher (keyOf cfg) (s .highest) (got .tag)
   unfolding view finalised
-  step-read-raises k = ap (λ (x : Server Element). x .highest) (post .seen first ∙ read-raises keyOf (cfg .d) me seen got k)
+  step-read-raises k = ap (λ (x : Server Element). x .highest) (post .seen first ∙ read-raises (keyOf cfg) (cfg .d) me seen got k)

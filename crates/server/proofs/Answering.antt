@@ -48,9 +48,9 @@ module _ (cfg : Config) (me : ServerNumber) (h : Header) (kind : Kind) (t : Tag)
   bare-post s after x p = subst (λ (y : Reply). RespondPost cfg s (replyOf cfg me h y bs) after x) is p
 
 -- a raised state is of the same server
-pub raised-me : (s : State) (t : Tag) {r : State} → r ≡ raised s t → r .me ≡ s .me
+pub raised-me : (cfg : Config) (s : State) (t : Tag) {r : State} → r ≡ raised cfg s t → r .me ≡ s .me
 unfolding raised
-raised-me s t e = ap (λ (x : State). x .me) e
+raised-me cfg s t e = ap (λ (x : State). x .me) e
 
 -- the answers to a read finalise: kind 8, with an element or without one, and kind 9
 module _ (cfg : Config) (s : State) (h : Header) (store answer : List ℕ) (f : ReadFinalisePre cfg s h store answer) (me : ServerNumber) (is : me ≡ s .me) where
@@ -79,28 +79,28 @@ module _ (e : ℕ) (high : e ≤ 64) (answer src part : List ℕ) (eighty : leng
   copied-element = ap (λ (l : List ℕ). take e (drop 16 l)) is-over ∙ over-there 16 e src answer sized-src (omega arith)
 
 -- what a read finalise leaves, by what is stored
-module _ (cfg : Config) (s after : State) (h : Header) (store : List ℕ) (is : after ≡ raised s (h .tag)) where
+module _ (cfg : Config) (s after : State) (h : Header) (store : List ℕ) (is : after ≡ raised cfg s (h .tag)) where
   replied : (kind : Kind) (o : Option Element) → readAnswered s h store cfg ≡ reply (s .me) h kind (h .tag) o → (bs : List ℕ) (r : Stepped)
       → RespondPost cfg after (reply (after .me) h kind (h .tag) o) bs r → ReadFinalisePost cfg s h store bs r
   replied kind o e bs r p =
       record {
         number = p .number;
         state = p .state ∙ is;
-        answer = p .answer ∙ ap (λ (x : ServerNumber). recordOf cfg (reply x h kind (h .tag) o)) (raised-me s (h .tag) is) ∙ ap (recordOf cfg) (sym e);
+        answer = p .answer ∙ ap (λ (x : ServerNumber). recordOf cfg (reply x h kind (h .tag) o)) (raised-me cfg s (h .tag) is) ∙ ap (recordOf cfg) (sym e);
       }
 
-  pub finalised-element : (element : Element) → elementOf key (h .tag) (view cfg s store .stored) ≡ some element → (bs : List ℕ) (r : Stepped)
+  pub finalised-element : (element : Element) → elementOf (key cfg) (h .tag) (view cfg s store .stored) ≡ some element → (bs : List ℕ) (r : Stepped)
       → RespondPost cfg after (reply (after .me) h ReadFinaliseAnswer (h .tag) (some element)) bs r → ReadFinalisePost cfg s h store bs r
   unfolding readAnswer answerTo reply
   finalised-element element e bs r p = replied ReadFinaliseAnswer (some element) (rw e) bs r p
 
-  module _ (missing : elementOf key (h .tag) (view cfg s store .stored) ≡ none) where
-    pub finalised-none : atOrBelowFloor key (h .tag) (floorOf (s .floor)) ≡ false → (bs : List ℕ) (r : Stepped)
+  module _ (missing : elementOf (key cfg) (h .tag) (view cfg s store .stored) ≡ none) where
+    pub finalised-none : atOrBelowFloor (key cfg) (h .tag) (floorOf (s .floor)) ≡ false → (bs : List ℕ) (r : Stepped)
         → RespondPost cfg after (reply (after .me) h ReadFinaliseAnswer (h .tag) none) bs r → ReadFinalisePost cfg s h store bs r
     unfolding readAnswer answerTo reply view
     finalised-none b bs r p = replied ReadFinaliseAnswer none (rw (missing, b)) bs r p
 
-    pub finalised-cleared : atOrBelowFloor key (h .tag) (floorOf (s .floor)) ≡ true → (bs : List ℕ) (r : Stepped)
+    pub finalised-cleared : atOrBelowFloor (key cfg) (h .tag) (floorOf (s .floor)) ≡ true → (bs : List ℕ) (r : Stepped)
         → RespondPost cfg after (reply (after .me) h Cleared (h .tag) none) bs r → ReadFinalisePost cfg s h store bs r
     unfolding readAnswer answerTo reply view
     finalised-cleared b bs r p = replied Cleared none (rw (missing, b)) bs r p

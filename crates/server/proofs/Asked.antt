@@ -21,7 +21,7 @@ use Rattle.server.specs.Calls.{forServer, stateQuestions, stepQuestions}
 use Rattle.server.specs.Within.{ValidState, stateWithin}
 use Rattle.server.specs.inner.Receive.{Passed}
 
--- after questions 1 to 5
+-- after questions 1 to 5 and 21
 pub six : (cfg : Config) (holds : Bool) (rest : List Question) → firstNo (questions cfg) ≡ 0
     → firstNo (questions cfg ++ ask 6 holds ∷ rest) ≡ cond holds (firstNo rest) 6
 unfolding firstNo
@@ -42,7 +42,7 @@ module _ (cfg : Config) (s : State) (long : ℕ) where
     unfolding stateQuestions firstNo
     by-state b e h = sym (six cfg (eqb long (storeLength cfg) && stateWithin cfg s) [] passed ∙ rw (eq-eqb long (storeLength cfg) e, h))
 
--- questions 1 to 6 of a state are answered yes
+-- questions 1 to 6 and 21 of a state are answered yes
 abbrev pub Holds : Config → State → ℕ → Type 0
 Holds cfg s long = Valid cfg × (stateWithin cfg s ≡ true) × (long ≡ storeLength cfg)
 

@@ -9,6 +9,7 @@ use native.Mathlib.Numerals.{add-one}
 use native.Mathlib.Omega.{arith}
 use lib.ListN.{length}
 use Rattle.laws.proofs.Bools.{and-left, and-right}
+use Rattle.config.specs.declared.Config.{Config}
 use Rattle.tag.specs.declared.Tag.{Tag}
 use Rattle.tag.specs.Tag.{above, same}
 use Rattle.protocol.proofs.Basics.{or-left, or-right}
@@ -85,16 +86,16 @@ module _ (f : ℕ → Tag) (i n : ℕ) where
     place-end h = rw (each-end f i n h)
 
   -- the lowest tag
-  module _ (t : Tag) (p : ℕ) where
-    pub least-lower : i < n → above t (f i) ≡ true → leastFrom t p i (each f i (n - i)) ≡ leastFrom (f i) i (i + 1) (each f (i + 1) (n - (i + 1)))
+  module _ (cfg : Config) (t : Tag) (p : ℕ) where
+    pub least-lower : i < n → above cfg t (f i) ≡ true → leastFrom cfg t p i (each f i (n - i)) ≡ leastFrom cfg (f i) i (i + 1) (each f (i + 1) (n - (i + 1)))
     unfolding leastFrom
     least-lower h e = rw (each-step f i n h, e, add-one i)
 
-    pub least-other : i < n → above t (f i) ≡ false → leastFrom t p i (each f i (n - i)) ≡ leastFrom t p (i + 1) (each f (i + 1) (n - (i + 1)))
+    pub least-other : i < n → above cfg t (f i) ≡ false → leastFrom cfg t p i (each f i (n - i)) ≡ leastFrom cfg t p (i + 1) (each f (i + 1) (n - (i + 1)))
     unfolding leastFrom
     least-other h e = rw (each-step f i n h, e, add-one i)
 
-    pub least-end : n ≤ i → leastFrom t p i (each f i (n - i)) ≡ record { tag = t; place = p }
+    pub least-end : n ≤ i → leastFrom cfg t p i (each f i (n - i)) ≡ record { tag = t; place = p }
     unfolding leastFrom
     least-end h = rw (each-end f i n h)
 
@@ -165,9 +166,9 @@ by-test : (f : ℕ → Tag) (t : Tag) (p i n : ℕ) (b : Bool) (l m : Least) →
 by-test f t p i n true l m x y = x
 by-test f t p i n false l m x y = y
 
-pub lowest-place : (f : ℕ → Tag) (t : Tag) (p i n : ℕ) → Lowest f t p i n (leastFrom t p i (each f i n))
+pub lowest-place : (cfg : Config) (f : ℕ → Tag) (t : Tag) (p i n : ℕ) → Lowest f t p i n (leastFrom cfg t p i (each f i n))
 unfolding leastFrom each
-lowest-place f t p i zero = inl (refl, refl)
-lowest-place f t p i (suc n) =
-    by-test f t p i (suc n) (above t (f i)) (leastFrom (f i) i (suc i) (each f (suc i) n)) (leastFrom t p (suc i) (each f (suc i) n))
-    (one-lower f t p i n _ (lowest-place f (f i) i (suc i) n)) (one-other f t p i n _ (lowest-place f t p (suc i) n))
+lowest-place cfg f t p i zero = inl (refl, refl)
+lowest-place cfg f t p i (suc n) =
+    by-test f t p i (suc n) (above cfg t (f i)) (leastFrom cfg (f i) i (suc i) (each f (suc i) n)) (leastFrom cfg t p (suc i) (each f (suc i) n))
+    (one-lower f t p i n _ (lowest-place cfg f (f i) i (suc i) n)) (one-other f t p i n _ (lowest-place cfg f t p (suc i) n))

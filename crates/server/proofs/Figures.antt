@@ -9,6 +9,7 @@ use mathlib.Core.Option.{Option, none, some}
 use lib.ListN.{length}
 use Rattle.config.specs.declared.Config.{Config}
 use Rattle.config.specs.declared.Server.{Server as ServerNumber}
+use Rattle.config.specs.Config.{noRanks, rank}
 use Rattle.config.specs.Number.{serverNumber}
 use Rattle.config.specs.Refusal.{verdictNumber}
 use Rattle.tag.specs.declared.Tag.{Tag}
@@ -28,9 +29,9 @@ use Rattle.server.specs.Within.{ValidState}
 use Rattle.server.specs.View.{view}
 use Rattle.server.proofs.Laws.{fresh-valid, fresh-view, on-message}
 
--- two clients, and elements of one byte
+-- two clients of equal rank, and elements of one byte
 abbrev pub cfg : Config
-cfg = record { n = 1; k = 1; d = 0; e = 1; c = 2 }
+cfg = record { n = 1; k = 1; d = 0; e = 1; c = 2; ranks = noRanks }
 
 abbrev pub tag : ℕ → ℕ → Tag
 tag z c = record { number = z; client = c }
@@ -55,16 +56,16 @@ record Known (s : State) (store : List ℕ) (v : Server Element) : Type 0 where
 
 record After (v : Server Element) (m : Message Element) (after storeAfter : List ℕ) (r : Stepped) : Type 0 where
   number : verdictNumber (r .verdict) ≡ 0
-  answer : (x : Message Element) → serverStep key 0 1 v m .answer ≡ some x → after ≡ recordOf cfg x
-  known : Known (r .state) storeAfter (serverStep key 0 1 v m .server)
+  answer : (x : Message Element) → serverStep (key cfg) 0 1 v m .answer ≡ some x → after ≡ recordOf cfg x
+  known : Known (r .state) storeAfter (serverStep (key cfg) 0 1 v m .server)
 
 step-known : (s : State) (store : List ℕ) (v : Server Element) → Known s store v → (m : Message Element) → ofConfig cfg m ≡ true → forServer 1 m ≡ true
     → (answer storeAfter answerAfter : List ℕ) (r : Stepped) → length answer ≡ 80 → StepPost cfg s (recordOf cfg m) store answer storeAfter answerAfter r
     → After v m answerAfter storeAfter r
 step-known s store v k m ok mine answer storeAfter answerAfter r eighty post =
     let p = on-message cfg s m store answer storeAfter answerAfter r (k .held) ok (ap (λ (n : ℕ). forServer n m) (k .me) ∙ mine) eighty post in
-    let o : serverStep key 0 (serverNumber (s .me)) (view cfg s store) m ≡ serverStep key 0 1 v m =
-    ap₂ {A = ℕ} (λ (n : ℕ) (w : Server Element). serverStep key 0 n w m) (k .me) (k .seen) in
+    let o : serverStep (key cfg) 0 (serverNumber (s .me)) (view cfg s store) m ≡ serverStep (key cfg) 0 1 v m =
+    ap₂ {A = ℕ} (λ (n : ℕ) (w : Server Element). serverStep (key cfg) 0 n w m) (k .me) (k .seen) in
     record {
       number = p .number;
       answer = λ x e. p .answer ∙ ap (recordOf cfg) (some-injective (sym (p .sends) ∙ ap (λ (y : Served Element). y .answer) o ∙ e));
@@ -94,27 +95,27 @@ unfolding ofConfig messageClauses all
 of-config = (refl, refl, refl, refl, refl)
 
 -- what the protocol makes of them
-one : serverStep key 0 1 (freshServer (full 7)) (message PreWrite 1 1 (some (full 8))) .server ≡ holding start (tag 1 1) 8 (tag 0 0)
-unfolding serverStep serverStepOf preWrite storeElement store isStored atOrBelowFloor dropSmallest others smallest inPlaceOf lower freshServer key
+one : serverStep (key cfg) 0 1 (freshServer (full 7)) (message PreWrite 1 1 (some (full 8))) .server ≡ holding start (tag 1 1) 8 (tag 0 0)
+unfolding serverStep serverStepOf preWrite storeElement store isStored atOrBelowFloor dropSmallest others smallest inPlaceOf lower freshServer key rank
 one = refl
 
-two : serverStep key 0 1 (holding start (tag 1 1) 8 (tag 0 0)) (message PreWrite 2 1 (some (full 9))) .server ≡ holding start (tag 2 1) 9 (tag 1 1)
-unfolding serverStep serverStepOf preWrite storeElement store isStored atOrBelowFloor dropSmallest others smallest inPlaceOf lower key
+two : serverStep (key cfg) 0 1 (holding start (tag 1 1) 8 (tag 0 0)) (message PreWrite 2 1 (some (full 9))) .server ≡ holding start (tag 2 1) 9 (tag 1 1)
+unfolding serverStep serverStepOf preWrite storeElement store isStored atOrBelowFloor dropSmallest others smallest inPlaceOf lower key rank
 two = refl
 
-three : serverStep key 0 1 (holding start (tag 2 1) 9 (tag 1 1)) (message PreWrite 1 2 (some (full 5)))
+three : serverStep (key cfg) 0 1 (holding start (tag 2 1) 9 (tag 1 1)) (message PreWrite 1 2 (some (full 5)))
     ≡ record { server = holding start (tag 2 1) 9 (tag 1 2); answer = some (message PreWriteAnswer 1 2 none) }
-unfolding serverStep serverStepOf preWrite storeElement store isStored atOrBelowFloor dropSmallest others smallest inPlaceOf lower answerTo key
+unfolding serverStep serverStepOf preWrite storeElement store isStored atOrBelowFloor dropSmallest others smallest inPlaceOf lower answerTo key rank
 three = refl
 
-four : serverStep key 0 1 (holding start (tag 2 1) 9 (tag 1 2)) (message ReadFinalise 1 1 none)
+four : serverStep (key cfg) 0 1 (holding start (tag 2 1) 9 (tag 1 2)) (message ReadFinalise 1 1 none)
     ≡ record { server = holding (tag 1 1) (tag 2 1) 9 (tag 1 2); answer = some (message Cleared 1 1 none) }
-unfolding serverStep serverStepOf readFinalise readAnswer elementOf atOrBelowFloor finalised higher answerTo key
+unfolding serverStep serverStepOf readFinalise readAnswer elementOf atOrBelowFloor finalised higher answerTo key rank
 four = refl
 
-five : serverStep key 0 1 (holding (tag 1 1) (tag 2 1) 9 (tag 1 2)) (message ReadFinalise 3 1 none)
+five : serverStep (key cfg) 0 1 (holding (tag 1 1) (tag 2 1) 9 (tag 1 2)) (message ReadFinalise 3 1 none)
     ≡ record { server = holding (tag 3 1) (tag 2 1) 9 (tag 1 2); answer = some (message ReadFinaliseAnswer 3 1 none) }
-unfolding serverStep serverStepOf readFinalise readAnswer elementOf atOrBelowFloor finalised higher answerTo key
+unfolding serverStep serverStepOf readFinalise readAnswer elementOf atOrBelowFloor finalised higher answerTo key rank
 five = refl
 
 -- The table, of a fresh server 1 with element 7 and five calls of `step`, each on what the one before left.

@@ -10,11 +10,11 @@ use borrow.Author.Tests.{eq-eqb, eqb-false, eqb-true, le-leb, leb-true, ltb-fals
 use lib.Dec.{eqb, leb, ltb}
 use lib.ListN.{length, length-append}
 use Rattle.config.specs.declared.Config.{Config}
-use Rattle.config.specs.Config.{boardLength}
+use Rattle.config.specs.Config.{Valid, boardLength}
 use Rattle.laws.proofs.Bools.{and-left, and-right}
 use Rattle.tag.specs.declared.Tag.{Tag}
 use Rattle.tag.specs.Tag.{above, allowed, key, start}
-use Rattle.tag.proofs.Order.{Small, key-above, key-one}
+use Rattle.tag.proofs.Order.{Small, key-above, key-one, same-eqb, small}
 use Rattle.record.specs.declared.Kind.{Kind}
 use Rattle.record.specs.declared.Kind.the-variants.{Query, QueryAnswer, PreWrite, PreWriteAnswer, WriteFinalise, WriteFinaliseAnswer, ReadFinalise, ReadFinaliseAnswer, Cleared}
 use Rattle.record.specs.Element.{Element}
@@ -25,7 +25,6 @@ use Rattle.protocol.specs.Tags.{higher, lower}
 use Rattle.protocol.proofs.Basics.{or-left, or-right}
 use Rattle.server.specs.Within.{among, every, floorWithin, storedLengths, lengthsWithin, once, serverWithin, tagsOf, tagsWithin}
 use Rattle.server.proofs.Limits.{within-allowed, within-count, within-floor, within-highest, within-once}
-use Rattle.server.proofs.Keys.{same-eqb, small}
 use Rattle.server.proofs.Tags.{both, every-in, every-last, in-every, lowest-all, lowest-first, lowest-in, lowestOf, once-last, once-replaced, replaced, replaced-gone, replaced-in, replaced-long}
 
 -- the clauses together
@@ -50,10 +49,10 @@ module _ {Element : Type 0} where
   tags-long [] = refl
   tags-long (x ∷ xs) = ap suc (tags-long xs)
 
-  pub tags-smallest : (t : Tag) (xs : List (Stored Element)) → smallest key t xs ≡ lowestOf t (tagsOf xs)
+  pub tags-smallest : (cfg : Config) (t : Tag) (xs : List (Stored Element)) → smallest (key cfg) t xs ≡ lowestOf cfg t (tagsOf xs)
   unfolding smallest lowestOf tagsOf
-  tags-smallest t [] = refl
-  tags-smallest t (x ∷ xs) = tags-smallest (lower key t (x .tag)) xs
+  tags-smallest cfg t [] = refl
+  tags-smallest cfg t (x ∷ xs) = tags-smallest cfg (lower (key cfg) t (x .tag)) xs
 
   tags-by : (b : Bool) (y x : Stored Element) (xs zs : List (Stored Element)) (ts : List Tag) → tagsOf zs ≡ ts
       → tagsOf (cond b (y ∷ xs) (x ∷ zs)) ≡ cond b (y .tag ∷ tagsOf xs) (x .tag ∷ ts)
@@ -61,26 +60,26 @@ module _ {Element : Type 0} where
   tags-by true y x xs zs ts e = refl
   tags-by false y x xs zs ts e = ap {B = List Tag} (λ l. x .tag ∷ l) e
 
-  pub tags-replaced : (u : Tag) (y : Stored Element) (xs : List (Stored Element)) → tagsOf (inPlaceOf key u y xs) ≡ replaced u (y .tag) (tagsOf xs)
+  pub tags-replaced : (cfg : Config) (u : Tag) (y : Stored Element) (xs : List (Stored Element)) → tagsOf (inPlaceOf (key cfg) u y xs) ≡ replaced cfg u (y .tag) (tagsOf xs)
   unfolding inPlaceOf replaced tagsOf
-  tags-replaced u y [] = refl
-  tags-replaced u y (x ∷ xs) =
-      tags-by (eqb (key (x .tag)) (key u)) y x xs (inPlaceOf key u y xs) (replaced u (y .tag) (tagsOf xs)) (tags-replaced u y xs)
+  tags-replaced cfg u y [] = refl
+  tags-replaced cfg u y (x ∷ xs) =
+      tags-by (eqb (key cfg (x .tag)) (key cfg u)) y x xs (inPlaceOf (key cfg) u y xs) (replaced cfg u (y .tag) (tagsOf xs)) (tags-replaced cfg u y xs)
 
-  pub tags-stored : (clients : ℕ) → clients ≤ 16 → (t : Tag) → Small t → (xs : List (Stored Element)) → every (allowed clients) (tagsOf xs) ≡ true
-      → isStored key t xs ≡ among t (tagsOf xs)
+  pub tags-stored : (cfg : Config) → Valid cfg → (t : Tag) → Small t → (xs : List (Stored Element)) → every (allowed (cfg .c)) (tagsOf xs) ≡ true
+      → isStored (key cfg) t xs ≡ among t (tagsOf xs)
   unfolding isStored among tagsOf every
-  tags-stored clients high t st [] h = refl
-  tags-stored clients high t st (x ∷ xs) h =
+  tags-stored cfg valid t st [] h = refl
+  tags-stored cfg valid t st (x ∷ xs) h =
       ap₂ {A = Bool} (λ (a b : Bool). a || b)
-      (sym (same-eqb (x .tag) t (small clients (x .tag) high (and-left (allowed clients (x .tag)) (every (allowed clients) (tagsOf xs)) h)) st))
-      (tags-stored clients high t st xs (and-right (allowed clients (x .tag)) (every (allowed clients) (tagsOf xs)) h))
+      (sym (same-eqb cfg valid (x .tag) t (small cfg valid (x .tag) (and-left (allowed (cfg .c) (x .tag)) (every (allowed (cfg .c)) (tagsOf xs)) h)) st))
+      (tags-stored cfg valid t st xs (and-right (allowed (cfg .c) (x .tag)) (every (allowed (cfg .c)) (tagsOf xs)) h))
 
 -- Storing a tag that is neither stored nor at or below the floor. `ts` are the stored tags.
-module _ (cfg : Config) (high : cfg .c ≤ 16) (highest : Tag) (floor : Option Tag) (ts : List Tag) (k : tagsWithin cfg highest floor ts ≡ true) (t : Tag)
+module _ (cfg : Config) (valid : Valid cfg) (highest : Tag) (floor : Option Tag) (ts : List Tag) (k : tagsWithin cfg highest floor ts ≡ true) (t : Tag)
     (ok : allowed (cfg .c) t ≡ true) (apart : among t ts ≡ false) where
   st : Small t
-  st = small (cfg .c) t high ok
+  st = small cfg valid t ok
 
   all-allowed : every (allowed (cfg .c)) ts ≡ true
   all-allowed = within-allowed cfg highest floor ts k
@@ -94,7 +93,7 @@ module _ (cfg : Config) (high : cfg .c ≤ 16) (highest : Tag) (floor : Option T
         arith,
         eqb-true (length ts) (cfg .d + 1)
             (and-right (allowed (cfg .c) f) (eqb (length ts) (cfg .d + 1))
-            (and-left (allowed (cfg .c) f && eqb (length ts) (cfg .d + 1)) (every (λ (x : Tag). above x f) ts) h)),
+            (and-left (allowed (cfg .c) f && eqb (length ts) (cfg .d + 1)) (every (λ (x : Tag). above cfg x f) ts) h)),
       ))
 
   pub within-last : length ts < cfg .d + 1 → tagsWithin cfg highest floor (ts ++ t ∷ []) ≡ true
@@ -105,56 +104,56 @@ module _ (cfg : Config) (high : cfg .c ≤ 16) (highest : Tag) (floor : Option T
 
   -- the lowest of t and the stored tags
   abbrev u : Tag
-  u = lowestOf t ts
+  u = lowestOf cfg t ts
 
   pub low-allowed : allowed (cfg .c) u ≡ true
   low-allowed =
-      ⊎-elim (λ e. ap (allowed (cfg .c)) e ∙ ok) (λ i. every-in (allowed (cfg .c)) ts u all-allowed i) (lowest-in t ts)
+      ⊎-elim (λ e. ap (allowed (cfg .c)) e ∙ ok) (λ i. every-in (allowed (cfg .c)) ts u all-allowed i) (lowest-in cfg t ts)
 
   su : Small u
-  su = small (cfg .c) u high low-allowed
+  su = small cfg valid u low-allowed
 
-  pub low-of : (x : Tag) → among x ts ≡ true → key u ≤ key x
-  low-of x i = leb-true (key u) (key x) (every-in (λ (y : Tag). leb (key u) (key y)) ts x (lowest-all t ts) i)
+  pub low-of : (x : Tag) → among x ts ≡ true → key cfg u ≤ key cfg x
+  low-of x i = leb-true (key cfg u) (key cfg x) (every-in (λ (y : Tag). leb (key cfg u) (key cfg y)) ts x (lowest-all cfg t ts) i)
 
   x-small : (x : Tag) → among x ts ≡ true → Small x
-  x-small x i = small (cfg .c) x high (every-in (allowed (cfg .c)) ts x all-allowed i)
+  x-small x i = small cfg valid x (every-in (allowed (cfg .c)) ts x all-allowed i)
 
   -- with the floor u, D + 1 tags us above it
-  floor-full : (us : List Tag) → length us ≡ cfg .d + 1 → ((x : Tag) → among x us ≡ true → above x u ≡ true) → floorWithin cfg (some u) us ≡ true
+  floor-full : (us : List Tag) → length us ≡ cfg .d + 1 → ((x : Tag) → among x us ≡ true → above cfg x u ≡ true) → floorWithin cfg (some u) us ≡ true
   unfolding floorWithin
-  floor-full us n h = rw (low-allowed, eq-eqb (length us) (cfg .d + 1) n) (in-every (λ (x : Tag). above x u) us h)
+  floor-full us n h = rw (low-allowed, eq-eqb (length us) (cfg .d + 1) n) (in-every (λ (x : Tag). above cfg x u) us h)
 
   module _ (full : length ts ≡ cfg .d + 1) where
     -- t itself is the lowest
-    pub within-itself : key u ≡ key t → tagsWithin cfg highest (some u) ts ≡ true
+    pub within-itself : key cfg u ≡ key cfg t → tagsWithin cfg highest (some u) ts ≡ true
     within-itself e =
         make-within cfg highest (some u) ts (within-highest cfg highest floor ts k) (omega arith) all-allowed (within-once cfg highest floor ts k)
         (floor-full ts full
         (λ x i.
-        let differ : key x ≡ key u → ⊥ =
-        λ z. true≢false (sym i ∙ ap (λ (y : Tag). among y ts) (key-one x t (x-small x i) st (z ∙ e)) ∙ apart) in
-        let le : key u ≤ key x = low-of x i in
-        key-above x u (x-small x i) su (omega arith)))
+        let differ : key cfg x ≡ key cfg u → ⊥ =
+        λ z. true≢false (sym i ∙ ap (λ (y : Tag). among y ts) (key-one cfg valid x t (x-small x i) st (z ∙ e)) ∙ apart) in
+        let le : key cfg u ≤ key cfg x = low-of x i in
+        key-above cfg valid x u (x-small x i) su (omega arith)))
 
     -- another is, and t has its place
-    pub within-replaced : (key u ≡ key t → ⊥) → tagsWithin cfg highest (some u) (replaced u t ts) ≡ true
+    pub within-replaced : (key cfg u ≡ key cfg t → ⊥) → tagsWithin cfg highest (some u) (replaced cfg u t ts) ≡ true
     within-replaced ne =
         let once-ts = within-once cfg highest floor ts k in
-        let of : (x : Tag) → among x (replaced u t ts) ≡ true → (allowed (cfg .c) x ≡ true) × (key u ≤ key x) =
+        let of : (x : Tag) → among x (replaced cfg u t ts) ≡ true → (allowed (cfg .c) x ≡ true) × (key cfg u ≤ key cfg x) =
         λ x i.
         ⊎-elim (λ w. (every-in (allowed (cfg .c)) ts x all-allowed w, low-of x w))
-        (λ w. (ap (allowed (cfg .c)) (sym w) ∙ ok, omega (arith, lowest-first t ts, ap key w))) (replaced-in u t x ts i) in
-        make-within cfg highest (some u) (replaced u t ts) (within-highest cfg highest floor ts k) (omega (arith, replaced-long u t ts))
-        (in-every (allowed (cfg .c)) (replaced u t ts) (λ x i. of x i .0)) (once-replaced u t ts once-ts apart)
-        (floor-full (replaced u t ts) (replaced-long u t ts ∙ full)
+        (λ w. (ap (allowed (cfg .c)) (sym w) ∙ ok, omega (arith, lowest-first cfg t ts, ap (key cfg) w))) (replaced-in cfg u t x ts i) in
+        make-within cfg highest (some u) (replaced cfg u t ts) (within-highest cfg highest floor ts k) (omega (arith, replaced-long cfg u t ts))
+        (in-every (allowed (cfg .c)) (replaced cfg u t ts) (λ x i. of x i .0)) (once-replaced cfg u t ts once-ts apart)
+        (floor-full (replaced cfg u t ts) (replaced-long cfg u t ts ∙ full)
         (λ x i.
-        let differ : key x ≡ key u → ⊥ = replaced-gone (cfg .c) high u t (λ z. ne (sym z)) x ts all-allowed once-ts i in
-        let le : key u ≤ key x = of x i .1 in
-        key-above x u (small (cfg .c) x high (of x i .0)) su (omega arith)))
+        let differ : key cfg x ≡ key cfg u → ⊥ = replaced-gone cfg valid u t (λ z. ne (sym z)) x ts all-allowed once-ts i in
+        let le : key cfg u ≤ key cfg x = of x i .1 in
+        key-above cfg valid x u (small cfg valid x (of x i .0)) su (omega arith)))
 
 -- Storing, by cases: nothing changes, there is room, t itself is the lowest, another is.
-module _ {Element : Type 0} (cfg : Config) (high : cfg .c ≤ 16) (v : Server Element) (k : serverTags cfg v ≡ true) (y : Stored Element)
+module _ {Element : Type 0} (cfg : Config) (valid : Valid cfg) (v : Server Element) (k : serverTags cfg v ≡ true) (y : Stored Element)
     (ok : allowed (cfg .c) (y .tag) ≡ true) where
   abbrev ts : List Tag
   ts = tagsOf (v .stored)
@@ -162,9 +161,9 @@ module _ {Element : Type 0} (cfg : Config) (high : cfg .c ≤ 16) (v : Server El
   abbrev t : Tag
   t = y .tag
 
-  stored-test : isStored key t (v .stored) ≡ among t ts
+  stored-test : isStored (key cfg) t (v .stored) ≡ among t ts
   stored-test =
-      tags-stored (cfg .c) high t (small (cfg .c) t high ok) (v .stored) (within-allowed cfg (v .highest) (v .floor) ts k)
+      tags-stored cfg valid t (small cfg valid t ok) (v .stored) (within-allowed cfg (v .highest) (v .floor) ts k)
 
   count-test : length (v .stored) ≡ length ts
   count-test = sym (tags-long (v .stored))
@@ -173,76 +172,76 @@ module _ {Element : Type 0} (cfg : Config) (high : cfg .c ≤ 16) (v : Server El
   abbrev pub floored : Tag → List (Stored Element) → Server Element
   floored f xs = record { highest = v .highest; floor = some f; stored = xs }
 
-  module _ (P : Server Element → Type 0) (unchanged : (among t ts || atOrBelowFloor key t (v .floor)) ≡ true → P v)
-      (room : among t ts ≡ false → atOrBelowFloor key t (v .floor) ≡ false → length ts < cfg .d + 1 → P (addLast v y))
-      (itself : among t ts ≡ false → atOrBelowFloor key t (v .floor) ≡ false → length ts ≡ cfg .d + 1 → key (lowestOf t ts) ≡ key t → P (floored (lowestOf t ts) (v .stored)))
-      (another : among t ts ≡ false → atOrBelowFloor key t (v .floor) ≡ false → length ts ≡ cfg .d + 1 → (key (lowestOf t ts) ≡ key t → ⊥)
-      → P (floored (lowestOf t ts) (inPlaceOf key (lowestOf t ts) y (v .stored)))) where
-    by-others : (b : Bool) → eqb (key (lowestOf t ts)) (key t) ≡ b → among t ts ≡ false → atOrBelowFloor key t (v .floor) ≡ false → length ts ≡ cfg .d + 1
-        → P (floored (lowestOf t ts) (cond b (v .stored) (inPlaceOf key (lowestOf t ts) y (v .stored))))
-    by-others true e a f n = itself a f n (eqb-true (key (lowestOf t ts)) (key t) e)
-    by-others false e a f n = another a f n (eqb-false (key (lowestOf t ts)) (key t) e)
+  module _ (P : Server Element → Type 0) (unchanged : (among t ts || atOrBelowFloor (key cfg) t (v .floor)) ≡ true → P v)
+      (room : among t ts ≡ false → atOrBelowFloor (key cfg) t (v .floor) ≡ false → length ts < cfg .d + 1 → P (addLast v y))
+      (itself : among t ts ≡ false → atOrBelowFloor (key cfg) t (v .floor) ≡ false → length ts ≡ cfg .d + 1 → key cfg (lowestOf cfg t ts) ≡ key cfg t → P (floored (lowestOf cfg t ts) (v .stored)))
+      (another : among t ts ≡ false → atOrBelowFloor (key cfg) t (v .floor) ≡ false → length ts ≡ cfg .d + 1 → (key cfg (lowestOf cfg t ts) ≡ key cfg t → ⊥)
+      → P (floored (lowestOf cfg t ts) (inPlaceOf (key cfg) (lowestOf cfg t ts) y (v .stored)))) where
+    by-others : (b : Bool) → eqb (key cfg (lowestOf cfg t ts)) (key cfg t) ≡ b → among t ts ≡ false → atOrBelowFloor (key cfg) t (v .floor) ≡ false → length ts ≡ cfg .d + 1
+        → P (floored (lowestOf cfg t ts) (cond b (v .stored) (inPlaceOf (key cfg) (lowestOf cfg t ts) y (v .stored))))
+    by-others true e a f n = itself a f n (eqb-true (key cfg (lowestOf cfg t ts)) (key cfg t) e)
+    by-others false e a f n = another a f n (eqb-false (key cfg (lowestOf cfg t ts)) (key cfg t) e)
 
-    by-room : (b : Bool) → ltb (length ts) (cfg .d + 1) ≡ b → among t ts ≡ false → atOrBelowFloor key t (v .floor) ≡ false
-        → P (cond b (addLast v y) (dropSmallest key v y))
+    by-room : (b : Bool) → ltb (length ts) (cfg .d + 1) ≡ b → among t ts ≡ false → atOrBelowFloor (key cfg) t (v .floor) ≡ false
+        → P (cond b (addLast v y) (dropSmallest (key cfg) v y))
     unfolding dropSmallest others
     by-room true e a f = room a f (ltb-true (length ts) (cfg .d + 1) e)
     by-room false e a f =
-        rw (tags-smallest t (v .stored))
-        (by-others (eqb (key (lowestOf t ts)) (key t)) refl a f
+        rw (tags-smallest cfg t (v .stored))
+        (by-others (eqb (key cfg (lowestOf cfg t ts)) (key cfg t)) refl a f
         (omega (arith, ltb-false (length ts) (cfg .d + 1) e, within-count cfg (v .highest) (v .floor) ts k)))
 
-    by-test : (b : Bool) → (among t ts || atOrBelowFloor key t (v .floor)) ≡ b → P (cond b v (cond (ltb (length ts) (cfg .d + 1)) (addLast v y) (dropSmallest key v y)))
+    by-test : (b : Bool) → (among t ts || atOrBelowFloor (key cfg) t (v .floor)) ≡ b → P (cond b v (cond (ltb (length ts) (cfg .d + 1)) (addLast v y) (dropSmallest (key cfg) v y)))
     by-test true e = unchanged e
     by-test false e =
-        by-room (ltb (length ts) (cfg .d + 1)) refl (or-left (among t ts) (atOrBelowFloor key t (v .floor)) e)
-        (or-right (among t ts) (atOrBelowFloor key t (v .floor)) e)
+        by-room (ltb (length ts) (cfg .d + 1)) refl (or-left (among t ts) (atOrBelowFloor (key cfg) t (v .floor)) e)
+        (or-right (among t ts) (atOrBelowFloor (key cfg) t (v .floor)) e)
 
-    pub store-cases : P (store key (cfg .d) v y)
+    pub store-cases : P (store (key cfg) (cfg .d) v y)
     unfolding store
-    store-cases = rw (stored-test, count-test) (by-test (among t ts || atOrBelowFloor key t (v .floor)) refl)
+    store-cases = rw (stored-test, count-test) (by-test (among t ts || atOrBelowFloor (key cfg) t (v .floor)) refl)
 
   tags-addLast : tagsWithin cfg (v .highest) (v .floor) (ts ++ t ∷ []) ≡ true → serverTags cfg (addLast v y) ≡ true
   unfolding addLast
   tags-addLast h = rw (tags-last (v .stored) y) h
 
-  pub store-tags : serverTags cfg (store key (cfg .d) v y) ≡ true
+  pub store-tags : serverTags cfg (store (key cfg) (cfg .d) v y) ≡ true
   store-tags =
       store-cases (λ w. serverTags cfg w ≡ true) (λ _. k) with-room with-itself with-another
     where
-      with-room : among t ts ≡ false → atOrBelowFloor key t (v .floor) ≡ false → length ts < cfg .d + 1 → serverTags cfg (addLast v y) ≡ true
-      with-room a f lt = tags-addLast (within-last cfg high (v .highest) (v .floor) ts k t ok a lt)
+      with-room : among t ts ≡ false → atOrBelowFloor (key cfg) t (v .floor) ≡ false → length ts < cfg .d + 1 → serverTags cfg (addLast v y) ≡ true
+      with-room a f lt = tags-addLast (within-last cfg valid (v .highest) (v .floor) ts k t ok a lt)
 
-      with-itself : among t ts ≡ false → atOrBelowFloor key t (v .floor) ≡ false → length ts ≡ cfg .d + 1 → key (lowestOf t ts) ≡ key t
-          → serverTags cfg (floored (lowestOf t ts) (v .stored)) ≡ true
-      with-itself a f n e = within-itself cfg high (v .highest) (v .floor) ts k t ok a n e
+      with-itself : among t ts ≡ false → atOrBelowFloor (key cfg) t (v .floor) ≡ false → length ts ≡ cfg .d + 1 → key cfg (lowestOf cfg t ts) ≡ key cfg t
+          → serverTags cfg (floored (lowestOf cfg t ts) (v .stored)) ≡ true
+      with-itself a f n e = within-itself cfg valid (v .highest) (v .floor) ts k t ok a n e
 
-      with-another : among t ts ≡ false → atOrBelowFloor key t (v .floor) ≡ false → length ts ≡ cfg .d + 1 → (key (lowestOf t ts) ≡ key t → ⊥)
-          → serverTags cfg (floored (lowestOf t ts) (inPlaceOf key (lowestOf t ts) y (v .stored))) ≡ true
+      with-another : among t ts ≡ false → atOrBelowFloor (key cfg) t (v .floor) ≡ false → length ts ≡ cfg .d + 1 → (key cfg (lowestOf cfg t ts) ≡ key cfg t → ⊥)
+          → serverTags cfg (floored (lowestOf cfg t ts) (inPlaceOf (key cfg) (lowestOf cfg t ts) y (v .stored))) ≡ true
       with-another a f n e =
-          rw (tags-replaced (lowestOf t ts) y (v .stored)) (within-replaced cfg high (v .highest) (v .floor) ts k t ok a n e)
+          rw (tags-replaced cfg (lowestOf cfg t ts) y (v .stored)) (within-replaced cfg valid (v .highest) (v .floor) ts k t ok a n e)
 
 -- a step keeps the tags within their limits
-module _ {Element : Type 0} (cfg : Config) (high : cfg .c ≤ 16) (s : ℕ) (v : Server Element) (k : serverTags cfg v ≡ true) (m : Message Element)
+module _ {Element : Type 0} (cfg : Config) (valid : Valid cfg) (s : ℕ) (v : Server Element) (k : serverTags cfg v ≡ true) (m : Message Element)
     (ok : allowed (cfg .c) (m .tag) ≡ true) where
   higher-by : (b : Bool) (h t : Tag) → allowed (cfg .c) h ≡ true → allowed (cfg .c) t ≡ true → allowed (cfg .c) (cond b t h) ≡ true
   higher-by true h t p q = q
   higher-by false h t p q = p
 
-  pub finalised-tags : serverTags cfg (finalised key v (m .tag)) ≡ true
+  pub finalised-tags : serverTags cfg (finalised (key cfg) v (m .tag)) ≡ true
   unfolding finalised higher
   finalised-tags =
       make-within cfg _ (v .floor) (tagsOf (v .stored))
-      (higher-by (ltb (key (v .highest)) (key (m .tag))) (v .highest) (m .tag) (within-highest cfg (v .highest) (v .floor) (tagsOf (v .stored)) k) ok)
+      (higher-by (ltb (key cfg (v .highest)) (key cfg (m .tag))) (v .highest) (m .tag) (within-highest cfg (v .highest) (v .floor) (tagsOf (v .stored)) k) ok)
       (within-count cfg (v .highest) (v .floor) (tagsOf (v .stored)) k) (within-allowed cfg (v .highest) (v .floor) (tagsOf (v .stored)) k)
       (within-once cfg (v .highest) (v .floor) (tagsOf (v .stored)) k) (within-floor cfg (v .highest) (v .floor) (tagsOf (v .stored)) k)
 
-  element-tags : (e : Option Element) → serverTags cfg (storeElement key (cfg .d) v (m .tag) e) ≡ true
+  element-tags : (e : Option Element) → serverTags cfg (storeElement (key cfg) (cfg .d) v (m .tag) e) ≡ true
   unfolding storeElement
   element-tags none = k
-  element-tags (some e) = store-tags cfg high v k (record { tag = m .tag; element = e }) ok
+  element-tags (some e) = store-tags cfg valid v k (record { tag = m .tag; element = e }) ok
 
-  tags-by-kind : (kind : Kind) → serverTags cfg (serverStepOf kind key (cfg .d) s v m .server) ≡ true
+  tags-by-kind : (kind : Kind) → serverTags cfg (serverStepOf kind (key cfg) (cfg .d) s v m .server) ≡ true
   unfolding serverStepOf query preWrite writeFinalise readFinalise
   tags-by-kind Query = k
   tags-by-kind QueryAnswer = k
@@ -254,7 +253,7 @@ module _ {Element : Type 0} (cfg : Config) (high : cfg .c ≤ 16) (s : ℕ) (v :
   tags-by-kind ReadFinaliseAnswer = k
   tags-by-kind Cleared = k
 
-  pub step-tags : serverTags cfg (serverStep key (cfg .d) s v m .server) ≡ true
+  pub step-tags : serverTags cfg (serverStep (key cfg) (cfg .d) s v m .server) ≡ true
   unfolding serverStep
   step-tags = tags-by-kind (m .kind)
 
@@ -287,35 +286,35 @@ module _ (cfg : Config) where
         both (fits (x .element .length)) (every fits (storedLengths zs)) (and-left (fits (x .element .length)) (every fits (storedLengths xs)) h)
         (f (and-right (fits (x .element .length)) (every fits (storedLengths xs)) h))
 
-    lengths-replaced : (u : Tag) (xs : List (Stored Element)) → serverLengths xs ≡ true → serverLengths (inPlaceOf key u y xs) ≡ true
+    lengths-replaced : (u : Tag) (xs : List (Stored Element)) → serverLengths xs ≡ true → serverLengths (inPlaceOf (key cfg) u y xs) ≡ true
     unfolding inPlaceOf
     lengths-replaced u [] h = h
-    lengths-replaced u (x ∷ xs) h = replaced-by (eqb (key (x .tag)) (key u)) x xs (inPlaceOf key u y xs) h (lengths-replaced u xs)
+    lengths-replaced u (x ∷ xs) h = replaced-by (eqb (key cfg (x .tag)) (key cfg u)) x xs (inPlaceOf (key cfg) u y xs) h (lengths-replaced u xs)
 
     -- stored, whatever the case
     module _ (v : Server Element) (k : serverLengths (v .stored) ≡ true) where
-      others-by : (b : Bool) (u : Tag) → serverLengths (cond b (v .stored) (inPlaceOf key u y (v .stored))) ≡ true
+      others-by : (b : Bool) (u : Tag) → serverLengths (cond b (v .stored) (inPlaceOf (key cfg) u y (v .stored))) ≡ true
       others-by true u = k
       others-by false u = lengths-replaced u (v .stored) k
 
-      stored-by : (b c : Bool) → serverLengths (cond b v (cond c (addLast v y) (dropSmallest key v y)) .stored) ≡ true
+      stored-by : (b c : Bool) → serverLengths (cond b v (cond c (addLast v y) (dropSmallest (key cfg) v y)) .stored) ≡ true
       unfolding addLast dropSmallest others
       stored-by true c = k
       stored-by false true = lengths-added (v .stored) k
-      stored-by false false = others-by (eqb (key (smallest key (y .tag) (v .stored))) (key (y .tag))) (smallest key (y .tag) (v .stored))
+      stored-by false false = others-by (eqb (key cfg (smallest (key cfg) (y .tag) (v .stored))) (key cfg (y .tag))) (smallest (key cfg) (y .tag) (v .stored))
 
-      store-lengths : serverLengths (store key (cfg .d) v y .stored) ≡ true
+      store-lengths : serverLengths (store (key cfg) (cfg .d) v y .stored) ≡ true
       unfolding store
-      store-lengths = stored-by (isStored key (y .tag) (v .stored) || atOrBelowFloor key (y .tag) (v .floor)) (ltb (length (v .stored)) (cfg .d + 1))
+      store-lengths = stored-by (isStored (key cfg) (y .tag) (v .stored) || atOrBelowFloor (key cfg) (y .tag) (v .floor)) (ltb (length (v .stored)) (cfg .d + 1))
 
   -- a step keeps the lengths within theirs, where that of its message is
   module _ (s : ℕ) (v : Server Element) (k : serverLengths (v .stored) ≡ true) (m : Message Element) (ok : fits (lengthOf (m .element)) ≡ true) where
-    element-lengths : (e : Option Element) → fits (lengthOf e) ≡ true → serverLengths (storeElement key (cfg .d) v (m .tag) e .stored) ≡ true
+    element-lengths : (e : Option Element) → fits (lengthOf e) ≡ true → serverLengths (storeElement (key cfg) (cfg .d) v (m .tag) e .stored) ≡ true
     unfolding storeElement
     element-lengths none h = k
     element-lengths (some e) h = store-lengths (record { tag = m .tag; element = e }) h v k
 
-    lengths-by-kind : (kind : Kind) → serverLengths (serverStepOf kind key (cfg .d) s v m .server .stored) ≡ true
+    lengths-by-kind : (kind : Kind) → serverLengths (serverStepOf kind (key cfg) (cfg .d) s v m .server .stored) ≡ true
     unfolding serverStepOf query preWrite writeFinalise readFinalise finalised
     lengths-by-kind Query = k
     lengths-by-kind QueryAnswer = k
@@ -327,7 +326,7 @@ module _ (cfg : Config) where
     lengths-by-kind ReadFinaliseAnswer = k
     lengths-by-kind Cleared = k
 
-    step-lengths : serverLengths (serverStep key (cfg .d) s v m .server .stored) ≡ true
+    step-lengths : serverLengths (serverStep (key cfg) (cfg .d) s v m .server .stored) ≡ true
     unfolding serverStep
     step-lengths = lengths-by-kind (m .kind)
 
@@ -347,21 +346,21 @@ module _ (cfg : Config) (v : Server Element) where
     lengths-of = and-right (serverTags cfg v) (lengthsWithin cfg (storedLengths (v .stored))) h
 
 -- a step keeps question 6
-module _ (cfg : Config) (high : cfg .c ≤ 16) (s : ℕ) (v : Server Element) (k : serverWithin cfg v ≡ true) (m : Message Element)
+module _ (cfg : Config) (valid : Valid cfg) (s : ℕ) (v : Server Element) (k : serverWithin cfg v ≡ true) (m : Message Element)
     (ok : allowed (cfg .c) (m .tag) ≡ true) where
-  pub step-within : leb (lengthOf (m .element)) (boardLength cfg) ≡ true → serverWithin cfg (serverStep key (cfg .d) s v m .server) ≡ true
+  pub step-within : leb (lengthOf (m .element)) (boardLength cfg) ≡ true → serverWithin cfg (serverStep (key cfg) (cfg .d) s v m .server) ≡ true
   step-within fits =
-      both-within cfg (serverStep key (cfg .d) s v m .server) (step-tags cfg high s v (tags-of cfg v k) m ok) (step-lengths cfg s v (lengths-of cfg v k) m fits)
+      both-within cfg (serverStep (key cfg) (cfg .d) s v m .server) (step-tags cfg valid s v (tags-of cfg v k) m ok) (step-lengths cfg s v (lengths-of cfg v k) m fits)
 
 -- H never falls
-rises-by : (b : Bool) (h t : Tag) → ltb (key h) (key t) ≡ b → key h ≤ key (cond b t h)
-rises-by true h t e = omega (arith, ltb-true (key h) (key t) e)
-rises-by false h t e = omega arith
+rises-by : (key : Tag → ℕ) (b : Bool) (h t : Tag) → ltb (key h) (key t) ≡ b → key h ≤ key (cond b t h)
+rises-by key true h t e = omega (arith, ltb-true (key h) (key t) e)
+rises-by key false h t e = omega arith
 
-module _ {Element : Type 0} (d s : ℕ) (v : Server Element) (m : Message Element) where
+module _ {Element : Type 0} (key : Tag → ℕ) (d s : ℕ) (v : Server Element) (m : Message Element) where
   finalised-rises : key (v .highest) ≤ key (finalised key v (m .tag) .highest)
   unfolding finalised higher
-  finalised-rises = rises-by (ltb (key (v .highest)) (key (m .tag))) (v .highest) (m .tag) refl
+  finalised-rises = rises-by key (ltb (key (v .highest)) (key (m .tag))) (v .highest) (m .tag) refl
 
   store-by : (b c : Bool) (y : Stored Element) → key (v .highest) ≤ key (cond b v (cond c (addLast v y) (dropSmallest key v y)) .highest)
   unfolding addLast dropSmallest

@@ -14,7 +14,7 @@ use Rattle.laws.proofs.Parts.{over-length, part-fits}
 use Rattle.config.specs.declared.Config.{Config}
 use Rattle.tag.specs.declared.Tag.{Tag}
 use Rattle.tag.specs.Tag.{allowed, key}
-use Rattle.tag.proofs.Order.{Small}
+use Rattle.tag.proofs.Order.{Small, small}
 use Rattle.record.specs.Element.{Element, elementWith}
 use Rattle.protocol.specs.Server.{Stored, atOrBelowFloor, dropSmallest, isStored, store as stores}
 use Rattle.server.specs.declared.State.{State}
@@ -24,7 +24,6 @@ use Rattle.server.specs.Within.{among, every}
 use Rattle.server.specs.View.{each, floorOf, placeAt, tagAt, tagsUsed, view}
 use Rattle.server.proofs.Each.{length-each, place-among, place-not-among}
 use Rattle.server.proofs.Limits.{state-allowed, state-count, state-eight, state-once}
-use Rattle.server.proofs.Keys.{small}
 use Rattle.server.proofs.Lists.{stored-among}
 use Rattle.server.proofs.Views.{another-view, append-view, itself-view}
 
@@ -37,21 +36,21 @@ module _ (cfg : Config) (s : State) (t : Tag) (n : ℕ) (element store : List �
   new = record { tag = t; element = elementWith n element }
 
   tag-small : Small t
-  tag-small = small (cfg .c) t (k .held .valid .c-high) (k .allowed)
+  tag-small = small cfg (k .held .valid) t (k .allowed)
 
   all-allowed : every (allowed (cfg .c)) (tagsUsed s) ≡ true
   all-allowed = state-allowed cfg s (k .held .within)
 
-  stored-is : isStored key t (view cfg s store .stored) ≡ among t (tagsUsed s)
+  stored-is : isStored (key cfg) t (view cfg s store .stored) ≡ among t (tagsUsed s)
   unfolding view
-  stored-is = stored-among (cfg .c) (k .held .valid .c-high) (placeAt cfg (s .tags) (s .lengths) store) t tag-small 0 (s .count) all-allowed
+  stored-is = stored-among cfg (k .held .valid) (placeAt cfg (s .tags) (s .lengths) store) t tag-small 0 (s .count) all-allowed
 
   many : length (view cfg s store .stored) ≡ s .count
   unfolding view
   many = length-each (placeAt cfg (s .tags) (s .lengths) store) 0 (s .count)
 
   -- the place of t: it is stored, or it is not
-  there : (p : ℕ) → p ≡ placeIn t (tagsUsed s) → p < s .count → isStored key t (view cfg s store .stored) ≡ true
+  there : (p : ℕ) → p ≡ placeIn t (tagsUsed s) → p < s .count → isStored (key cfg) t (view cfg s store .stored) ≡ true
   there p e h =
       let l : placeIn t (tagsUsed s) < length (tagsUsed s) = omega (arith, length-each (tagAt (s .tags)) 0 (s .count)) in
       stored-is ∙ place-among t (tagsUsed s) l
@@ -66,20 +65,20 @@ module _ (cfg : Config) (s : State) (t : Tag) (n : ℕ) (element store : List �
   keep-stored p e h = record { me = refl; seen = rw (there p e h); long = refl }
 
   module _ (p : ℕ) (e : p ≡ placeIn t (tagsUsed s)) (h : s .count ≤ p) where
-    not-stored : isStored key t (view cfg s store .stored) ≡ false
+    not-stored : isStored (key cfg) t (view cfg s store .stored) ≡ false
     not-stored = stored-is ∙ nowhere p e h
 
     floor-is : view cfg s store .floor ≡ floorOf (s .floor)
     unfolding view
     floor-is = refl
 
-    pub keep-below : atOrBelowFloor key t (floorOf (s .floor)) ≡ true → KeepPost cfg s t n element store store s
+    pub keep-below : atOrBelowFloor (key cfg) t (floorOf (s .floor)) ≡ true → KeepPost cfg s t n element store store s
     unfolding stores
-    keep-below b = record { me = refl; seen = rw (not-stored, ap (atOrBelowFloor key t) floor-is ∙ b); long = refl }
+    keep-below b = record { me = refl; seen = rw (not-stored, ap (atOrBelowFloor (key cfg) t) floor-is ∙ b); long = refl }
 
-    module _ (b : atOrBelowFloor key t (floorOf (s .floor)) ≡ false) where
-      above-floor : atOrBelowFloor key t (view cfg s store .floor) ≡ false
-      above-floor = ap (atOrBelowFloor key t) floor-is ∙ b
+    module _ (b : atOrBelowFloor (key cfg) t (floorOf (s .floor)) ≡ false) where
+      above-floor : atOrBelowFloor (key cfg) t (view cfg s store .floor) ≡ false
+      above-floor = ap (atOrBelowFloor (key cfg) t) floor-is ∙ b
 
       pub room-append : s .count ≤ cfg .d → Room cfg (s .count + 1) element store
       room-append c =
@@ -115,29 +114,29 @@ module _ (cfg : Config) (s : State) (t : Tag) (n : ℕ) (element store : List �
             fits = omega (arith, k .held .long);
           }
 
-      drop-view : (after : List ℕ) (r : State) → DropSmallestPost cfg s t n element store after r → view cfg r after ≡ dropSmallest key (view cfg s store) new
-      drop-view after r d = elim (decLe (s .count) (lowest s t .place)) as (λ _. view cfg r after ≡ dropSmallest key (view cfg s store) new) [
+      drop-view : (after : List ℕ) (r : State) → DropSmallestPost cfg s t n element store after r → view cfg r after ≡ dropSmallest (key cfg) (view cfg s store) new
+      drop-view after r d = elim (decLe (s .count) (lowest cfg s t .place)) as (λ _. view cfg r after ≡ dropSmallest (key cfg) (view cfg s store) new) [
         | yes le ↦
-            let x : after ≡ store = d .store ∙ ap (λ (z : Bool). cond z store (over (lowest s t .place * cfg .e) (cfg .e) element store)) (le-leb (s .count) (lowest s t .place) le) in
+            let x : after ≡ store = d .store ∙ ap (λ (z : Bool). cond z store (over (lowest cfg s t .place * cfg .e) (cfg .e) element store)) (le-leb (s .count) (lowest cfg s t .place) le) in
             rw (d .state, x)
-            (itself-view cfg s store t n element (k .sized) (d .eight) (cfg .c) (k .held .valid .c-high) tag-small all-allowed
+            (itself-view cfg s store t n element (k .sized) (d .eight) (k .held .valid) tag-small all-allowed
             (state-once cfg s (k .held .within)) (nowhere p e h) le)
         | no gt ↦
-            let lt : lowest s t .place < s .count = omega arith in
-            let x : after ≡ over (lowest s t .place * cfg .e) (cfg .e) element store =
-            d .store ∙ ap (λ (z : Bool). cond z store (over (lowest s t .place * cfg .e) (cfg .e) element store)) (lt-leb (s .count) (lowest s t .place) lt) in
+            let lt : lowest cfg s t .place < s .count = omega arith in
+            let x : after ≡ over (lowest cfg s t .place * cfg .e) (cfg .e) element store =
+            d .store ∙ ap (λ (z : Bool). cond z store (over (lowest cfg s t .place * cfg .e) (cfg .e) element store)) (lt-leb (s .count) (lowest cfg s t .place) lt) in
             rw (d .state, x)
-            (another-view cfg s store t n element (k .sized) (d .eight) (cfg .c) (k .held .valid .c-high) tag-small all-allowed
+            (another-view cfg s store t n element (k .sized) (d .eight) (k .held .valid) tag-small all-allowed
             (state-once cfg s (k .held .within)) (nowhere p e h) lt (room-drop .n-high) (room-drop .fits))
       ]
 
       drop-long : (after : List ℕ) (r : State) → DropSmallestPost cfg s t n element store after r → length after ≡ length store
-      drop-long after r d = ap length (d .store) ∙ elim (decLe (s .count) (lowest s t .place)) as (λ _. length (cond (leb (s .count) (lowest s t .place)) store (over (lowest s t .place * cfg .e) (cfg .e) element store)) ≡ length store) [
-        | yes le ↦ rw (le-leb (s .count) (lowest s t .place) le)
+      drop-long after r d = ap length (d .store) ∙ elim (decLe (s .count) (lowest cfg s t .place)) as (λ _. length (cond (leb (s .count) (lowest cfg s t .place)) store (over (lowest cfg s t .place * cfg .e) (cfg .e) element store)) ≡ length store) [
+        | yes le ↦ rw (le-leb (s .count) (lowest cfg s t .place) le)
         | no gt ↦
-            let lt : lowest s t .place < s .count = omega arith in
-            let fits : lowest s t .place * cfg .e + cfg .e ≤ length store = omega (arith, part-fits (lowest s t .place) (s .count) (cfg .e) lt, room-drop .fits) in
-            rw (lt-leb (s .count) (lowest s t .place) lt) (over-length (lowest s t .place * cfg .e) (cfg .e) element store (k .sized) fits)
+            let lt : lowest cfg s t .place < s .count = omega arith in
+            let fits : lowest cfg s t .place * cfg .e + cfg .e ≤ length store = omega (arith, part-fits (lowest cfg s t .place) (s .count) (cfg .e) lt, room-drop .fits) in
+            rw (lt-leb (s .count) (lowest cfg s t .place) lt) (over-length (lowest cfg s t .place * cfg .e) (cfg .e) element store (k .sized) fits)
       ]
 
       pub keep-drop : cfg .d < s .count → (after : List ℕ) (r : State) → DropSmallestPost cfg s t n element store after r → KeepPost cfg s t n element store after r

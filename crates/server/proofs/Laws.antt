@@ -83,7 +83,7 @@ module _ (cfg : Config) (s : State) (store : List ℕ) where
   pub within-state : within 1 (cfg .n) (serverNumber (s .me)) ≡ true → serverWithin cfg (view cfg s store) ≡ true → stateWithin cfg s ≡ true
   within-state w h = state-view ∙ both (within 1 (cfg .n) (serverNumber (s .me))) (serverWithin cfg (view cfg s store)) w h
 
--- Fresh: an accepted call leaves the protocol's fresh server, and it passes questions 1 to 6.
+-- Fresh: an accepted call leaves the protocol's fresh server, and it passes questions 1 to 6 and 21.
 module _ (cfg : Config) (me : ServerNumber) (element before after : List ℕ) (r : Stepped) (post : FreshPost cfg me element before after r)
     (accepted : verdictNumber (r .verdict) ≡ 0) where
   asked : firstNo (freshQuestions cfg me element before) ≡ 0
@@ -187,7 +187,7 @@ module _ (cfg : Config) (s : State) (handed store answer storeAfter answerAfter 
   after-within = elim (ℕ-discrete first 0) as (λ _. serverWithin cfg (view cfg (r .state) storeAfter) ≡ true) [
     | yes z ↦
         ap (serverWithin cfg) (post .seen z)
-        ∙ step-within cfg (held .valid .c-high) (serverNumber (s .me)) v v-within m (tag-ok z) (length-ok z)
+        ∙ step-within cfg (held .valid) (serverNumber (s .me)) v v-within m (tag-ok z) (length-ok z)
     | no nz ↦ ap₂ {A = State} (λ (x : State) (l : List ℕ). serverWithin cfg (view cfg x l)) (post .state nz) (post .store nz) ∙ v-within
   ]
 
@@ -205,12 +205,12 @@ module _ (cfg : Config) (s : State) (handed store answer storeAfter answerAfter 
   unfolding view
   view-highest x l = refl
 
-  pub never-falls : key (s .highest) ≤ key (r .state .highest)
-  never-falls = elim (ℕ-discrete first 0) as (λ _. key (s .highest) ≤ key (r .state .highest)) [
+  pub never-falls : key cfg (s .highest) ≤ key cfg (r .state .highest)
+  never-falls = elim (ℕ-discrete first 0) as (λ _. key cfg (s .highest) ≤ key cfg (r .state .highest)) [
     | yes z ↦
         let e : view cfg (r .state) storeAfter .highest ≡ outcome cfg s store m .server .highest = ap (λ (x : Server Element). x .highest) (post .seen z) in
-        omega (arith, highest-rises (cfg .d) (serverNumber (s .me)) v m, ap key e, ap key (view-highest (r .state) storeAfter), ap key (view-highest s store))
-    | no nz ↦ omega (arith, ap (λ (x : State). key (x .highest)) (post .state nz))
+        omega (arith, highest-rises (key cfg) (cfg .d) (serverNumber (s .me)) v m, ap (key cfg) e, ap (key cfg) (view-highest (r .state) storeAfter), ap (key cfg) (view-highest s store))
+    | no nz ↦ omega (arith, ap (λ (x : State). key cfg (x .highest)) (post .state nz))
   ]
 
 -- Pre-write: what is sent is stored. After an accepted step the element of the tag is the one sent, unless the tag was stored, or at or
@@ -224,16 +224,16 @@ module _ (cfg : Config) (s : State) (handed store answer storeAfter answerAfter 
   abbrev later : Server Element
   later = view cfg (r .state) storeAfter
 
-  stored-is : later ≡ stores key (cfg .d) (view cfg s store) (record { tag = written; element = element })
+  stored-is : later ≡ stores (key cfg) (cfg .d) (view cfg s store) (record { tag = written; element = element })
   unfolding serverStep serverStepOf preWrite storeElement
   stored-is = post .seen (sym (post .number) ∙ accepted) ∙ rw (kind, carried)
 
-  pub stores-what-is-sent : isStored key written (view cfg s store .stored) ≡ false → atOrBelowFloor key written (view cfg s store .floor) ≡ false
-      → (later .floor ≡ some written → ⊥) → elementOf key written (later .stored) ≡ some element
+  pub stores-what-is-sent : isStored (key cfg) written (view cfg s store .stored) ≡ false → atOrBelowFloor (key cfg) written (view cfg s store .floor) ≡ false
+      → (later .floor ≡ some written → ⊥) → elementOf (key cfg) written (later .stored) ≡ some element
   stores-what-is-sent new over other =
       ⊎-elim (λ f. absurd (other f)) (λ h. h)
-      (subst (λ (w : Server Element). (w .floor ≡ some written) ⊎ (elementOf key written (w .stored) ≡ some element)) (sym stored-is)
-      (sent-stored written element (view cfg s store) new (cfg .d) over))
+      (subst (λ (w : Server Element). (w .floor ≡ some written) ⊎ (elementOf (key cfg) written (w .stored) ≡ some element)) (sym stored-is)
+      (sent-stored (key cfg) written element (view cfg s store) new (cfg .d) over))
 
 -- A step on the record of a message of the configuration, for this server and of a kind that it receives: it is the protocol's, and sends an answer.
 pub record OnMessage (cfg : Config) (s : State) (m : Message Element) (storeBefore storeAfter answerAfter : List ℕ) (r : Stepped) : Type 0 where
@@ -263,7 +263,7 @@ module _ (cfg : Config) (s : State) (m : Message Element) (store answer storeAft
 
   pub on-message : OnMessage cfg s m store storeAfter answerAfter r
   on-message =
-      let a = answers-each key (cfg .d) (serverNumber (s .me)) (view cfg s store) m (and-right (eqb (m .server) (serverNumber (s .me))) (isForServer (m .kind)) mine) in
+      let a = answers-each (key cfg) (cfg .d) (serverNumber (s .me)) (view cfg s store) m (and-right (eqb (m .server) (serverNumber (s .me))) (isForServer (m .kind)) mine) in
       record {
         number = steps .number;
         me = post .me;

@@ -24,19 +24,19 @@ use Rattle.server.proofs.Limits.{state-allowed, state-count, state-eigh
 use Rattle.server.proofs.Lists.{element-found, element-missed}
 
 module _ (cfg : Config) (s : State) (t : Tag) (store : List ℕ) (held : ValidState cfg s store) (p : ℕ) where
-  pub element-there : Small t → p ≡ placeIn t (tagsUsed s) → p < s .count → elementOf key t (view cfg s store .stored)
+  pub element-there : Small t → p ≡ placeIn t (tagsUsed s) → p < s .count → elementOf (key cfg) t (view cfg s store .stored)
       ≡ some (elementWith (storedLength (s .lengths) p) (elementAt cfg store p))
   unfolding view
   element-there st e h =
       let l : placeIn t (tagsUsed s) < s .count = omega arith in
-      element-found (cfg .c) (held .valid .c-high) (placeAt cfg (s .tags) (s .lengths) store) t st 0 (s .count) (state-allowed cfg s (held .within)) l
+      element-found cfg (held .valid) (placeAt cfg (s .tags) (s .lengths) store) t st 0 (s .count) (state-allowed cfg s (held .within)) l
       ∙ ap {B = Option Element} (λ j. some (elementWith (storedLength (s .lengths) j) (elementAt cfg store j))) (zero-add (placeIn t (tagsUsed s)) ∙ sym e)
 
-  pub element-nowhere : Small t → p ≡ placeIn t (tagsUsed s) → s .count ≤ p → elementOf key t (view cfg s store .stored) ≡ none
+  pub element-nowhere : Small t → p ≡ placeIn t (tagsUsed s) → s .count ≤ p → elementOf (key cfg) t (view cfg s store .stored) ≡ none
   unfolding view
   element-nowhere st e h =
       let l : s .count ≤ placeIn t (tagsUsed s) = omega arith in
-      element-missed (cfg .c) (held .valid .c-high) (placeAt cfg (s .tags) (s .lengths) store) t st 0 (s .count) (state-allowed cfg s (held .within)) l
+      element-missed cfg (held .valid) (placeAt cfg (s .tags) (s .lengths) store) t st 0 (s .count) (state-allowed cfg s (held .within)) l
 
   -- its part lies in the store, and its offset is small
   pub part-fits : p < s .count → p * cfg .e + cfg .e ≤ length store
@@ -67,7 +67,7 @@ module _ (cfg : Config) (s : State) (t : Tag) (store : List ℕ) (told : ℕ) (a
       }
 
   module _ (none-told : told ≡ 0) where
-    pub lent-part : (o : Option Element) (part : List ℕ) → elementOf key t (view cfg s store .stored) ≡ o → part ≡ lentBytes o
+    pub lent-part : (o : Option Element) (part : List ℕ) → elementOf (key cfg) t (view cfg s store .stored) ≡ o → part ≡ lentBytes o
         → LendPost cfg s t store part told
     lent-part o part e h =
         record {

@@ -8,12 +8,12 @@ mod Figures
 mod Handed
 pub mod Invariant
 mod Keep
-mod Keys
 pub mod Laws
 mod Lending
 pub mod Limits
 mod Lists
 mod Owned
+pub mod Ranks
 mod Received
 mod Sent
 mod Spots

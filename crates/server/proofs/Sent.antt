@@ -9,12 +9,11 @@ use borrow.Author.Tests.{eq-eqb, eqb-true}
 use lib.Dec.{eqb, ltb}
 use lib.ListN.{length}
 use Rattle.tag.specs.declared.Tag.{Tag}
-use Rattle.tag.specs.Tag.{key}
 use Rattle.protocol.specs.Server.{Server, Stored, addLast, atOrBelowFloor, dropSmallest, elementOf, inPlaceOf, isStored, others, smallest, store}
 use Rattle.protocol.specs.Tags.{lower}
 use Rattle.protocol.proofs.Basics.{or-left, or-right}
 
-module _ {Element : Type 0} where
+module _ {Element : Type 0} (key : Tag → ℕ) where
   -- tags of one key are stored or not together
   stored-key : (u t : Tag) → key u ≡ key t → (xs : List (Stored Element)) → isStored key u xs ≡ isStored key t xs
   unfolding isStored

@@ -1,15 +1,15 @@
 -- Tags that leave a bit each in a number, by their spots: where the bits differ, so do the tags. Assumes nothing.
 use mathlib.Core.Path.{_≡_, refl, sym, _∙_, ap, subst}
-use mathlib.Core.Bool.{Bool, true, false, cond, _&&_, true≢false}
+use mathlib.Core.Bool.{Bool, true, false, _&&_, true≢false}
 use mathlib.Core.List.{List, [], _∷_}
 use mathlib.Core.Option.{Option, some}
 use Prim.Native.Nat.{ℕ, zero, suc, _+_, _-_, _*_, _/_, _%_, _^_, _≤_, _<_, max}
 use native.Mathlib.Nat.{mod-lt, zero-lt-suc, div-one, one-mul, sub-zero}
 use native.Mathlib.Numerals.{one-add}
 use native.Mathlib.Omega.{arith}
-use borrow.Author.Tests.{eqb-false, eqb-true, eq-eqb, ne-eqb, le-leb, lt-ltb}
+use borrow.Author.Tests.{eqb-true, eq-eqb, ne-eqb, le-leb, lt-ltb}
 use lib.Bits.{bitOr, or-comm, or-shr, or-step, or-zero-r}
-use lib.Dec.{eqb, lit<, ltb}
+use lib.Dec.{eqb, lit<}
 use lib.Pow.{shl-exact, shl-shr, shr-shr}
 use Rattle.laws.proofs.Bools.{and-left, and-right}
 use Rattle.laws.proofs.Xor.{by-digit}
@@ -128,29 +128,19 @@ module _ (clients : ℕ) (floor : Option Tag) (f : ℕ → Tag) where
       let same : each f i (n - i) ≡ each f 0 n = rw (e, sub-zero n) in
       subst (λ (ts : List Tag). SpreadPost clients floor ts r) same (record { limits = λ _. s .0; over = λ _. s .1; differ = λ _. s .2 })
 
--- ---- a tag with a higher rank than the floor's
+-- ---- a tag that is packed above a floor's number
 
-module _ (clients low : ℕ) (f t : Tag) (few : clients ≤ 16) (sixteen : 16 ≤ low) (base : f .number * 16 + f .client ≤ low) where
-  rank-over : low < t .number * 16 + t .client → t .client ≤ 16 → (b : Bool) → eqb (t .number) (f .number) ≡ b
-      → cond b (ltb (f .client) (t .client)) (ltb (f .number) (t .number)) ≡ true
-  rank-over h c true e =
-      let same : t .number ≡ f .number = eqb-true (t .number) (f .number) e in
-      lt-ltb (f .client) (t .client) (omega (arith, h, base, same))
-  rank-over h c false e =
-      let differ : t .number ≡ f .number → ⊥ = eqb-false (t .number) (f .number) e in
-      lt-ltb (f .number) (t .number) (omega (arith, h, base, c, differ))
+module _ (clients low : ℕ) (f t : Tag) (few : clients ≤ 16) (base : f .number * 16 + 16 ≤ low) where
+  past-fits : low < t .number * 16 + t .client → 1 ≤ t .client → t .client ≤ clients → allowed clients t && overFloor (some f) t ≡ true
+  past-fits h one c =
+      let over : f .number < t .number = omega (arith, h, base, c, few) in
+      let some-number : t .number ≡ 0 → ⊥ = λ e. omega (arith, over, e) in
+      rw (ne-eqb (t .number) 0 some-number, le-leb 1 (t .client) one, le-leb (t .client) clients c, lt-ltb (f .number) (t .number) over)
 
-  rank-fits : low < t .number * 16 + t .client → 1 ≤ t .client → t .client ≤ clients → allowed clients t && overFloor (some f) t ≡ true
-  rank-fits h one c =
-      let at-most : t .client ≤ 16 = omega (arith, c, few) in
-      let some-number : t .number ≡ 0 → ⊥ = λ e. omega (arith, h, sixteen, at-most, e) in
-      rw (ne-eqb (t .number) 0 some-number, le-leb 1 (t .client) one, le-leb (t .client) clients c)
-      (rank-over h at-most (eqb (t .number) (f .number)) refl)
-
--- ---- the same of each floor of rank low at most
+-- ---- the same of each floor whose number is low enough
 
 abbrev pub SeenOver : ℕ → ℕ → (ℕ → Tag) → ℕ → ℕ → ℕ → Type 0
-SeenOver clients low f x i n = (g : Tag) → g .number * 16 + g .client ≤ low → Seen clients (some g) f x i n
+SeenOver clients low f x i n = (g : Tag) → g .number * 16 + 16 ≤ low → Seen clients (some g) f x i n
 
 -- one less than a client's number, as the machine has it: where it is below a limit, the number is within it
 below-limit : (c x clients : ℕ) → (x + 1) % 2 ^ 64 ≡ c → x < clients → clients ≤ 16 → (1 ≤ c) × (c ≤ clients)
@@ -161,20 +151,20 @@ abbrev pub put : ℕ → ℕ → ℕ
 put x r = bitOr x ((1 * 2 ^ (r % 64)) % 18446744073709551616)
 
 module _ (clients low : ℕ) (f : ℕ → Tag) where
-  pub over-one : (x i n : ℕ) → 0 < i → i ≤ n → SeenOver clients low f x i n → clients ≤ 16 → 16 ≤ low
+  pub over-one : (x i n : ℕ) → 0 < i → i ≤ n → SeenOver clients low f x i n → clients ≤ 16
       → (less r : ℕ) → (less + 1) % 2 ^ 64 ≡ f (i - 1) .client → less < clients → r ≡ f (i - 1) .number * 16 + f (i - 1) .client → low < r
       → (x ≡ put x r → ⊥) → SeenOver clients low f (put x r) (i - 1) n
-  over-one x i n some-left at-most s few sixteen less r lessened below ranked higher new g h =
+  over-one x i n some-left at-most s few less r lessened below is higher new g h =
       let t : Tag = f (i - 1) in
       let e : i ≡ (i - 1) + 1 = omega (arith, some-left) in
       let within : (1 ≤ t .client) × (t .client ≤ clients) = below-limit (t .client) less clients lessened below few in
-      let higher-rank : low < t .number * 16 + t .client = omega (arith, higher, ranked) in
+      let above : low < t .number * 16 + t .client = omega (arith, higher, is) in
       let bit : (1 * 2 ^ (r % 64)) % 18446744073709551616 ≡ 2 ^ spotOf t =
-      ap (λ (n : ℕ). (1 * 2 ^ (n % 64)) % 18446744073709551616) ranked ∙ one-bit (spotOf t) (mod-lt (t .number * 16 + t .client) (zero-lt-suc 63)) in
+      ap (λ (n : ℕ). (1 * 2 ^ (n % 64)) % 18446744073709551616) is ∙ one-bit (spotOf t) (mod-lt (t .number * 16 + t .client) (zero-lt-suc 63)) in
       let seen : Seen clients (some g) f x ((i - 1) + 1) n = subst (λ (k : ℕ). Seen clients (some g) f x k n) e (s g h) in
       subst (λ (m : ℕ). Seen clients (some g) f (bitOr x m) (i - 1) n) (sym bit)
       (seen-one clients (some g) f x (i - 1) n (omega (arith, some-left, at-most)) seen
-      (rank-fits clients low g t few sixteen h higher-rank (within .0) (within .1))
+      (past-fits clients low g t few h above (within .0) (within .1))
       (λ z. new (sym (ap (λ (m : ℕ). bitOr x m) bit ∙ z))))
 
   pub over-all : (x i n : ℕ) → i ≡ 0 → SeenOver clients low f x i n → (r : Bool) → RisenPost clients low (each f 0 n) r

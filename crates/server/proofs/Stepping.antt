@@ -83,7 +83,7 @@ module _ (cfg : Config) (s : State) (h : Header) (handed store answer : List ℕ
 
   -- the protocol's step on a request of a known kind
   abbrev stepOf : Kind → Served Element
-  stepOf k = serverStepOf k key (cfg .d) (serverNumber (s .me)) (view cfg s store) m
+  stepOf k = serverStepOf k (key cfg) (cfg .d) (serverNumber (s .me)) (view cfg s store) m
 
   outcome-of : (k : Kind) → h .kind ≡ k → outcome cfg s store m ≡ stepOf k
   unfolding serverStep withElement
@@ -213,7 +213,7 @@ module _ (cfg : Config) (s : State) (h : Header) (handed store answer : List ℕ
         steps-answered Query k refl _ refl store answerAfter r (p .number) (ap (λ (x : State). x .me) (p .state))
         (ap (λ (x : State). view cfg x store) (p .state)) refl (p .answer)
 
-    pub serve-write : h .kind ≡ WriteFinalise → (after : State) → after ≡ raised s (h .tag) → (answerAfter : List ℕ) (r : Stepped)
+    pub serve-write : h .kind ≡ WriteFinalise → (after : State) → after ≡ raised cfg s (h .tag) → (answerAfter : List ℕ) (r : Stepped)
         → RespondPost cfg after (reply (after .me) h WriteFinaliseAnswer (h .tag) none) answerAfter r
         → Steps cfg s (requestNumber m) m store answer store answerAfter r
     unfolding serverStepOf writeFinalise finalised answerTo withElement reply view raised
@@ -233,22 +233,22 @@ module _ (cfg : Config) (s : State) (h : Header) (handed store answer : List ℕ
         (p .answer ∙ ap (λ (x : ServerNumber). recordOf cfg (reply x h PreWriteAnswer (h .tag) none)) (post .me))
 
     -- the answer of a read finalise, by the header or by the record's message
-    same-answer : (o : Option Element) → readAnswer key (serverNumber (s .me)) (view cfg s store .floor) m o
-        ≡ readAnswer key (serverNumber (s .me)) (view cfg s store .floor) (reply (s .me) h (h .kind) (h .tag) none) o
+    same-answer : (o : Option Element) → readAnswer (key cfg) (serverNumber (s .me)) (view cfg s store .floor) m o
+        ≡ readAnswer (key cfg) (serverNumber (s .me)) (view cfg s store .floor) (reply (s .me) h (h .kind) (h .tag) none) o
     unfolding readAnswer answerTo withElement reply
     same-answer none = refl
     same-answer (some x) = refl
 
     read-answer-of : stepOf ReadFinalise .answer ≡ some (readAnswered s h store cfg)
     unfolding serverStepOf readFinalise withElement
-    read-answer-of = ap some (same-answer (elementOf key (h .tag) (view cfg s store .stored)))
+    read-answer-of = ap some (same-answer (elementOf (key cfg) (h .tag) (view cfg s store .stored)))
 
-    read-server-of : view cfg (raised s (h .tag)) store ≡ stepOf ReadFinalise .server
+    read-server-of : view cfg (raised cfg s (h .tag)) store ≡ stepOf ReadFinalise .server
     unfolding serverStepOf readFinalise finalised withElement view raised
     read-server-of = refl
 
     pub serve-read : h .kind ≡ ReadFinalise → (answerAfter : List ℕ) (r : Stepped) → ReadFinalisePost cfg s h store answerAfter r
         → Steps cfg s (requestNumber m) m store answer store answerAfter r
     serve-read k answerAfter r f =
-        steps-answered ReadFinalise k refl (readAnswered s h store cfg) read-answer-of store answerAfter r (f .number) (raised-me s (h .tag) (f .state))
+        steps-answered ReadFinalise k refl (readAnswered s h store cfg) read-answer-of store answerAfter r (f .number) (raised-me cfg s (h .tag) (f .state))
         (ap (λ (x : State). view cfg x store) (f .state) ∙ read-server-of) refl (f .answer)

@@ -3,19 +3,20 @@ use mathlib.Core.Path.{_≡_, refl, sym, _∙_, ap}
 use mathlib.Core.Bool.{Bool, true, false, cond, not, _&&_, _||_, true≢false}
 use mathlib.Core.List.{List, [], _∷_, _++_}
 use mathlib.Core.Logic.{_⊎_, inl, inr, ⊎-elim}
-use Prim.Native.Nat.{ℕ, suc, _+_, _≤_}
+use Prim.Native.Nat.{suc, _≤_}
 use native.Mathlib.Omega.{arith}
 use borrow.Author.Tests.{eqb-false, eqb-true, le-leb, ltb-false, ltb-true, not-true}
 use lib.Dec.{eqb, leb, ltb}
 use lib.ListN.{length}
 use Rattle.laws.proofs.Bools.{and-left, and-right}
+use Rattle.config.specs.declared.Config.{Config}
+use Rattle.config.specs.Config.{Valid}
 use Rattle.tag.specs.declared.Tag.{Tag}
 use Rattle.tag.specs.Tag.{allowed, key, same}
-use Rattle.tag.proofs.Order.{Small, key-one, same-one, same-self}
+use Rattle.tag.proofs.Order.{Small, key-one, same-one, same-self, small}
 use Rattle.protocol.specs.Tags.{lower}
 use Rattle.protocol.proofs.Basics.{or-left, or-right}
 use Rattle.server.specs.Within.{among, every, once}
-use Rattle.server.proofs.Keys.{small}
 
 -- tests that are joined
 pub or-true : (a b : Bool) → (a || b) ≡ true → (a ≡ true) ⊎ (b ≡ true)
@@ -92,151 +93,152 @@ once-last x (y ∷ ys) h a =
     ∙ or-no (among y ys) (same x y) (not-true (among y ys) (and-left (not (among y ys)) (once ys) h)) (same-turned y x (or-left (same y x) (among x ys) a))))
     (once-last x ys (and-right (not (among y ys)) (once ys) h) (or-right (same y x) (among x ys) a))
 
--- the lowest of t and of tags
-unfoldable pub lowestOf : Tag → List Tag → Tag
-lowestOf t [] = t
-lowestOf t (x ∷ xs) = lowestOf (lower key t x) xs
-
-lower-by : (b : Bool) (t x : Tag) → ltb (key x) (key t) ≡ b → (key (cond b x t) ≤ key t) × (key (cond b x t) ≤ key x)
-lower-by true t x h = (omega (arith, ltb-true (key x) (key t) h), omega arith)
-lower-by false t x h = (omega arith, ltb-false (key x) (key t) h)
-
-lower-is : (t x : Tag) → (key (lower key t x) ≤ key t) × (key (lower key t x) ≤ key x)
-unfolding lower
-lower-is t x = lower-by (ltb (key x) (key t)) t x refl
-
-pub lowest-first : (t : Tag) (ts : List Tag) → key (lowestOf t ts) ≤ key t
-unfolding lowestOf
-lowest-first t [] = omega arith
-lowest-first t (x ∷ xs) = omega (arith, lowest-first (lower key t x) xs, lower-is t x)
-
-pub lowest-all : (t : Tag) (ts : List Tag) → every (λ (x : Tag). leb (key (lowestOf t ts)) (key x)) ts ≡ true
-unfolding lowestOf every
-lowest-all t [] = refl
-lowest-all t (x ∷ xs) =
-    let low : Tag = lowestOf (lower key t x) xs in
-    both (leb (key low) (key x)) (every (λ (y : Tag). leb (key low) (key y)) xs)
-    (le-leb (key low) (key x) (omega (arith, lowest-first (lower key t x) xs, lower-is t x))) (lowest-all (lower key t x) xs)
-
-one-of : (b : Bool) (t x : Tag) → (cond b x t ≡ t) ⊎ (cond b x t ≡ x)
-one-of true t x = inr refl
-one-of false t x = inl refl
-
-lower-one : (t x : Tag) → (lower key t x ≡ t) ⊎ (lower key t x ≡ x)
-unfolding lower
-lower-one t x = one-of (ltb (key x) (key t)) t x
-
-found-one : (t x low : Tag) (rest : Bool) → (low ≡ t) ⊎ (low ≡ x) → (low ≡ t) ⊎ (same x low || rest ≡ true)
-found-one t x low rest (inl w) = inl w
-found-one t x low rest (inr w) = inr (or-first (same x low) rest (ap (λ (y : Tag). same x y) w ∙ same-self x))
-
-pub lowest-in : (t : Tag) (ts : List Tag) → (lowestOf t ts ≡ t) ⊎ (among (lowestOf t ts) ts ≡ true)
-unfolding lowestOf among
-lowest-in t [] = inl refl
-lowest-in t (x ∷ xs) =
-    let low : Tag = lowestOf (lower key t x) xs in
-    ⊎-elim
-    (λ e. found-one t x low (among low xs) (⊎-elim (λ w. inl (e ∙ w)) (λ w. inr (e ∙ w)) (lower-one t x)))
-    (λ i. inr (or-second (same x low) (among low xs) i)) (lowest-in (lower key t x) xs)
-
--- u replaced by t
-unfoldable pub replaced : Tag → Tag → List Tag → List Tag
-replaced u t [] = []
-replaced u t (x ∷ xs) = cond (eqb (key x) (key u)) (t ∷ xs) (x ∷ replaced u t xs)
-
-long-by : (b : Bool) (t x : Tag) (xs ys : List Tag) → length ys ≡ length xs → length (cond b (t ∷ xs) (x ∷ ys)) ≡ suc (length xs)
-long-by true t x xs ys h = refl
-long-by false t x xs ys h = ap suc h
-
-in-by : (b : Bool) (t x y : Tag) (ys zs : List Tag) → (among x zs ≡ true → (among x ys ≡ true) ⊎ (t ≡ x)) → among x (cond b (t ∷ ys) (y ∷ zs)) ≡ true
-    → (same y x || among x ys ≡ true) ⊎ (t ≡ x)
-unfolding among
-in-by true t x y ys zs f h = ⊎-elim (λ e. inr (same-one t x e)) (λ e. inl (or-second (same y x) (among x ys) e)) (or-true (same t x) (among x ys) h)
-in-by false t x y ys zs f h =
-    ⊎-elim (λ e. inl (or-first (same y x) (among x ys) e))
-    (λ e. ⊎-elim (λ i. inl (or-second (same y x) (among x ys) i)) (λ i. inr i) (f e)) (or-true (same y x) (among x zs) h)
-
-keeps-by : (b : Bool) (u t x y : Tag) (ys zs : List Tag) → eqb (key y) (key u) ≡ b → (key x ≡ key u → ⊥) → (among x ys ≡ true → among x zs ≡ true)
-    → same y x || among x ys ≡ true → among x (cond b (t ∷ ys) (y ∷ zs)) ≡ true
-unfolding among
-keeps-by true u t x y ys zs e ne f h =
-    ⊎-elim (λ i. absurd (ne (sym (ap key (same-one y x i)) ∙ eqb-true (key y) (key u) e))) (λ i. or-second (same t x) (among x ys) i)
-    (or-true (same y x) (among x ys) h)
-keeps-by false u t x y ys zs e ne f h =
-    ⊎-elim (λ i. or-first (same y x) (among x zs) i) (λ i. or-second (same y x) (among x zs) (f i)) (or-true (same y x) (among x ys) h)
-
-new-by : (b : Bool) (u t y : Tag) (ys zs : List Tag) → eqb (key y) (key u) ≡ b → (among u ys ≡ true → among t zs ≡ true) → same y u || among u ys ≡ true
-    → among t (cond b (t ∷ ys) (y ∷ zs)) ≡ true
-unfolding among
-new-by true u t y ys zs e f h = or-first (same t t) (among t ys) (same-self t)
-new-by false u t y ys zs e f h =
-    ⊎-elim (λ i. absurd (eqb-false (key y) (key u) e (ap key (same-one y u i)))) (λ i. or-second (same y t) (among t zs) (f i))
-    (or-true (same y u) (among u ys) h)
-
-pub replaced-long : (u t : Tag) (ts : List Tag) → length (replaced u t ts) ≡ length ts
-unfolding replaced
-replaced-long u t [] = refl
-replaced-long u t (x ∷ xs) = long-by (eqb (key x) (key u)) t x xs (replaced u t xs) (replaced-long u t xs)
-
-pub replaced-in : (u t x : Tag) (ts : List Tag) → among x (replaced u t ts) ≡ true → (among x ts ≡ true) ⊎ (t ≡ x)
-unfolding replaced among
-replaced-in u t x [] h = inl h
-replaced-in u t x (y ∷ ys) h = in-by (eqb (key y) (key u)) t x y ys (replaced u t ys) (replaced-in u t x ys) h
-
-pub replaced-keeps : (u t x : Tag) (ts : List Tag) → (key x ≡ key u → ⊥) → among x ts ≡ true → among x (replaced u t ts) ≡ true
-unfolding replaced among
-replaced-keeps u t x [] ne h = h
-replaced-keeps u t x (y ∷ ys) ne h =
-    keeps-by (eqb (key y) (key u)) u t x y ys (replaced u t ys) refl ne (replaced-keeps u t x ys ne) h
-
-pub replaced-new : (u t : Tag) (ts : List Tag) → among u ts ≡ true → among t (replaced u t ts) ≡ true
-unfolding replaced among
-replaced-new u t [] h = absurd (true≢false (sym h))
-replaced-new u t (y ∷ ys) h = new-by (eqb (key y) (key u)) u t y ys (replaced u t ys) refl (replaced-new u t ys) h
-
 -- what does not hold
 pub not-in : (b : Bool) → (b ≡ true → ⊥) → b ≡ false
 not-in true h = absurd (h refl)
 not-in false h = refl
 
--- t takes u's place: every tag is still there once
-once-by : (b : Bool) (t x : Tag) (xs zs : List Tag) → among t xs ≡ false → once xs ≡ true → among x zs ≡ false → once zs ≡ true → once (cond b (t ∷ xs) (x ∷ zs)) ≡ true
-unfolding once
-once-by true t x xs zs a o b p = both (not (among t xs)) (once xs) (not-no (among t xs) a) o
-once-by false t x xs zs a o b p = both (not (among x zs)) (once zs) (not-no (among x zs) b) p
+module _ (cfg : Config) where
+  -- the lowest of t and of tags
+  unfoldable pub lowestOf : Tag → List Tag → Tag
+  lowestOf t [] = t
+  lowestOf t (x ∷ xs) = lowestOf (lower (key cfg) t x) xs
 
-pub once-replaced : (u t : Tag) (ts : List Tag) → once ts ≡ true → among t ts ≡ false → once (replaced u t ts) ≡ true
-unfolding replaced once among
-once-replaced u t [] o a = refl
-once-replaced u t (x ∷ xs) o a =
-    let apart : among x xs ≡ false = not-true (among x xs) (and-left (not (among x xs)) (once xs) o) in
-    let rest : once xs ≡ true = and-right (not (among x xs)) (once xs) o in
-    let far : among t xs ≡ false = or-right (same x t) (among t xs) a in
-    let gone : among x (replaced u t xs) ≡ false =
-    not-in (among x (replaced u t xs))
-    (λ i. ⊎-elim (λ w. true≢false (sym w ∙ apart))
-    (λ w. true≢false (sym (same-self x) ∙ ap (λ (y : Tag). same x y) (sym w) ∙ or-left (same x t) (among t xs) a)) (replaced-in u t x xs i)) in
-    once-by (eqb (key x) (key u)) t x xs (replaced u t xs) far rest gone (once-replaced u t xs rest far)
+  lower-by : (b : Bool) (t x : Tag) → ltb (key cfg x) (key cfg t) ≡ b → (key cfg (cond b x t) ≤ key cfg t) × (key cfg (cond b x t) ≤ key cfg x)
+  lower-by true t x h = (omega (arith, ltb-true (key cfg x) (key cfg t) h), omega arith)
+  lower-by false t x h = (omega arith, ltb-false (key cfg x) (key cfg t) h)
 
--- and u is not
-module _ (clients : ℕ) (high : clients ≤ 16) (u t : Tag) (differ : key t ≡ key u → ⊥) where
-  gone-by : (b : Bool) (x y : Tag) (ys zs : List Tag) → eqb (key y) (key u) ≡ b → allowed clients y ≡ true → every (allowed clients) ys ≡ true → among y ys ≡ false
-      → (among x zs ≡ true → key x ≡ key u → ⊥) → among x (cond b (t ∷ ys) (y ∷ zs)) ≡ true → key x ≡ key u → ⊥
+  lower-is : (t x : Tag) → (key cfg (lower (key cfg) t x) ≤ key cfg t) × (key cfg (lower (key cfg) t x) ≤ key cfg x)
+  unfolding lower
+  lower-is t x = lower-by (ltb (key cfg x) (key cfg t)) t x refl
+
+  pub lowest-first : (t : Tag) (ts : List Tag) → key cfg (lowestOf t ts) ≤ key cfg t
+  unfolding lowestOf
+  lowest-first t [] = omega arith
+  lowest-first t (x ∷ xs) = omega (arith, lowest-first (lower (key cfg) t x) xs, lower-is t x)
+
+  pub lowest-all : (t : Tag) (ts : List Tag) → every (λ (x : Tag). leb (key cfg (lowestOf t ts)) (key cfg x)) ts ≡ true
+  unfolding lowestOf every
+  lowest-all t [] = refl
+  lowest-all t (x ∷ xs) =
+      let low : Tag = lowestOf (lower (key cfg) t x) xs in
+      both (leb (key cfg low) (key cfg x)) (every (λ (y : Tag). leb (key cfg low) (key cfg y)) xs)
+      (le-leb (key cfg low) (key cfg x) (omega (arith, lowest-first (lower (key cfg) t x) xs, lower-is t x))) (lowest-all (lower (key cfg) t x) xs)
+
+  one-of : (b : Bool) (t x : Tag) → (cond b x t ≡ t) ⊎ (cond b x t ≡ x)
+  one-of true t x = inr refl
+  one-of false t x = inl refl
+
+  lower-one : (t x : Tag) → (lower (key cfg) t x ≡ t) ⊎ (lower (key cfg) t x ≡ x)
+  unfolding lower
+  lower-one t x = one-of (ltb (key cfg x) (key cfg t)) t x
+
+  found-one : (t x low : Tag) (rest : Bool) → (low ≡ t) ⊎ (low ≡ x) → (low ≡ t) ⊎ (same x low || rest ≡ true)
+  found-one t x low rest (inl w) = inl w
+  found-one t x low rest (inr w) = inr (or-first (same x low) rest (ap (λ (y : Tag). same x y) w ∙ same-self x))
+
+  pub lowest-in : (t : Tag) (ts : List Tag) → (lowestOf t ts ≡ t) ⊎ (among (lowestOf t ts) ts ≡ true)
+  unfolding lowestOf among
+  lowest-in t [] = inl refl
+  lowest-in t (x ∷ xs) =
+      let low : Tag = lowestOf (lower (key cfg) t x) xs in
+      ⊎-elim
+      (λ e. found-one t x low (among low xs) (⊎-elim (λ w. inl (e ∙ w)) (λ w. inr (e ∙ w)) (lower-one t x)))
+      (λ i. inr (or-second (same x low) (among low xs) i)) (lowest-in (lower (key cfg) t x) xs)
+
+  -- u replaced by t
+  unfoldable pub replaced : Tag → Tag → List Tag → List Tag
+  replaced u t [] = []
+  replaced u t (x ∷ xs) = cond (eqb (key cfg x) (key cfg u)) (t ∷ xs) (x ∷ replaced u t xs)
+
+  long-by : (b : Bool) (t x : Tag) (xs ys : List Tag) → length ys ≡ length xs → length (cond b (t ∷ xs) (x ∷ ys)) ≡ suc (length xs)
+  long-by true t x xs ys h = refl
+  long-by false t x xs ys h = ap suc h
+
+  in-by : (b : Bool) (t x y : Tag) (ys zs : List Tag) → (among x zs ≡ true → (among x ys ≡ true) ⊎ (t ≡ x)) → among x (cond b (t ∷ ys) (y ∷ zs)) ≡ true
+      → (same y x || among x ys ≡ true) ⊎ (t ≡ x)
   unfolding among
-  gone-by true x y ys zs e ay ays apart f h k =
-      ⊎-elim (λ w. differ (ap key (same-one t x w) ∙ k))
-      (λ w.
-      let sx : Small x = small clients x high (every-in (allowed clients) ys x ays w) in
-      let one : x ≡ y = key-one x y sx (small clients y high ay) (k ∙ sym (eqb-true (key y) (key u) e)) in
-      true≢false (sym w ∙ ap (λ (z : Tag). among z ys) one ∙ apart))
-      (or-true (same t x) (among x ys) h)
-  gone-by false x y ys zs e ay ays apart f h k =
-      ⊎-elim (λ w. eqb-false (key y) (key u) e (ap key (same-one y x w) ∙ k)) (λ w. f w k) (or-true (same y x) (among x zs) h)
+  in-by true t x y ys zs f h = ⊎-elim (λ e. inr (same-one t x e)) (λ e. inl (or-second (same y x) (among x ys) e)) (or-true (same t x) (among x ys) h)
+  in-by false t x y ys zs f h =
+      ⊎-elim (λ e. inl (or-first (same y x) (among x ys) e))
+      (λ e. ⊎-elim (λ i. inl (or-second (same y x) (among x ys) i)) (λ i. inr i) (f e)) (or-true (same y x) (among x zs) h)
 
-  pub replaced-gone : (x : Tag) (ts : List Tag) → every (allowed clients) ts ≡ true → once ts ≡ true → among x (replaced u t ts) ≡ true → key x ≡ key u → ⊥
-  unfolding replaced once every among
-  replaced-gone x [] a o h k = true≢false (sym h)
-  replaced-gone x (y ∷ ys) a o h k =
-      gone-by (eqb (key y) (key u)) x y ys (replaced u t ys) refl (and-left (allowed clients y) (every (allowed clients) ys) a)
-      (and-right (allowed clients y) (every (allowed clients) ys) a) (not-true (among y ys) (and-left (not (among y ys)) (once ys) o))
-      (replaced-gone x ys (and-right (allowed clients y) (every (allowed clients) ys) a) (and-right (not (among y ys)) (once ys) o)) h k
+  keeps-by : (b : Bool) (u t x y : Tag) (ys zs : List Tag) → eqb (key cfg y) (key cfg u) ≡ b → (key cfg x ≡ key cfg u → ⊥) → (among x ys ≡ true → among x zs ≡ true)
+      → same y x || among x ys ≡ true → among x (cond b (t ∷ ys) (y ∷ zs)) ≡ true
+  unfolding among
+  keeps-by true u t x y ys zs e ne f h =
+      ⊎-elim (λ i. absurd (ne (sym (ap (key cfg) (same-one y x i)) ∙ eqb-true (key cfg y) (key cfg u) e))) (λ i. or-second (same t x) (among x ys) i)
+      (or-true (same y x) (among x ys) h)
+  keeps-by false u t x y ys zs e ne f h =
+      ⊎-elim (λ i. or-first (same y x) (among x zs) i) (λ i. or-second (same y x) (among x zs) (f i)) (or-true (same y x) (among x ys) h)
+
+  new-by : (b : Bool) (u t y : Tag) (ys zs : List Tag) → eqb (key cfg y) (key cfg u) ≡ b → (among u ys ≡ true → among t zs ≡ true) → same y u || among u ys ≡ true
+      → among t (cond b (t ∷ ys) (y ∷ zs)) ≡ true
+  unfolding among
+  new-by true u t y ys zs e f h = or-first (same t t) (among t ys) (same-self t)
+  new-by false u t y ys zs e f h =
+      ⊎-elim (λ i. absurd (eqb-false (key cfg y) (key cfg u) e (ap (key cfg) (same-one y u i)))) (λ i. or-second (same y t) (among t zs) (f i))
+      (or-true (same y u) (among u ys) h)
+
+  pub replaced-long : (u t : Tag) (ts : List Tag) → length (replaced u t ts) ≡ length ts
+  unfolding replaced
+  replaced-long u t [] = refl
+  replaced-long u t (x ∷ xs) = long-by (eqb (key cfg x) (key cfg u)) t x xs (replaced u t xs) (replaced-long u t xs)
+
+  pub replaced-in : (u t x : Tag) (ts : List Tag) → among x (replaced u t ts) ≡ true → (among x ts ≡ true) ⊎ (t ≡ x)
+  unfolding replaced among
+  replaced-in u t x [] h = inl h
+  replaced-in u t x (y ∷ ys) h = in-by (eqb (key cfg y) (key cfg u)) t x y ys (replaced u t ys) (replaced-in u t x ys) h
+
+  pub replaced-keeps : (u t x : Tag) (ts : List Tag) → (key cfg x ≡ key cfg u → ⊥) → among x ts ≡ true → among x (replaced u t ts) ≡ true
+  unfolding replaced among
+  replaced-keeps u t x [] ne h = h
+  replaced-keeps u t x (y ∷ ys) ne h =
+      keeps-by (eqb (key cfg y) (key cfg u)) u t x y ys (replaced u t ys) refl ne (replaced-keeps u t x ys ne) h
+
+  pub replaced-new : (u t : Tag) (ts : List Tag) → among u ts ≡ true → among t (replaced u t ts) ≡ true
+  unfolding replaced among
+  replaced-new u t [] h = absurd (true≢false (sym h))
+  replaced-new u t (y ∷ ys) h = new-by (eqb (key cfg y) (key cfg u)) u t y ys (replaced u t ys) refl (replaced-new u t ys) h
+
+  -- t takes u's place: every tag is still there once
+  once-by : (b : Bool) (t x : Tag) (xs zs : List Tag) → among t xs ≡ false → once xs ≡ true → among x zs ≡ false → once zs ≡ true → once (cond b (t ∷ xs) (x ∷ zs)) ≡ true
+  unfolding once
+  once-by true t x xs zs a o b p = both (not (among t xs)) (once xs) (not-no (among t xs) a) o
+  once-by false t x xs zs a o b p = both (not (among x zs)) (once zs) (not-no (among x zs) b) p
+
+  pub once-replaced : (u t : Tag) (ts : List Tag) → once ts ≡ true → among t ts ≡ false → once (replaced u t ts) ≡ true
+  unfolding replaced once among
+  once-replaced u t [] o a = refl
+  once-replaced u t (x ∷ xs) o a =
+      let apart : among x xs ≡ false = not-true (among x xs) (and-left (not (among x xs)) (once xs) o) in
+      let rest : once xs ≡ true = and-right (not (among x xs)) (once xs) o in
+      let far : among t xs ≡ false = or-right (same x t) (among t xs) a in
+      let gone : among x (replaced u t xs) ≡ false =
+      not-in (among x (replaced u t xs))
+      (λ i. ⊎-elim (λ w. true≢false (sym w ∙ apart))
+      (λ w. true≢false (sym (same-self x) ∙ ap (λ (y : Tag). same x y) (sym w) ∙ or-left (same x t) (among t xs) a)) (replaced-in u t x xs i)) in
+      once-by (eqb (key cfg x) (key cfg u)) t x xs (replaced u t xs) far rest gone (once-replaced u t xs rest far)
+
+  -- and u is not
+  module _ (valid : Valid cfg) (u t : Tag) (differ : key cfg t ≡ key cfg u → ⊥) where
+    gone-by : (b : Bool) (x y : Tag) (ys zs : List Tag) → eqb (key cfg y) (key cfg u) ≡ b → allowed (cfg .c) y ≡ true → every (allowed (cfg .c)) ys ≡ true → among y ys ≡ false
+        → (among x zs ≡ true → key cfg x ≡ key cfg u → ⊥) → among x (cond b (t ∷ ys) (y ∷ zs)) ≡ true → key cfg x ≡ key cfg u → ⊥
+    unfolding among
+    gone-by true x y ys zs e ay ays apart f h k =
+        ⊎-elim (λ w. differ (ap (key cfg) (same-one t x w) ∙ k))
+        (λ w.
+        let sx : Small x = small cfg valid x (every-in (allowed (cfg .c)) ys x ays w) in
+        let one : x ≡ y = key-one cfg valid x y sx (small cfg valid y ay) (k ∙ sym (eqb-true (key cfg y) (key cfg u) e)) in
+        true≢false (sym w ∙ ap (λ (z : Tag). among z ys) one ∙ apart))
+        (or-true (same t x) (among x ys) h)
+    gone-by false x y ys zs e ay ays apart f h k =
+        ⊎-elim (λ w. eqb-false (key cfg y) (key cfg u) e (ap (key cfg) (same-one y x w) ∙ k)) (λ w. f w k) (or-true (same y x) (among x zs) h)
+
+    pub replaced-gone : (x : Tag) (ts : List Tag) → every (allowed (cfg .c)) ts ≡ true → once ts ≡ true → among x (replaced u t ts) ≡ true → key cfg x ≡ key cfg u → ⊥
+    unfolding replaced once every among
+    replaced-gone x [] a o h k = true≢false (sym h)
+    replaced-gone x (y ∷ ys) a o h k =
+        gone-by (eqb (key cfg y) (key cfg u)) x y ys (replaced u t ys) refl (and-left (allowed (cfg .c) y) (every (allowed (cfg .c)) ys) a)
+        (and-right (allowed (cfg .c) y) (every (allowed (cfg .c)) ys) a) (not-true (among y ys) (and-left (not (among y ys)) (once ys) o))
+        (replaced-gone x ys (and-right (allowed (cfg .c) y) (every (allowed (cfg .c)) ys) a) (and-right (not (among y ys)) (once ys) o)) h k

@@ -13,9 +13,10 @@ use lib.Seq.{getD-set-other, getD-set-same}
 use Rattle.laws.specs.Parts.{over}
 use Rattle.laws.proofs.Parts.{part-fits, part-other, part-own}
 use Rattle.config.specs.declared.Config.{Config}
+use Rattle.config.specs.Config.{Valid}
 use Rattle.tag.specs.declared.Tag.{Tag}
 use Rattle.tag.specs.Tag.{allowed, key, start}
-use Rattle.tag.proofs.Order.{Small}
+use Rattle.tag.proofs.Order.{Small, same-eqb, small}
 use Rattle.record.specs.Element.{Element, elementWith}
 use Rattle.protocol.specs.Server.{Stored, addLast, dropSmallest, inPlaceOf, others, smallest}
 use Rattle.server.specs.declared.State.{State}
@@ -23,7 +24,6 @@ use Rattle.server.specs.inner.Keep.{appended, dropped, lowest}
 use Rattle.server.specs.Within.{among, every, once}
 use Rattle.server.specs.View.{each, floorOf, placeAt, tagAt, tagsUsed, view}
 use Rattle.server.proofs.Each.{Lowest, among-at, each-last, each-same, every-at, lowest-place}
-use Rattle.server.proofs.Keys.{same-eqb, small}
 use Rattle.server.proofs.Lists.{in-place, least-smallest}
 
 -- a tag and its element with a length at place p
@@ -78,39 +78,39 @@ module _ (cfg : Config) (s : State) (store : List ℕ) (t : Tag) (n : ℕ) (elem
       λ i. record { highest = s .highest; floor = floorOf (s .floor); stored = stored i }
 
   -- the lowest dropped
-  module _ (clients : ℕ) (high : clients ≤ 16) (st : Small t) (all : every (allowed clients) (tagsUsed s) ≡ true) (one : once (tagsUsed s) ≡ true)
+  module _ (valid : Valid cfg) (st : Small t) (all : every (allowed (cfg .c)) (tagsUsed s) ≡ true) (one : once (tagsUsed s) ≡ true)
       (apart : among t (tagsUsed s) ≡ false) where
     abbrev u : Tag
-    u = lowest s t .tag
+    u = lowest cfg s t .tag
 
     abbrev p : ℕ
-    p = lowest s t .place
+    p = lowest cfg s t .place
 
-    is-smallest : u ≡ smallest key t (each old 0 (s .count))
-    is-smallest = least-smallest clients high old t st (s .count) 0 (s .count) all
+    is-smallest : u ≡ smallest (key cfg) t (each old 0 (s .count))
+    is-smallest = least-smallest cfg valid old t st (s .count) 0 (s .count) all
 
-    place-is : Lowest (tagAt (s .tags)) t (s .count) 0 (s .count) (lowest s t)
-    place-is = lowest-place (tagAt (s .tags)) t (s .count) 0 (s .count)
+    place-is : Lowest (tagAt (s .tags)) t (s .count) 0 (s .count) (lowest cfg s t)
+    place-is = lowest-place cfg (tagAt (s .tags)) t (s .count) 0 (s .count)
 
     -- t itself is the lowest: nothing is stored
-    itself-by : Lowest (tagAt (s .tags)) t (s .count) 0 (s .count) (lowest s t) → s .count ≤ p → u ≡ t
+    itself-by : Lowest (tagAt (s .tags)) t (s .count) 0 (s .count) (lowest cfg s t) → s .count ≤ p → u ≡ t
     itself-by (inl w) h = w .1
     itself-by (inr w) h = absurd (omega (arith, w .1))
 
-    pub itself-view : s .count ≤ p → view cfg (dropped s t n) store ≡ dropSmallest key (view cfg s store) new
+    pub itself-view : s .count ≤ p → view cfg (dropped cfg s t n) store ≡ dropSmallest (key cfg) (view cfg s store) new
     unfolding view dropped dropSmallest others
     itself-view h =
         let e : u ≡ t = itself-by place-is h in
-        let k : eqb (key u) (key t) ≡ true = eq-eqb (key u) (key t) (ap key e) in
+        let k : eqb (key cfg u) (key cfg t) ≡ true = eq-eqb (key cfg u) (key cfg t) (ap (key cfg) e) in
         rw (le-leb (s .count) p h, ← is-smallest, k)
 
     -- another is the lowest: t has its place
-    place-by : Lowest (tagAt (s .tags)) t (s .count) 0 (s .count) (lowest s t) → p < s .count → tagAt (s .tags) p ≡ u
+    place-by : Lowest (tagAt (s .tags)) t (s .count) 0 (s .count) (lowest cfg s t) → p < s .count → tagAt (s .tags) p ≡ u
     place-by (inl w) h = absurd (omega (arith, w .0))
     place-by (inr w) h = w .2
 
     pub another-view : p < s .count → s .count ≤ 8 → s .count * cfg .e ≤ length store
-        → view cfg (dropped s t n) (over (p * cfg .e) (cfg .e) element store) ≡ dropSmallest key (view cfg s store) new
+        → view cfg (dropped cfg s t n) (over (p * cfg .e) (cfg .e) element store) ≡ dropSmallest (key cfg) (view cfg s store) new
     unfolding view dropped dropSmallest others
     another-view h eights room =
         let is : tagAt (s .tags) p ≡ u = place-by place-is h in
@@ -118,11 +118,11 @@ module _ (cfg : Config) (s : State) (store : List ℕ) (t : Tag) (n : ℕ) (elem
         let within : p < length (s .tags) = omega (arith, eight .0) in
         let beside : p < length (s .lengths) = omega (arith, eight .1) in
         let top : p < 0 + s .count = omega arith in
-        let sp : Small (tagAt (s .tags) p) = small clients (tagAt (s .tags) p) high (every-at (tagAt (s .tags)) (allowed clients) 0 (s .count) p all (omega arith) top) in
-        let k : eqb (key u) (key t) ≡ false =
-        ap (λ (x : Tag). eqb (key x) (key t)) (sym is) ∙ sym (same-eqb (tagAt (s .tags) p) t sp st) ∙ among-at (tagAt (s .tags)) t 0 (s .count) p apart (omega arith) top in
+        let sp : Small (tagAt (s .tags) p) = small cfg valid (tagAt (s .tags) p) (every-at (tagAt (s .tags)) (allowed (cfg .c)) 0 (s .count) p all (omega arith) top) in
+        let k : eqb (key cfg u) (key cfg t) ≡ false =
+        ap (λ (x : Tag). eqb (key cfg x) (key cfg t)) (sym is) ∙ sym (same-eqb cfg valid (tagAt (s .tags) p) t sp st) ∙ among-at (tagAt (s .tags)) t 0 (s .count) p apart (omega arith) top in
         let after = placeAt cfg (set (s .tags) p t) (set (s .lengths) p n) (over (p * cfg .e) (cfg .e) element store) in
-        let taken : inPlaceOf key u new (each old 0 (s .count)) ≡ each after 0 (s .count) =
-        in-place clients high old u new after p is (put-place cfg (s .tags) (s .lengths) store p t n element sized fits within beside)
+        let taken : inPlaceOf (key cfg) u new (each old 0 (s .count)) ≡ each after 0 (s .count) =
+        in-place cfg valid old u new after p is (put-place cfg (s .tags) (s .lengths) store p t n element sized fits within beside)
         (other-place cfg (s .tags) (s .lengths) store p t n element sized fits within beside) 0 (s .count) all one (omega arith) top in
         rw (lt-leb (s .count) p h, ← is-smallest, k, taken)

@@ -25,11 +25,11 @@ use Rattle.server.specs.declared.Stepped.{Stepped}
 use Rattle.server.specs.Within.{stateWithin}
 use Rattle.server.specs.View.{view}
 
--- A state: questions 1 to 5; 6, the length of its store, and the state.
+-- A state: questions 1 to 5 and 21; 6, the length of its store, and the state.
 unfoldable pub stateQuestions : Config → State → ℕ → List Question
 stateQuestions cfg s long = questions cfg ++ ask 6 (eqb long (storeLength cfg) && stateWithin cfg s) ∷ []
 
--- Fresh: questions 1 to 5; 6, the lengths of element and store; 8, is it a server's number?
+-- Fresh: questions 1 to 5 and 21; 6, the lengths of element and store; 8, is it a server's number?
 unfoldable pub freshQuestions : Config → ServerNumber → List ℕ → List ℕ → List Question
 freshQuestions cfg me element store =
     questions cfg
@@ -57,9 +57,9 @@ forServer me m = eqb (m .server) me && isForServer (m .kind)
 
 -- the protocol's step of this server on a message: its server afterwards, and its answer
 abbrev pub outcome : Config → State → List ℕ → Message Element → Served Element
-outcome cfg s store m = serverStep key (cfg .d) (serverNumber (s .me)) (view cfg s store) m
+outcome cfg s store m = serverStep (key cfg) (cfg .d) (serverNumber (s .me)) (view cfg s store) m
 
--- Step: questions 1 to 5; 6, the lengths of record, store and answer, and the state; 12; 16.
+-- Step: questions 1 to 5 and 21; 6, the lengths of record, store and answer, and the state; 12; 16.
 unfoldable pub stepQuestions : Config → State → List ℕ → ℕ → ℕ → List Question
 stepQuestions cfg s handed store answer =
     questions cfg
@@ -100,4 +100,4 @@ lentBytes (some e) = e .bytes
 pub record LendPost (cfg : Config) (s : State) (t : Tag) (store lent : List ℕ) (told : ℕ) : Type 0 where
   pub number : told ≡ firstNo (stateQuestions cfg s (length store))
   pub part : lent
-      ≡ cond (eqb (firstNo (stateQuestions cfg s (length store))) 0) (lentBytes (elementOf key t (view cfg s store .stored))) []
+      ≡ cond (eqb (firstNo (stateQuestions cfg s (length store))) 0) (lentBytes (elementOf (key cfg) t (view cfg s store .stored))) []

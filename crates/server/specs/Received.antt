@@ -5,6 +5,7 @@ use mathlib.Core.Path.{_≡_}
 use mathlib.Core.List.{List, [], _∷_}
 use mathlib.Core.Option.{Option, none, some}
 use lib.ListN.{length}
+use Rattle.config.specs.declared.Config.{Config}
 use Rattle.tag.specs.declared.Tag.{Tag}
 use Rattle.tag.specs.Tag.{above as aboveTag, allowed, key}
 use Rattle.record.specs.declared.Kind.{Kind}
@@ -31,9 +32,9 @@ module _ {Element : Type 0} where
   receive m ts = withTag (m .kind) (m .tag) (m .element) ts
 
   -- the server after messages, and the tags received up to then
-  unfoldable pub serverAfter : ℕ → ℕ → Server Element → List (Message Element) → Server Element
-  serverAfter d s v [] = v
-  serverAfter d s v (m ∷ ms) = serverAfter d s (serverStep key d s v m .server) ms
+  unfoldable pub serverAfter : Config → ℕ → Server Element → List (Message Element) → Server Element
+  serverAfter cfg s v [] = v
+  serverAfter cfg s v (m ∷ ms) = serverAfter cfg s (serverStep (key cfg) (cfg .d) s v m .server) ms
 
   unfoldable pub receivedAfter : List Tag → List (Message Element) → List Tag
   receivedAfter ts [] = ts
@@ -49,18 +50,18 @@ module _ {Element : Type 0} where
   holds v t = among t (tagsOf (v .stored))
 
   -- Of the tags received the D + 1 highest are stored, and the floor, if any, is the highest dropped.
-  pub record Highest (d : ℕ) (received : List Tag) (v : Server Element) : Type 0 where
+  pub record Highest (cfg : Config) (received : List Tag) (v : Server Element) : Type 0 where
     -- at most D + 1 are stored, each once
-    pub few : length (v .stored) ≤ d + 1
+    pub few : length (v .stored) ≤ cfg .d + 1
     pub once : onceIn (tagsOf (v .stored)) ≡ true
     -- what is stored was received
     pub stored : (t : Tag) → holds v t ≡ true → among t received ≡ true
     -- it is above all that was received and is not stored
-    pub above : (t x : Tag) → among t received ≡ true → holds v t ≡ false → holds v x ≡ true → aboveTag x t ≡ true
+    pub above : (t x : Tag) → among t received ≡ true → holds v t ≡ false → holds v x ≡ true → aboveTag cfg x t ≡ true
     -- without a floor nothing was dropped
     pub all : v .floor ≡ none → (t : Tag) → among t received ≡ true → holds v t ≡ true
     -- with one, D + 1 are stored
-    pub count : (f : Tag) → v .floor ≡ some f → length (v .stored) ≡ d + 1
+    pub count : (f : Tag) → v .floor ≡ some f → length (v .stored) ≡ cfg .d + 1
     -- and it was received, is not stored, and is the highest of those
     pub dropped : (f : Tag) → v .floor ≡ some f → (among f received ≡ true) × (holds v f ≡ false)
-    pub highest : (f t : Tag) → v .floor ≡ some f → among t received ≡ true → holds v t ≡ false → aboveTag t f ≡ false
+    pub highest : (f t : Tag) → v .floor ≡ some f → among t received ≡ true → holds v t ≡ false → aboveTag cfg t f ≡ false

@@ -37,7 +37,7 @@ once (t ∷ ts) = not (among t ts) && once ts
 -- "above the floor, with exactly D + 1 stored where there is a floor"
 unfoldable pub floorWithin : Config → Option Tag → List Tag → Bool
 floorWithin cfg none ts = true
-floorWithin cfg (some f) ts = allowed (cfg .c) f && eqb (length ts) (cfg .d + 1) && every (λ t. above t f) ts
+floorWithin cfg (some f) ts = allowed (cfg .c) f && eqb (length ts) (cfg .d + 1) && every (λ t. above cfg t f) ts
 
 -- the highest finalised tag, the floor and the stored tags are within their limits
 unfoldable pub tagsWithin : Config → Tag → Option Tag → List Tag → Bool
@@ -71,7 +71,7 @@ storedLengths (x ∷ xs) = x .element .length ∷ storedLengths xs
 unfoldable pub serverWithin : Config → Server Element → Bool
 serverWithin cfg v = tagsWithin cfg (v .highest) (v .floor) (tagsOf (v .stored)) && lengthsWithin cfg (storedLengths (v .stored))
 
--- a state and its store, of which questions 1 to 6 are answered yes
+-- a state and its store, of which questions 1 to 6 and 21 are answered yes
 pub record ValidState (cfg : Config) (s : State) (store : List ℕ) : Type 0 where
   pub valid : Valid cfg
   pub within : stateWithin cfg s ≡ true

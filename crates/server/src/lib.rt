@@ -51,7 +51,7 @@ fn refused(s: State, why: Refusal) -> Stepped
     }
 }
 
-// Questions 1 to 5, and 6 of a state and of its store's length: the number of the first that is answered no, or 0.
+// Questions 1 to 5 and 21, and 6 of a state and of its store's length: the number of the first that is answered no, or 0.
 pub fn ask(cfg: Config, state: State, long: usize) -> u8
     ensures { λ r. ⌜ r ≡ firstNo (stateQuestions cfg state long) ⌝ }
 {
@@ -89,7 +89,7 @@ fn first(me: Server, length: u16) -> State
     }
 }
 
-// A fresh server, with the starting board's element in the store, and its length V: questions 1 to 5, 6 and 8.
+// A fresh server, with the starting board's element in the store, and its length V: questions 1 to 5, 21, 6 and 8.
 pub fn fresh(cfg: Config, me: Server, element: &[u8], store: &mut [u8]) -> Stepped
     ensures { λ r. ⌜ FreshPost cfg me (now (element .entry)) (now (store .entry)) (now (store .exit)) r ⌝ }
 {
@@ -121,7 +121,7 @@ enum Told {
     Request(Header),
 }
 
-// Questions 1 to 6 and 12 of a step, and 16 of the server's number.
+// Questions 1 to 5, 21, 6 and 12 of a step, and 16 of the server's number.
 fn receive(cfg: Config, state: State, handed: &[u8], store: usize, answer: usize) -> Told
     ensures { λ r. ⌜ ReceivePost cfg state (now (handed .entry)) store answer r ⌝ }
 {
@@ -146,7 +146,7 @@ fn receive(cfg: Config, state: State, handed: &[u8], store: usize, answer: usize
     Told::Request(h)
 }
 
-// Questions 1 to 6, 12 and 16 of a record that a step would be handed: the number of the first that is answered no, or 0.
+// Questions 1 to 5, 21, 6, 12 and 16 of a record that a step would be handed: the number of the first that is answered no, or 0.
 pub fn ask_step(cfg: Config, state: State, handed: &[u8], store: usize, answer: usize) -> u8
     ensures { λ r. ⌜ r ≡ firstNo (stepQuestions cfg state (now (handed .entry)) store answer) ⌝ }
 {
@@ -163,7 +163,7 @@ pub fn ask_step(cfg: Config, state: State, handed: &[u8], store: usize, answer: 
     }
 }
 
-// One step on a record: questions 1 to 5, 6, 12 and 16. The answer is written to a lent record.
+// One step on a record: questions 1 to 5, 21, 6, 12 and 16. The answer is written to a lent record.
 pub fn step(
     cfg: Config,
     state: State,
@@ -181,7 +181,7 @@ pub fn step(
 }
 
 // The stored element of a tag, as that part of the store: empty if there is none or the call is refused. The refusal's number, or
-// 0, goes into the lent number. Questions 1 to 5 and 6.
+// 0, goes into the lent number. Questions 1 to 5, 21 and 6.
 pub fn lend<'a>(cfg: Config, state: State, tag: Tag, store: &'a [u8], no: &mut u8) -> &'a [u8]
     ensures { λ r. ⌜ LendPost cfg state tag (now (store .entry)) (now r) (now (no .exit)) ⌝ }
 {

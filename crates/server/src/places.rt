@@ -33,16 +33,16 @@ pub(crate) fn place_of(t: Tag, from: usize, count: usize, tags: [Tag; 8]) -> usi
 }
 
 // The lowest of the tag, whose place is taken for `count`, and the first `count` tags.
-pub(crate) fn lowest(t: Tag, count: usize, tags: [Tag; 8]) -> Least
+pub(crate) fn lowest(cfg: Config, t: Tag, count: usize, tags: [Tag; 8]) -> Least
     requires { ⌜ count ≤ 8 ⌝ }
-    ensures { λ r. ⌜ r ≡ leastFrom t count 0 (each (tagAt tags) 0 count) ⌝ }
+    ensures { λ r. ⌜ r ≡ leastFrom cfg t count 0 (each (tagAt tags) 0 count) ⌝ }
 {
     let mut tag = t;
     let mut place = count;
     let mut i = 0;
     while i < count {
         let x = tags[i];
-        if tag.above(x) {
+        if tag.above(cfg, x) {
             tag = x;
             place = i;
         }

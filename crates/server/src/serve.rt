@@ -11,29 +11,20 @@ use record::Kind;
 use tag::Tag;
 ghost use mathlib.Core.Path.{_≡_};
 ghost use Prim.Native.Nat.{_+_};
+ghost use Rattle.config.specs.Config.{Valid};
 ghost use Rattle.tag.specs.Tag.{key};
 ghost use Rattle.record.specs.Calls.{withElement};
 ghost use Rattle.protocol.specs.Server.{atOrBelowFloor};
-ghost use Rattle.protocol.specs.Tags.{higher as higherOf};
 ghost use Rattle.server.specs.Calls.{Steps};
 ghost use Rattle.server.specs.inner.Keep.{AppendPost, DropSmallestPost, KeepPre, KeepPost};
 ghost use Rattle.server.specs.inner.Places.{Room};
 ghost use Rattle.server.specs.inner.Serve.{ReadFinalisePost, ReadFinalisePre, RespondPost, RespondPre, RequestPre, bareOf, raised, replyOf, requestNumber};
 ghost use Rattle.server.specs.View.{floorOf};
 
-// The higher of two tags.
-fn higher(h: Tag, t: Tag) -> Tag
-    ensures { λ r. ⌜ r ≡ higherOf key h t ⌝ }
-{
-    if t.above(h) {
-        return t;
-    }
-    h
-}
-
 // H becomes the higher of H and the tag.
-fn raise(s: State, t: Tag) -> State
-    ensures { λ r. ⌜ r ≡ raised s t ⌝ }
+fn raise(cfg: Config, s: State, t: Tag) -> State
+    requires { ⌜ Valid cfg ⌝ }
+    ensures { λ r. ⌜ r ≡ raised cfg s t ⌝ }
 {
     let me = s.me;
     let h = s.highest;
@@ -42,7 +33,7 @@ fn raise(s: State, t: Tag) -> State
     let lengths = s.lengths;
     State {
         me,
-        highest: higher(h, t),
+        highest: h.higher(cfg, t),
         floor,
         count: s.count,
         tags,
@@ -51,13 +42,14 @@ fn raise(s: State, t: Tag) -> State
 }
 
 // The tag is at or below the floor.
-fn at_or_below(t: Tag, floor: Floor) -> bool
-    ensures { λ r. ⌜ r ≡ atOrBelowFloor key t (floorOf floor) ⌝ }
+fn at_or_below(cfg: Config, t: Tag, floor: Floor) -> bool
+    requires { ⌜ Valid cfg ⌝ }
+    ensures { λ r. ⌜ r ≡ atOrBelowFloor (key cfg) t (floorOf floor) ⌝ }
 {
     let Floor::At(f) = floor else {
         return false;
     };
-    !t.above(f)
+    !t.above(cfg, f)
 }
 
 // What an answer says besides what it repeats.
@@ -146,7 +138,7 @@ fn drop_smallest(
     let count = s.count as usize;
     let mut tags = s.tags;
     let mut lengths = s.lengths;
-    let low = places::lowest(t, count, tags);
+    let low = places::lowest(cfg, t, count, tags);
     let smallest = low.tag;
     let place = low.place;
     let floor = Floor::At(smallest);
@@ -184,7 +176,7 @@ fn keep(cfg: Config, s: State, t: Tag, length: u16, element: &[u8], store: &mut 
         return s;
     }
     let floor = s.floor;
-    if at_or_below(t, floor) {
+    if at_or_below(cfg, t, floor) {
         return s;
     }
     if count <= cfg.d {
@@ -203,7 +195,7 @@ fn read_finalise(cfg: Config, s: State, h: Header, store: &[u8], answer: &mut [u
     let count = s.count as usize;
     let tags = s.tags;
     let lengths = s.lengths;
-    let after = raise(s, t);
+    let after = raise(cfg, s, t);
     let place = places::place_of(t, 0, count, tags);
     if place < count {
         let from = place * cfg.e;
@@ -217,7 +209,7 @@ fn read_finalise(cfg: Config, s: State, h: Header, store: &[u8], answer: &mut [u
         };
         return respond(cfg, after, h, reply, answer);
     }
-    if at_or_below(t, floor) {
+    if at_or_below(cfg, t, floor) {
         return respond(cfg, after, h, bare(Kind::Cleared, t), answer);
     }
     respond(cfg, after, h, bare(Kind::ReadFinaliseAnswer, t), answer)
@@ -248,7 +240,7 @@ pub(crate) fn request(
             respond(cfg, after, h, bare(Kind::PreWriteAnswer, t), answer)
         }
         Kind::WriteFinalise => {
-            let after = raise(s, t);
+            let after = raise(cfg, s, t);
             respond(cfg, after, h, bare(Kind::WriteFinaliseAnswer, t), answer)
         }
         Kind::ReadFinalise => read_finalise(cfg, s, h, store, answer),

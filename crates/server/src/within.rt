@@ -6,7 +6,7 @@ use config::Config;
 use config::Server;
 use tag::Tag;
 ghost use mathlib.Core.Bool.{true};
-ghost use mathlib.Core.Option.{none, some};
+ghost use mathlib.Core.Option.{none};
 ghost use lib.Dec.{leb};
 ghost use mathlib.Core.Path.{_≡_};
 ghost use Prim.Native.Nat.{_+_, _*_, _%_, _^_, _≤_};
@@ -70,14 +70,14 @@ fn once(count: usize, tags: [Tag; 8]) -> bool
 }
 
 // Each of the first `count` tags is above the floor.
-fn each_above(floor: Tag, count: usize, tags: [Tag; 8]) -> bool
+fn each_above(cfg: Config, floor: Tag, count: usize, tags: [Tag; 8]) -> bool
     requires { ⌜ count ≤ 8 ⌝ }
-    ensures { λ r. ⌜ r ≡ every (λ t. above t floor) (each (tagAt tags) 0 count) ⌝ }
+    ensures { λ r. ⌜ r ≡ every (λ t. above cfg t floor) (each (tagAt tags) 0 count) ⌝ }
 {
     let mut i = 0;
     while i < count {
         let t = tags[i];
-        if !t.above(floor) {
+        if !t.above(cfg, floor) {
             return false;
         }
         i += 1;
@@ -99,7 +99,7 @@ fn floor_within(cfg: Config, floor: Floor, count: usize, tags: [Tag; 8]) -> bool
     if count != cfg.d + 1 {
         return false;
     }
-    each_above(f, count, tags)
+    each_above(cfg, f, count, tags)
 }
 
 // Where there is a floor, it is within its limit, and D + 1 tags are stored.
@@ -120,7 +120,7 @@ fn floor_full(cfg: Config, floor: Floor, count: usize) -> bool
 fn spot(t: Tag) -> u64
     ensures { λ r. ⌜ r ≡ spotOf t ⌝ }
 {
-    (t.number as u64 * 16 + t.client as u64) % 64
+    packed(t.number, t.client) % 64
 }
 
 // Each of the first `count` tags is within its limit, and they have different spots, so each is there once. A no shows nothing.
@@ -147,22 +147,18 @@ fn spread(clients: usize, count: usize, tags: [Tag; 8]) -> bool
     true
 }
 
-// Where its client is 1 to 16, a tag's place in the order of tags.
-fn rank(number: u32, client: u8) -> u64
+// A tag's number and client in one number, in which the number decides where the client is 1 to 16.
+fn packed(number: u32, client: u8) -> u64
     ensures { λ r. ⌜ r ≡ number * 16 + client ⌝ }
 {
     number as u64 * 16 + client as u64
 }
 
-// The floor's rank, and at least 16: a tag of a higher rank has a number, and is above the floor.
-fn base(number: u32, client: u8) -> u64
-    ensures { λ r. ⌜ (16 ≤ r) × (number * 16 + client ≤ r) ⌝ }
+// Of a floor's number: a tag that is packed above this has a higher number, and so is above the floor, whatever the ranks are.
+fn past(number: u32) -> u64
+    ensures { λ r. ⌜ r ≡ number * 16 + 16 ⌝ }
 {
-    let r = rank(number, client);
-    if r < 16 {
-        return 16;
-    }
-    r
+    packed(number, 16)
 }
 
 // A client's number less 1; 0 gives the highest number.
@@ -172,9 +168,9 @@ fn less(client: u8) -> usize
     std::num::wrapping_sub_usize(client as usize, 1)
 }
 
-// Each of the first `count` tags is within its limit and of a higher rank than `low`, and they have different spots. A no shows nothing.
+// Each of the first `count` tags is within its limit and packed above `low`, and they have different spots. A no shows nothing.
 fn risen(clients: usize, low: u64, count: usize, tags: [Tag; 8]) -> bool
-    requires { ⌜ (clients ≤ 16) × (16 ≤ low) × (count ≤ 8) ⌝ }
+    requires { ⌜ (clients ≤ 16) × (count ≤ 8) ⌝ }
     ensures { λ r. ⌜ RisenPost clients low (each (tagAt tags) 0 count) r ⌝ }
 {
     let mut seen = 0u64;
@@ -186,7 +182,7 @@ fn risen(clients: usize, low: u64, count: usize, tags: [Tag; 8]) -> bool
         if clients <= less(c) {
             return false;
         }
-        let r = rank(n, c);
+        let r = packed(n, c);
         if r <= low {
             return false;
         }
@@ -201,7 +197,7 @@ fn risen(clients: usize, low: u64, count: usize, tags: [Tag; 8]) -> bool
 
 // The same of eight tags. The loop has a constant length, so that the compiler unrolls it.
 fn eight(clients: usize, low: u64, tags: [Tag; 8]) -> bool
-    requires { ⌜ (clients ≤ 16) × (16 ≤ low) ⌝ }
+    requires { ⌜ clients ≤ 16 ⌝ }
     ensures { λ r. ⌜ RisenPost clients low (each (tagAt tags) 0 8) r ⌝ }
 {
     let mut seen = 0u64;
@@ -213,7 +209,7 @@ fn eight(clients: usize, low: u64, tags: [Tag; 8]) -> bool
         if clients <= less(c) {
             return false;
         }
-        let r = rank(n, c);
+        let r = packed(n, c);
         if r <= low {
             return false;
         }
@@ -224,17 +220,6 @@ fn eight(clients: usize, low: u64, tags: [Tag; 8]) -> bool
         seen = next;
     }
     true
-}
-
-// The same of eight tags and a floor.
-fn full(clients: usize, f: Tag, tags: [Tag; 8]) -> bool
-    requires { ⌜ clients ≤ 16 ⌝ }
-    ensures { λ r. ⌜ SpreadPost clients (some f) (each (tagAt tags) 0 8) r ⌝ }
-{
-    if f.number == 0 {
-        return eight(clients, 16 + f.client as u64, tags);
-    }
-    eight(clients, rank(f.number, f.client), tags)
 }
 
 // A yes shows that the server's number and its tags are within their limits. A no shows nothing.
@@ -263,9 +248,9 @@ fn quick(cfg: Config, s: State) -> bool
         return spread(cfg.c, count, tags);
     };
     if count == 8 {
-        return full(cfg.c, f, tags);
+        return eight(cfg.c, past(f.number), tags);
     }
-    risen(cfg.c, base(f.number, f.client), count, tags)
+    risen(cfg.c, past(f.number), count, tags)
 }
 
 // Whether the server's number and its tags are within their limits, one by one.

@@ -65,7 +65,7 @@ fn measured(cfg: Config, m: usize) -> Lengths
     }
 }
 
-// The line of a header or a starting board that is cut short.
+// The line of a header, ranks or a starting board that is cut short.
 pub fn short() {
     io::write_all(1, b"0 short\n");
 }

@@ -1,7 +1,8 @@
-// Tags: which are allowed, and their order. Every function is proved, nothing is assumed, and no public function has a
-// `requires`.
+// Tags: which are allowed, and their order, by number, rank and client. Every function is proved, nothing is assumed, and no public function
+// has a `requires`.
+use config::Config;
 ghost use mathlib.Core.Path.{_≡_};
-ghost use Rattle.tag.specs.Tag.{above, allowed, same};
+ghost use Rattle.tag.specs.Tag.{above, allowed, higher, same};
 
 // A tag: a number, and a client number.
 pub struct Tag {
@@ -10,14 +11,29 @@ pub struct Tag {
 }
 
 impl Tag {
-    // Whether the tag is above the other: the number decides, then the client number.
-    pub fn above(self, other: Tag) -> bool
-        ensures { λ r. ⌜ r ≡ above self other ⌝ }
+    // Whether the tag is above the other: the number decides, then the rank of the tag's client, then the client number.
+    pub fn above(self, cfg: Config, other: Tag) -> bool
+        ensures { λ r. ⌜ r ≡ above cfg self other ⌝ }
     {
-        if self.number == other.number {
-            return other.client < self.client;
+        if self.number != other.number {
+            return other.number < self.number;
         }
-        other.number < self.number
+        let mine = cfg.rank(self.client);
+        let its = cfg.rank(other.client);
+        if mine != its {
+            return its < mine;
+        }
+        other.client < self.client
+    }
+
+    // The higher of the two.
+    pub fn higher(self, cfg: Config, other: Tag) -> Tag
+        ensures { λ r. ⌜ r ≡ higher cfg self other ⌝ }
+    {
+        if other.above(cfg, self) {
+            return other;
+        }
+        self
     }
 
     // Whether the two are one tag.

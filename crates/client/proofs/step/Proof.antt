@@ -70,7 +70,8 @@ step-spec =
     (λ c. search needs)
     (λ c κs. search needs)
     (λ c. search needs)
-    (λ c κs. let t = told (c .before .before .before) (c .before .asked2 .given .1) in server-small _ _ _ (l (s (c .before .before .before))) (t .0) _ (t .1))
+    (λ c κs. let t = told (c .before .before .before) (c .before .asked2 .given .1) in
+    (t .0 .valid, server-small _ _ _ (l (s (c .before .before .before))) (t .0) _ (t .1)))
     (λ c. search needs)
     (λ c. search needs)
     (λ c κs. search needs)

@@ -2,6 +2,7 @@
 use Prim.Native.Nat.{ℕ, _+_, _-_, _^_}
 use mathlib.Core.Bool.{Bool, true, false, cond, not, _&&_}
 use lib.Dec.{eqb}
+use Rattle.config.specs.declared.Config.{Config}
 use Rattle.config.specs.Number.{serverNumber}
 use Rattle.tag.specs.Tag.{key, same}
 use Rattle.record.specs.declared.Header.{Header}
@@ -32,21 +33,21 @@ awaitsOf (FinalisingRead tag counted sent) h = firstOf 8 counted h && same (h .t
 awaitsOf Down h = false
 
 -- the phase with the answer counted
-unfoldable pub countingOf : Phase → Header → Phase
-countingOf Idle h = Idle
-countingOf (Asking writes best counted) h =
-    Asking writes (higher key best (h .tag)) (putOf counted (serverNumber (h .server)) true)
-countingOf (PreWriting tag counted) h = PreWriting tag (putOf counted (serverNumber (h .server)) true)
-countingOf (FinalisingWrite tag counted) h = FinalisingWrite tag (putOf counted (serverNumber (h .server)) true)
-countingOf (FinalisingRead tag counted sent) h =
+unfoldable pub countingOf : Config → Phase → Header → Phase
+countingOf cfg Idle h = Idle
+countingOf cfg (Asking writes best counted) h =
+    Asking writes (higher (key cfg) best (h .tag)) (putOf counted (serverNumber (h .server)) true)
+countingOf cfg (PreWriting tag counted) h = PreWriting tag (putOf counted (serverNumber (h .server)) true)
+countingOf cfg (FinalisingWrite tag counted) h = FinalisingWrite tag (putOf counted (serverNumber (h .server)) true)
+countingOf cfg (FinalisingRead tag counted sent) h =
     FinalisingRead tag (putOf counted (serverNumber (h .server)) true) (putOf sent (serverNumber (h .server)) (h .present))
-countingOf Down h = Down
+countingOf cfg Down h = Down
 
 -- how an awaited answer is taken: kind 9 is not counted
-abbrev pub takenOf : Phase → Header → Taken
-takenOf phase h = cond (isCleared (h .kind)) Taken.Cleared (Taken.Counted (countingOf phase h))
+abbrev pub takenOf : Config → Phase → Header → Taken
+takenOf cfg phase h = cond (isCleared (h .kind)) Taken.Cleared (Taken.Counted (countingOf cfg phase h))
 
 -- if the answer is of the client's operation, too
-abbrev pub countOf : State → Header → Awaited
-countOf x h =
-    cond (eqb (h .operation) (x .operation) && awaitsOf (x .phase) h) (Awaited.Answer (takenOf (x .phase) h)) Awaited.Other
+abbrev pub countOf : Config → State → Header → Awaited
+countOf cfg x h =
+    cond (eqb (h .operation) (x .operation) && awaitsOf (x .phase) h) (Awaited.Answer (takenOf cfg (x .phase) h)) Awaited.Other

@@ -18,7 +18,7 @@ use Rattle.client.specs.State.{stateWithin}
 abbrev pub sized : Config → ℕ → Sizes → Bool
 sized cfg message l = stepSized cfg message (l .kept) (l .elements) (l .sends) (l .board)
 
--- questions 1 to 6, 12 and 16 of a step are answered yes
+-- questions 1 to 5, 21, 6, 12 and 16 of a step are answered yes
 pub record Received (cfg : Config) (x : State) (message : List ℕ) (l : Sizes) : Type 0 where
   pub valid : Valid cfg
   pub within : stateWithin cfg x ≡ true

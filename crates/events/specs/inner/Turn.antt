@@ -17,11 +17,11 @@ use Rattle.events.specs.Questions.{allSized, rigWithin}
 use Rattle.events.specs.Calls.{EventPost, PartOf, called, turned}
 use Rattle.events.specs.inner.Part.{Names}
 
--- the first of questions 1 to 6 of a rig's event that is answered no, or 0
+-- the first of questions 1 to 6 and 21 of a rig's event that is answered no, or 0
 abbrev pub firstSix : Config → ℕ → Rig → BoardCall → List ℕ → Lent → ℕ
 firstSix cfg m r a read l = firstNo (rigQuestions cfg m ++ ask 6 (allSized cfg m (a .board .bytes) read l && rigWithin cfg m r) ∷ [])
 
--- An event of a rig, by the part of it that the event names: questions 1 to 6 are answered yes.
+-- An event of a rig, by the part of it that the event names: questions 1 to 6 and 21 are answered yes.
 pub record Ready (cfg : Config) (m : ℕ) (r : Rig) (p : Part) (a : Call) (board read : List ℕ) (l : Lent) : Type 0 where
   pub part : PartOf r p
   pub names : Names cfg p a (l .messages)
@@ -43,7 +43,7 @@ pub record TurnPre (cfg : Config) (m : ℕ) (p : Part) (l : Lent) : Type 0 where
   pub boards : length (l .boards) ≡ cfg .c * boardLength cfg
   pub elements : length (l .elements) ≡ cfg .c * (cfg .n * cfg .e)
 
--- What is left of a part: its places stay, and of every rig that it is of, where questions 1 to 6 are answered yes, the event is the
+-- What is left of a part: its places stay, and of every rig that it is of, where questions 1 to 6 and 21 are answered yes, the event is the
 -- protocol's.
 pub record TurnPost (cfg : Config) (m : ℕ) (p : Part) (a : Call) (board read : List ℕ) (l : Lent) (x : Change) (read′ : List ℕ) (l′ : Lent) : Type 0 where
   pub server : x .part .server ≡ p .server

@@ -27,7 +27,7 @@ of-place n i h = elim (ℕ-discrete n (i + 1)) as (λ _. eqb (n - 1) i ≡ eqb n
   | no ne ↦ ne-eqb (n - 1) i (λ z. ne (omega (arith, z, h))) ∙ sym (ne-eqb n (i + 1) ne)
 ]
 
--- 1 to 5 are answered yes, and 6 is not
+-- 1 to 5 and 21 are answered yes, and 6 is not
 pub place-no : (cfg : Config) {asked : ℕ} → asked ≡ firstNo (questions cfg) → asked ≡ 0 → (holds : Bool) → holds ≡ false
     → 6 ≡ firstNo (placeQuestions cfg holds)
 place-no cfg e none-yet holds h = later cfg e none-yet (ask 6 holds ∷ []) (sym (firstNo-no 6 holds [] h))

@@ -12,7 +12,7 @@ use Rattle.record.specs.declared.Reading.{Reading}
 use Rattle.record.specs.Calls.{lengthRead, messageRead, readNumber}
 use Rattle.record.specs.Record.{all, allZero, elementEnd, isKind, kindAt, lengthAt, messageOf, presentAt, wellFormed}
 
--- what both take: questions 1 to 6 are answered yes
+-- what both take: questions 1 to 6 and 21 are answered yes
 pub record RecordPre (cfg : Config) (bs : List ℕ) : Type 0 where
   pub valid : Valid cfg
   pub eighty : length bs ≡ recordLength

@@ -6,7 +6,7 @@ use borrow.Author.Needs.{needs}
 use Rattle.server.proofs.receive.Statement.{statement}
 use Rattle.server.proofs.receive.Tie as tie
 
--- questions 1 to 6 of the state are answered yes
+-- questions 1 to 6 and 21 of the state are answered yes
 held : (c : tie.Else1) → Holds (c .before .before .before .args .cfg) (c .before .before .before .args .state) (c .before .before .before .args .store)
 held c = state-holds _ _ _ (sym (c .before .ask .ensures) ∙ c .if1 .left)
 

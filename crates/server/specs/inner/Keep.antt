@@ -36,8 +36,8 @@ pub record AppendPost (cfg : Config) (s : State) (t : Tag) (n : ℕ) (element be
   pub eight : (length (s .tags) ≡ 8) × (length (s .lengths) ≡ 8)
 
 -- the lowest of t and the stored tags; t's place is taken for the count
-abbrev pub lowest : State → Tag → Least
-lowest s t = leastFrom t (s .count) 0 (tagsUsed s)
+abbrev pub lowest : Config → State → Tag → Least
+lowest cfg s t = leastFrom cfg t (s .count) 0 (tagsUsed s)
 
 -- the floor is f, and tags are stored with their lengths
 abbrev pub floored : State → Tag → List Tag → List ℕ → State
@@ -45,15 +45,15 @@ floored s f tags lengths =
     record { me = s .me; highest = s .highest; floor = Floor.At f; count = s .count; tags = tags; lengths = lengths }
 
 -- the lowest is the floor; if it is not t, then t has its place
-unfoldable pub dropped : State → Tag → ℕ → State
-dropped s t n =
-    floored s (lowest s t .tag)
-    (cond (leb (s .count) (lowest s t .place)) (s .tags) (set (s .tags) (lowest s t .place) t))
-    (cond (leb (s .count) (lowest s t .place)) (s .lengths) (set (s .lengths) (lowest s t .place) n))
+unfoldable pub dropped : Config → State → Tag → ℕ → State
+dropped cfg s t n =
+    floored s (lowest cfg s t .tag)
+    (cond (leb (s .count) (lowest cfg s t .place)) (s .tags) (set (s .tags) (lowest cfg s t .place) t))
+    (cond (leb (s .count) (lowest cfg s t .place)) (s .lengths) (set (s .lengths) (lowest cfg s t .place) n))
 
 pub record DropSmallestPost (cfg : Config) (s : State) (t : Tag) (n : ℕ) (element before after : List ℕ) (r : State) : Type 0 where
-  pub state : r ≡ dropped s t n
-  pub store : after ≡ cond (leb (s .count) (lowest s t .place)) before (over (lowest s t .place * cfg .e) (cfg .e) element before)
+  pub state : r ≡ dropped cfg s t n
+  pub store : after ≡ cond (leb (s .count) (lowest cfg s t .place)) before (over (lowest cfg s t .place * cfg .e) (cfg .e) element before)
   pub eight : (length (s .tags) ≡ 8) × (length (s .lengths) ≡ 8)
 
 -- a tag and its element, to be stored
@@ -65,5 +65,5 @@ pub record KeepPre (cfg : Config) (s : State) (t : Tag) (element store : List �
 -- they are stored as the protocol has it, with the length
 pub record KeepPost (cfg : Config) (s : State) (t : Tag) (n : ℕ) (element store after : List ℕ) (r : State) : Type 0 where
   pub me : r .me ≡ s .me
-  pub seen : view cfg r after ≡ stores key (cfg .d) (view cfg s store) (record { tag = t; element = elementWith n element })
+  pub seen : view cfg r after ≡ stores (key cfg) (cfg .d) (view cfg s store) (record { tag = t; element = elementWith n element })
   pub long : length after ≡ length store

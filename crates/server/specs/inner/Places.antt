@@ -15,9 +15,9 @@ placeIn t [] = 0
 placeIn t (x ∷ xs) = cond (same x t) 0 (suc (placeIn t xs))
 
 -- the lowest of t and of tags, with its place: t's is p, the tags' are i and on
-unfoldable pub leastFrom : Tag → ℕ → ℕ → List Tag → Least
-leastFrom t p i [] = record { tag = t; place = p }
-leastFrom t p i (x ∷ xs) = cond (above t x) (leastFrom x i (suc i) xs) (leastFrom t p (suc i) xs)
+unfoldable pub leastFrom : Config → Tag → ℕ → ℕ → List Tag → Least
+leastFrom cfg t p i [] = record { tag = t; place = p }
+leastFrom cfg t p i (x ∷ xs) = cond (above cfg t x) (leastFrom cfg x i (suc i) xs) (leastFrom cfg t p (suc i) xs)
 
 -- a store has room for n elements like this one
 pub record Room (cfg : Config) (n : ℕ) (element store : List ℕ) : Type 0 where

@@ -15,7 +15,7 @@ use Rattle.server.specs.Calls.{stepQuestions}
 use Rattle.server.specs.Within.{stateWithin}
 use Rattle.server.specs.inner.Serve.{requestNumber}
 
--- questions 1 to 6 and 12 of a step are answered yes
+-- questions 1 to 5, 21, 6 and 12 of a step are answered yes
 pub record Passed (cfg : Config) (s : State) (handed : List ℕ) (store answer : ℕ) : Type 0 where
   pub valid : Valid cfg
   pub within : stateWithin cfg s ≡ true

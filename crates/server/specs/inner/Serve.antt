@@ -76,11 +76,11 @@ pub record ReadFinalisePre (cfg : Config) (s : State) (h : Header) (store answer
   pub allowed : allowed (cfg .c) (h .tag) ≡ true
 
 -- "H becomes the higher of H and t", and all else holds
-unfoldable pub raised : State → Tag → State
-raised s t =
+unfoldable pub raised : Config → State → Tag → State
+raised cfg s t =
     record {
       me = s .me;
-      highest = higher key (s .highest) t;
+      highest = higher (key cfg) (s .highest) t;
       floor = s .floor;
       count = s .count;
       tags = s .tags;
@@ -90,14 +90,14 @@ raised s t =
 -- the answer is the protocol's
 abbrev pub readAnswered : State → Header → List ℕ → Config → Message Element
 readAnswered s h store cfg =
-    readAnswer key (serverNumber (s .me)) (view cfg s store .floor) (reply (s .me) h (h .kind) (h .tag) none)
-    (elementOf key (h .tag) (view cfg s store .stored))
+    readAnswer (key cfg) (serverNumber (s .me)) (view cfg s store .floor) (reply (s .me) h (h .kind) (h .tag) none)
+    (elementOf (key cfg) (h .tag) (view cfg s store .stored))
 
 -- and H is raised
 abbrev pub ReadFinalisePost : Config → State → Header → List ℕ → List ℕ → Stepped → Type 0
-ReadFinalisePost cfg s h store after r = RespondPost cfg (raised s (h .tag)) (readAnswered s h store cfg) after r
+ReadFinalisePost cfg s h store after r = RespondPost cfg (raised cfg s (h .tag)) (readAnswered s h store cfg) after r
 
--- a request, with all that questions 1 to 6 and 12 show of it
+-- a request, with all that questions 1 to 5, 21, 6 and 12 show of it
 pub record RequestPre (cfg : Config) (s : State) (h : Header) (handed store answer : List ℕ) : Type 0 where
   pub held : ValidState cfg s store
   pub eighty : length handed ≡ recordLength

@@ -4,16 +4,16 @@ use mathlib.Core.Bool.{Bool, true, _&&_}
 use mathlib.Core.Path.{_≡_}
 use mathlib.Core.List.{List}
 use mathlib.Core.Option.{Option, none, some}
-use lib.Dec.{eqb}
+use lib.Dec.{eqb, ltb}
 use Rattle.config.specs.declared.Config.{Config}
 use Rattle.tag.specs.declared.Tag.{Tag}
-use Rattle.tag.specs.Tag.{above, allowed}
+use Rattle.tag.specs.Tag.{allowed}
 use Rattle.server.specs.Within.{every, once}
 
--- t is above the floor, if there is one
+-- t has a higher number than the floor, if there is one: so it is above it
 abbrev pub overFloor : Option Tag → Tag → Bool
 overFloor none t = true
-overFloor (some f) t = above t f
+overFloor (some f) t = ltb (f .number) (t .number)
 
 -- where there is a floor, it is within its limit, and n is D + 1
 abbrev pub floorFull : Config → Option Tag → ℕ → Bool
@@ -30,6 +30,6 @@ pub record SpreadPost (clients : ℕ) (floor : Option Tag) (ts : List Tag) (r : 
   pub over : r ≡ true → every (overFloor floor) ts ≡ true
   pub differ : r ≡ true → once ts ≡ true
 
--- the same of each floor that is of this rank at most
+-- the same of each floor whose number is low enough
 abbrev pub RisenPost : ℕ → ℕ → List Tag → Bool → Type 0
-RisenPost clients low ts r = (f : Tag) → f .number * 16 + f .client ≤ low → SpreadPost clients (some f) ts r
+RisenPost clients low ts r = (f : Tag) → f .number * 16 + 16 ≤ low → SpreadPost clients (some f) ts r

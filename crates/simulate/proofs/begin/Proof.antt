@@ -1,9 +1,8 @@
 -- `simulate::begin` is safe and ends. Assumes nothing.
-use Prim.Native.Nat.{_*_}
+use Prim.Native.Nat.{_≤_}
 use mathlib.Core.Path.{sym}
 use native.Mathlib.Omega.{arith}
 use lib.Seq.{length-take-le}
-use Rattle.config.proofs.Sizes.{board-small}
 use Rattle.config.proofs.Valid.{rig-valid}
 use borrow.Author.Needs.{needs}
 use Rattle.simulate.proofs.begin.Statement.{statement}
@@ -18,36 +17,31 @@ refused-requires c κs = search needs
 returns : tie.Need-returns
 returns c = search needs
 
-buffer-requires : tie.Need-buffer-requires
-buffer-requires c κs = search needs
+array-borrow-prefix-ranks : tie.Need-array-borrow-prefix-ranks
+array-borrow-prefix-ranks c =
+    let a = c .before .before .args in
+    rig-valid (a .cfg) (a .m) (c .before .ask-rig .ensures) (c .if1 .left) .c-high
 
-mul-v : tie.Need-mul-v
-mul-v c =
-    let s = c .before .before .before .before in
-    let a = c .before .before .before .ask-rig in
-    let small = board-small (s .args .cfg) (rig-valid (s .args .cfg) (s .args .m) (a .ensures) (c .before .before .if1 .left)) in
-    record { fits = omega (arith, small) }
+slice-aggregate-read-full : tie.Need-slice-aggregate-read-full
+slice-aggregate-read-full c =
+    let a = c .before .before .before .args in
+    let few : a .cfg .c ≤ 16 = rig-valid (a .cfg) (a .m) (c .before .before .ask-rig .ensures) (c .before .if1 .left) .c-high in
+    sym (length-take-le (a .cfg .c) _ (omega (arith, few)))
 
-array-borrow-prefix-start : tie.Need-array-borrow-prefix-start
-array-borrow-prefix-start c =
-    let s = c .before .before .before .before in
-    let a = c .before .before .before .ask-rig in
-    let small = board-small (s .args .cfg) (rig-valid (s .args .cfg) (s .args .m) (a .ensures) (c .before .before .if1 .left)) in
-    omega (arith, small)
+read-full-requires : tie.Need-read-full-requires
+read-full-requires c κs = search needs
 
-slice-aggregate-play : tie.Need-slice-aggregate-play
-slice-aggregate-play c =
-    let s = c .before .before .before .before .before in
-    let a = c .before .before .before .before .ask-rig in
-    let small = board-small (s .args .cfg) (rig-valid (s .args .cfg) (s .args .m) (a .ensures) (c .before .before .before .if1 .left)) in
-    let r = c .before .before .buffer in
-    sym (length-take-le (s .args .cfg .k * s .args .cfg .e) (r .result) (omega (arith, small, r .ensures)))
-
-play-requires : tie.Need-play-requires
-play-requires c κs = search needs
+short-requires : tie.Need-short-requires
+short-requires c κs = search needs
 
 returns-2 : tie.Need-returns-2
 returns-2 c = search needs
+
+start-requires : tie.Need-start-requires
+start-requires c κs = search needs
+
+returns-3 : tie.Need-returns-3
+returns-3 c = search needs
 
 pub begin-spec : {M : Type 1} → statement M
 begin-spec =
@@ -56,9 +50,10 @@ begin-spec =
     ask-rig-requires
     refused-requires
     returns
-    buffer-requires
-    mul-v
-    array-borrow-prefix-start
-    slice-aggregate-play
-    play-requires
-    returns-2)
+    array-borrow-prefix-ranks
+    slice-aggregate-read-full
+    read-full-requires
+    short-requires
+    returns-2
+    start-requires
+    returns-3)

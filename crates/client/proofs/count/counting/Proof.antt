@@ -26,4 +26,4 @@ counting-spec =
     (λ c. rw (c .before .before .phase2 .given .1, c .put2 .ensures, c .before .before .before .before .number .ensures))
     (λ c. rw (c .before .before .phase3 .given .1, c .put3 .ensures, c .before .before .before .before .number .ensures))
     (λ c. rw (c .before .before .before .phase4 .given .1, c .put5 .ensures, c .before .put4 .ensures, c .before .before .before .before .before .number .ensures))
-    (λ c. at-rest (λ (p : Phase). p ≡ countingOf p (c .before .before .before .args .h)) refl refl _ (c .match .keys5)))
+    (λ c. at-rest (λ (p : Phase). p ≡ countingOf (c .before .before .before .args .cfg) p (c .before .before .before .args .h)) refl refl _ (c .match .keys5)))

@@ -1,27 +1,20 @@
 use borrow.Author.Needs.{needs}
-use mathlib.Core.Path.{sym, _∙_}
+use mathlib.Core.Path.{_∙_}
 use native.Mathlib.Omega.{arith}
 use Rattle.tag.proofs.Order.{Small}
-use Rattle.client.proofs.Tags.{higher-first, higher-other}
+use Rattle.protocol.proofs.Keys.{higher-key}
 use Rattle.client.proofs.count.higher.Statement.{statement}
 use Rattle.client.proofs.count.higher.Tie as tie
 
-above-requires : tie.Need-above-requires
-above-requires c κs = search needs
+higher-requires : tie.Need-higher-requires
+higher-requires c κs = search needs
 
 returns : tie.Need-returns
 returns c =
-    let a = c .before .before .args in
-    let sb : Small (a .best) = omega arith in
-    let st : Small (a .t) = omega arith in
-    sym (higher-other (a .best) (a .t) sb st (sym (c .before .above .ensures) ∙ c .if1 .taken))
-
-returns-2 : tie.Need-returns-2
-returns-2 c =
-    let a = c .before .before .args in
-    let sb : Small (a .best) = omega arith in
-    let st : Small (a .t) = omega arith in
-    sym (higher-first (a .best) (a .t) sb st (sym (c .before .above .ensures) ∙ c .if1 .left))
+    let s = c .before in
+    let sb : Small (s .args .best) = omega arith in
+    let st : Small (s .args .t) = omega arith in
+    c .higher .ensures ∙ higher-key (s .args .cfg) (s .pre) (s .args .best) (s .args .t) sb st
 
 pub higher-spec : {M : Type 1} → statement M
-higher-spec = tie.close (tie.spec above-requires returns returns-2)
+higher-spec = tie.close (tie.spec higher-requires returns)

@@ -18,7 +18,7 @@ use borrow.Author.Needs.{needs}
 use Rattle.client.proofs.questions.receive.Statement.{statement}
 use Rattle.client.proofs.questions.receive.Tie as tie
 
--- questions 1 to 6 are answered yes
+-- questions 1 to 5, 21 and 6 are answered yes
 module _ (c : tie.Else2) where
   abbrev a : tie.After-ask
   a = c .before .before .before

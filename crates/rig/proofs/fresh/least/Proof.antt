@@ -3,6 +3,7 @@ use lib.ListN.{replicate}
 use Rattle.client.specs.declared.State as client
 use Rattle.parties.specs.declared.Node.{Node}
 use borrow.Author.Needs.{needs}
+use Rattle.config.proofs.Valid.{least-valid}
 use Rattle.rig.proofs.Making.{least-node}
 use Rattle.rig.proofs.fresh.least.Statement.{statement}
 use Rattle.rig.proofs.fresh.least.Tie as tie
@@ -17,7 +18,7 @@ server-requires : tie.Need-server-requires
 server-requires c κs = search needs
 
 client-requires : tie.Need-client-requires
-client-requires c κs = search needs
+client-requires c κs = (least-valid, refl)
 
 returns : tie.Need-returns
 returns c =

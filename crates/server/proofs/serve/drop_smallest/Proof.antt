@@ -19,12 +19,12 @@ use Rattle.server.proofs.serve.drop_smallest.Statement.{statement}
 use Rattle.server.proofs.serve.drop_smallest.Tie as tie
 
 -- the lowest is the tag itself, or another
-module _ (cfg : Config) (s : State) (t : Tag) (n : ℕ) (element before after : List ℕ) (l : Least) (is : l ≡ lowest s t)
+module _ (cfg : Config) (s : State) (t : Tag) (n : ℕ) (element before after : List ℕ) (l : Least) (is : l ≡ lowest cfg s t)
     (eight : (length (s .tags) ≡ 8) × (length (s .lengths) ≡ 8)) where
   itself : s .count ≤ l .place → after ≡ before → DropSmallestPost cfg s t n element before after (floored s (l .tag) (s .tags) (s .lengths))
   unfolding dropped
   itself h e =
-      let b : leb (s .count) (lowest s t .place) ≡ Bool.true = ap (λ (x : Least). leb (s .count) (x .place)) (sym is) ∙ le-leb (s .count) (l .place) h in
+      let b : leb (s .count) (lowest cfg s t .place) ≡ Bool.true = ap (λ (x : Least). leb (s .count) (x .place)) (sym is) ∙ le-leb (s .count) (l .place) h in
       record {
         state = rw b (ap (λ (x : Least). floored s (x .tag) (s .tags) (s .lengths)) is);
         store = rw b e;
@@ -35,7 +35,7 @@ module _ (cfg : Config) (s : State) (t : Tag) (n : ℕ) (element before after : 
       → DropSmallestPost cfg s t n element before after (floored s (l .tag) (set (s .tags) (l .place) t) (set (s .lengths) (l .place) n))
   unfolding dropped
   another h e =
-      let b : leb (s .count) (lowest s t .place) ≡ Bool.false = ap (λ (x : Least). leb (s .count) (x .place)) (sym is) ∙ lt-leb (s .count) (l .place) h in
+      let b : leb (s .count) (lowest cfg s t .place) ≡ Bool.false = ap (λ (x : Least). leb (s .count) (x .place)) (sym is) ∙ lt-leb (s .count) (l .place) h in
       record {
         state = rw b (ap (λ (x : Least). floored s (x .tag) (set (s .tags) (x .place) t) (set (s .lengths) (x .place) n)) is);
         store = rw b (e ∙ ap (λ (x : Least). over (x .place * cfg .e) (cfg .e) element before) is);

@@ -82,7 +82,7 @@ bare-requires-3 c κs = search needs
 respond-requires-3 : tie.Need-respond-requires-3
 respond-requires-3 c κs =
     let s = c .before .before .before .before .before .before .before .before .before in
-    write-reply (c .before .before .before .before .before .before .before .before .before .args .cfg) (c .before .before .before .before .before .before .before .before .before .args .s) (c .before .before .before .before .before .before .before .before .before .args .h) (c .before .before .before .before .before .before .before .before .before .args .handed .now) (c .before .before .before .before .before .before .before .before .before .args .store .now) (c .before .before .before .before .before .before .before .before .before .args .answer .now) (s .pre) _ (raised-me (s .args .s) (s .args .h .tag) (c .before .before .raise .ensures)) (c .before .before .before .enum-told3 .given .1) _ (c .before .bare3 .ensures) _ (s .pre .answer-eighty)
+    write-reply (c .before .before .before .before .before .before .before .before .before .args .cfg) (c .before .before .before .before .before .before .before .before .before .args .s) (c .before .before .before .before .before .before .before .before .before .args .h) (c .before .before .before .before .before .before .before .before .before .args .handed .now) (c .before .before .before .before .before .before .before .before .before .args .store .now) (c .before .before .before .before .before .before .before .before .before .args .answer .now) (s .pre) _ (raised-me (s .args .cfg) (s .args .s) (s .args .h .tag) (c .before .before .raise .ensures)) (c .before .before .before .enum-told3 .given .1) _ (c .before .bare3 .ensures) _ (s .pre .answer-eighty)
 
 enum-told-4 : tie.Need-enum-told-4
 enum-told-4 c = search needs

@@ -13,14 +13,14 @@ use Rattle.server.proofs.within.each_above.Tie as tie
 
 -- the answer from the start is the answer from here
 abbrev Inv-loop : tie.InvT-loop
-Inv-loop floor count tags i₀ i =
-    (i ≤ count) × (every (λ (x : Tag). above x floor) (each (tagAt tags) 0 count) ≡ every (λ (x : Tag). above x floor) (each (tagAt tags) i (count - i)))
+Inv-loop cfg floor count tags i₀ i =
+    (i ≤ count) × (every (λ (x : Tag). above cfg x floor) (each (tagAt tags) 0 count) ≡ every (λ (x : Tag). above cfg x floor) (each (tagAt tags) i (count - i)))
 
 abbrev μ-loop : tie.MeasureT-loop
-μ-loop floor count tags i₀ i = count - i
+μ-loop cfg floor count tags i₀ i = count - i
 
 loop-holds : tie.Need-loop-holds Inv-loop μ-loop
-loop-holds c = let a = c .args in (search needs, ap (λ (n : ℕ). every (λ (x : Tag). above x (a .floor)) (each (tagAt (a .t3)) 0 n)) (sym (sub-zero (a .count))))
+loop-holds c = let a = c .args in (search needs, ap (λ (n : ℕ). every (λ (x : Tag). above (a .cfg) x (a .floor)) (each (tagAt (a .t4)) 0 n)) (sym (sub-zero (a .count))))
 
 mul-t : tie.Need-mul-t Inv-loop μ-loop
 mul-t c = search needs
@@ -35,7 +35,7 @@ returns : tie.Need-returns Inv-loop μ-loop
 returns c =
     let l = c .before .before .before .before .loop in
     let a = c .before .before .before .before .before .args in
-    sym (l .inv .1 ∙ every-no (tagAt (a .t3)) (l .i) (a .count) (λ (x : Tag). above x (a .floor)) (c .before .before .before .loop-test .taken) (sym (c .before .above .ensures) ∙ not-true _ (c .if1 .taken)))
+    sym (l .inv .1 ∙ every-no (tagAt (a .t4)) (l .i) (a .count) (λ (x : Tag). above (a .cfg) x (a .floor)) (c .before .before .before .loop-test .taken) (sym (c .before .above .ensures) ∙ not-true _ (c .if1 .taken)))
 
 add-i : tie.Need-add-i Inv-loop μ-loop
 add-i c = search needs
@@ -47,13 +47,13 @@ loop-again : tie.Need-loop-again Inv-loop μ-loop
 loop-again c =
     let l = c .before .before .before .before .loop in
     let a = c .before .before .before .before .before .args in
-    (search needs, l .inv .1 ∙ every-yes (tagAt (a .t3)) (l .i) (a .count) (λ (x : Tag). above x (a .floor)) (c .before .before .before .loop-test .taken) (sym (c .before .above .ensures) ∙ not-false _ (c .if1 .left)))
+    (search needs, l .inv .1 ∙ every-yes (tagAt (a .t4)) (l .i) (a .count) (λ (x : Tag). above (a .cfg) x (a .floor)) (c .before .before .before .loop-test .taken) (sym (c .before .above .ensures) ∙ not-false _ (c .if1 .left)))
 
 returns-2 : tie.Need-returns-2 Inv-loop μ-loop
 returns-2 c =
     let l = c .before .loop in
     let a = c .before .before .args in
-    sym (l .inv .1 ∙ every-end (tagAt (a .t3)) (l .i) (a .count) (λ (x : Tag). above x (a .floor)) (c .loop-test .left))
+    sym (l .inv .1 ∙ every-end (tagAt (a .t4)) (l .i) (a .count) (λ (x : Tag). above (a .cfg) x (a .floor)) (c .loop-test .left))
 
 pub each-above-spec : {M : Type 1} → statement M
 each-above-spec =

@@ -27,7 +27,7 @@ module _ (cfg : Config) (f : Tag) (floor : Floor) (is : floor ≡ Floor.At f) (t
   unfolding floorWithin
   not-full h n = rw (is, h, length-each (tagAt tags) 0 count, ne-eqb count (cfg .d + 1) n)
 
-  full : allowed (cfg .c) f ≡ true → count ≡ cfg .d + 1 → every (λ (t : Tag). above t f) ts ≡ floorWithin cfg (floorOf floor) ts
+  full : allowed (cfg .c) f ≡ true → count ≡ cfg .d + 1 → every (λ (t : Tag). above cfg t f) ts ≡ floorWithin cfg (floorOf floor) ts
   unfolding floorWithin
   full h n = rw (is, h, length-each (tagAt tags) 0 count, eq-eqb count (cfg .d + 1) n)
 

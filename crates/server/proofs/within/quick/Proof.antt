@@ -5,14 +5,15 @@ use mathlib.Core.List.{List}
 use mathlib.Core.Option.{Option, none, some}
 use Prim.Native.Nat.{ℕ, _+_, _≤_}
 use native.Mathlib.Omega.{arith}
-use borrow.Author.Tests.{le-leb, not-false}
+use borrow.Author.Tests.{le-leb, ltb-true, not-false}
 use lib.Dec.{eqb}
 use lib.ListN.{length}
 use Rattle.config.specs.declared.Config.{Config}
 use Rattle.config.specs.Number.{serverNumber}
 use Rattle.config.specs.Questions.{within}
 use Rattle.tag.specs.declared.Tag.{Tag}
-use Rattle.tag.specs.Tag.{allowed}
+use Rattle.tag.specs.Tag.{above, allowed}
+use Rattle.tag.proofs.Order.{number-above}
 use Rattle.record.specs.Record.{all}
 use mathlib.Core.Bool.{and-true}
 use Rattle.server.specs.declared.Floor.{Floor}
@@ -21,14 +22,21 @@ use Rattle.server.specs.inner.Spread.{SpreadPost, floorFull, overFloor}
 use Rattle.server.specs.Within.{every, floorWithin, tagsWithin, numbersWithin}
 use Rattle.server.specs.View.{each, floorOf, tagAt, tagsUsed}
 use Rattle.server.proofs.Each.{length-each}
+use Rattle.server.proofs.Tags.{every-in, in-every}
 use Rattle.server.proofs.within.quick.Statement.{statement}
 use Rattle.server.proofs.within.quick.Tie as tie
 
--- the floor's clauses, where each tag is above it
+-- a tag of a higher number is above the floor
+over-above : (cfg : Config) (f : Tag) (ts : List Tag) → every (overFloor (some f)) ts ≡ true → every (λ (t : Tag). above cfg t f) ts ≡ true
+over-above cfg f ts h =
+    in-every (λ (t : Tag). above cfg t f) ts
+    (λ t i. number-above cfg t f (ltb-true (f .number) (t .number) (every-in (overFloor (some f)) ts t h i)))
+
+-- the floor's clauses, where each tag has a higher number
 full : (cfg : Config) (floor : Option Tag) (ts : List Tag) (n : ℕ) → length ts ≡ n → every (overFloor floor) ts ≡ true → floorFull cfg floor n ≡ floorWithin cfg floor ts
 unfolding floorWithin
 full cfg none ts n e h = refl
-full cfg (some f) ts n e h = rw (e, h) (sym (and-true (allowed (cfg .c) f && eqb n (cfg .d + 1))))
+full cfg (some f) ts n e h = rw (e, over-above cfg f ts h) (sym (and-true (allowed (cfg .c) f && eqb n (cfg .d + 1))))
 
 -- the state's clauses, where those of the tags hold
 by-full : (cfg : Config) (s : State) {me highest full : Bool}
@@ -96,25 +104,28 @@ returns-5 c e =
     (h .before .floor-full .ensures) (h .if4 .left) _
     (no-floor (a .cfg) (a .s) _ (c .before .enum-told .given .1) (c .spread .ensures)) e
 
-full-requires : tie.Need-full-requires
-full-requires c κs = c .before .before .before .before .before .before .before .before .before .before .before .before .before .before .before .before .pre .c-high
+past-requires : tie.Need-past-requires
+past-requires c κs = search needs
+
+eight-requires : tie.Need-eight-requires
+eight-requires c κs = c .before .before .before .before .before .before .before .before .before .before .before .before .before .before .before .before .before .pre .c-high
 
 returns-6 : tie.Need-returns-6
 returns-6 c e =
-    let h = c .before .before .before .before .before in
+    let h = c .before .before .before .before .before .before in
     let a = h .before .before .before .before .before .before .before .before .before .before .before .before .args in
     by-full _ _ (h .before .before .before .before .before .before .before .before .before .before .server-within .ensures) (h .before .before .before .before .before .before .before .before .before .if1 .left)
     (h .before .before .before .before .before .before .before .allowed .ensures) (h .before .before .before .before .before .before .if2 .left) (h .before .before .before .if3 .left)
     (h .before .floor-full .ensures) (h .if4 .left) _
-    (above-floor (a .cfg) (a .s) _ 8 _ (c .before .before .before .floor .given .1) (c .before .if5 .taken) (c .full .ensures)) e
+    (above-floor (a .cfg) (a .s) _ 8 _ (c .before .before .before .before .floor .given .1) (c .before .before .if5 .taken) (c .eight .ensures _ (omega (arith, c .before .past .ensures)))) e
 
-base-requires : tie.Need-base-requires
-base-requires c κs = search needs
+past-requires-2 : tie.Need-past-requires-2
+past-requires-2 c κs = search needs
 
 risen-requires : tie.Need-risen-requires
 risen-requires c κs =
     let p = c .before .before .before .before .before .before .before .before .before .before .before .before .before .before .before .before .before .pre in
-    (p .c-high, c .base .ensures .0, omega (arith, p .d-high, c .before .before .before .before .before .before .before .before .if3 .left))
+    (p .c-high, omega (arith, p .d-high, c .before .before .before .before .before .before .before .before .if3 .left))
 
 returns-7 : tie.Need-returns-7
 returns-7 c e =
@@ -123,7 +134,7 @@ returns-7 c e =
     by-full _ _ (h .before .before .before .before .before .before .before .before .before .before .server-within .ensures) (h .before .before .before .before .before .before .before .before .before .if1 .left)
     (h .before .before .before .before .before .before .before .allowed .ensures) (h .before .before .before .before .before .before .if2 .left) (h .before .before .before .if3 .left)
     (h .before .floor-full .ensures) (h .if4 .left) _
-    (above-floor (a .cfg) (a .s) _ (a .s .count) _ (c .before .before .before .before .floor .given .1) refl (c .risen .ensures _ (c .before .base .ensures .1))) e
+    (above-floor (a .cfg) (a .s) _ (a .s .count) _ (c .before .before .before .before .floor .given .1) refl (c .risen .ensures _ (omega (arith, c .before .past2 .ensures)))) e
 
 pub quick-spec : {M : Type 1} → statement M
 quick-spec =
@@ -142,8 +153,9 @@ quick-spec =
     enum-told
     spread-requires
     returns-5
-    full-requires
+    past-requires
+    eight-requires
     returns-6
-    base-requires
+    past-requires-2
     risen-requires
     returns-7)

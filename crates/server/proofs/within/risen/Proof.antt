@@ -39,8 +39,8 @@ less-requires c κs = search needs
 returns : tie.Need-returns Inv-loop μ-loop
 returns c = λ f h. spread-no _ _ _
 
-rank-requires : tie.Need-rank-requires Inv-loop μ-loop
-rank-requires c κs = search needs
+packed-requires : tie.Need-packed-requires Inv-loop μ-loop
+packed-requires c κs = search needs
 
 returns-2 : tie.Need-returns-2 Inv-loop μ-loop
 returns-2 c = λ f h. spread-no _ _ _
@@ -60,8 +60,8 @@ loop-again c =
     let b = c .before .before .before .before .before .before .before in (
       omega (arith, l .inv .0),
       over-one (b .args .clients) (b .args .low) (tagAt (b .args .t4)) (l .seen) (l .i) (b .args .count) (c .before .before .before .before .before .loop-test .taken) (l .inv .0) (l .inv .1)
-          (b .pre .0) (b .pre .1) _ _ (c .before .before .before .before .less .ensures) (omega (arith, c .before .before .before .if1 .left))
-          (c .before .before .rank .ensures) (omega (arith, c .before .if2 .left)) (c .if3 .left),
+          (b .pre .0) _ _ (c .before .before .before .before .less .ensures) (omega (arith, c .before .before .before .if1 .left))
+          (c .before .before .packed .ensures) (omega (arith, c .before .if2 .left)) (c .if3 .left),
     )
 
 returns-4 : tie.Need-returns-4 Inv-loop μ-loop
@@ -84,7 +84,7 @@ risen-spec =
     element-copy-out-n
     less-requires
     returns
-    rank-requires
+    packed-requires
     returns-2
     shl-next
     returns-3

@@ -58,7 +58,7 @@ pub record Ranks : Type 0 where
   pub rank-next : above clinician (tag 1 1) (tag 1 2) ≡ true
   pub not-lower : above clinician (tag 1 2) (tag 1 1) ≡ false
   pub client-last : above equal (tag 1 2) (tag 1 1) ≡ true
-  -- "the starting tag has rank 0"
+  -- "the starting tag has rank 0"; every other is above it by its number
   pub starting : rank clinician 0 ≡ 0
   pub above-starting : above (ranked 0 0 0) (tag 1 1) start ≡ true
   -- "the clinician's change is the later one": the other is dropped

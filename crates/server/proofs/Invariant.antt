@@ -1,6 +1,6 @@
 -- What a server keeps stays within question 6: the protocol's step leads from such a server to such a server. Assumes nothing.
 use mathlib.Core.Path.{_≡_, refl, sym, _∙_, ap, ap₂}
-use mathlib.Core.Bool.{Bool, true, false, cond, _&&_, _||_, true≢false}
+use mathlib.Core.Bool.{Bool, true, false, cond, _||_, true≢false}
 use mathlib.Core.List.{List, [], _∷_, _++_}
 use mathlib.Core.Logic.{⊎-elim}
 use mathlib.Core.Option.{Option, none, some}
@@ -24,7 +24,7 @@ use Rattle.protocol.specs.Server.{Server, Stored, addLast, atOrBelowFloor, drop
 use Rattle.protocol.specs.Tags.{higher, lower}
 use Rattle.protocol.proofs.Basics.{or-left, or-right}
 use Rattle.server.specs.Within.{among, every, floorWithin, storedLengths, lengthsWithin, once, serverWithin, tagsOf, tagsWithin}
-use Rattle.server.proofs.Limits.{within-allowed, within-count, within-floor, within-highest, within-once}
+use Rattle.server.proofs.Limits.{floor-count, within-allowed, within-count, within-floor, within-highest, within-once}
 use Rattle.server.proofs.Tags.{both, every-in, every-last, in-every, lowest-all, lowest-first, lowest-in, lowestOf, once-last, once-replaced, replaced, replaced-gone, replaced-in, replaced-long}
 
 -- the clauses together
@@ -89,12 +89,7 @@ module _ (cfg : Config) (valid : Valid cfg) (highest : Tag) (floor : Option Tag)
   unfolding floorWithin
   floor-room none h lt us = refl
   floor-room (some f) h lt us =
-      absurd (omega (
-        arith,
-        eqb-true (length ts) (cfg .d + 1)
-            (and-right (allowed (cfg .c) f) (eqb (length ts) (cfg .d + 1))
-            (and-left (allowed (cfg .c) f && eqb (length ts) (cfg .d + 1)) (every (λ (x : Tag). above cfg x f) ts) h)),
-      ))
+      absurd (omega (arith, lt, floor-count cfg f ts h))
 
   pub within-last : length ts < cfg .d + 1 → tagsWithin cfg highest floor (ts ++ t ∷ []) ≡ true
   within-last lt =

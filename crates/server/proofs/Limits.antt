@@ -1,25 +1,41 @@
 -- What question 6 tells of a state. Assumes nothing.
 use mathlib.Core.Path.{_≡_}
-use mathlib.Core.Bool.{Bool, true, false}
+use mathlib.Core.Bool.{Bool, true, false, _&&_}
 use mathlib.Core.List.{List, [], _∷_}
-use mathlib.Core.Option.{Option}
+use mathlib.Core.Option.{Option, some}
 use Prim.Native.Nat.{ℕ, _+_, _≤_, _<_}
 use native.Mathlib.Omega.{arith}
-use borrow.Author.Tests.{leb-true}
+use borrow.Author.Tests.{eqb-true, leb-true}
 use lib.ListN.{length, getD}
-use lib.Dec.{leb}
+use lib.Dec.{eqb, leb}
 use Rattle.config.specs.declared.Config.{Config}
 use Rattle.config.specs.Config.{Valid, boardLength}
 use Rattle.config.specs.Number.{serverNumber}
 use Rattle.config.specs.Questions.{within}
 use Rattle.laws.proofs.Bools.{and-left, and-right}
 use Rattle.tag.specs.declared.Tag.{Tag}
-use Rattle.tag.specs.Tag.{allowed}
+use Rattle.tag.specs.Tag.{above, allowed}
 use Rattle.record.proofs.Clauses.{all-at}
 use Rattle.server.specs.declared.State.{State}
 use Rattle.server.specs.Within.{every, floorWithin, lengthsWithin, numbersWithin, once, stateWithin, tagsWithin}
 use Rattle.server.specs.View.{floorOf, lengthsUsed, storedLength, tagAt, tagsUsed}
 use Rattle.server.proofs.Each.{every-at, length-each}
+
+-- the clauses of a floor
+module _ (cfg : Config) (f : Tag) (ts : List Tag) (h : floorWithin cfg (some f) ts ≡ true) where
+  first-two : (allowed (cfg .c) f && eqb (length ts) (cfg .d + 1)) ≡ true
+  unfolding floorWithin
+  first-two = and-left (allowed (cfg .c) f && eqb (length ts) (cfg .d + 1)) (every (λ (t : Tag). above cfg t f) ts) h
+
+  pub floor-allowed : allowed (cfg .c) f ≡ true
+  floor-allowed = and-left (allowed (cfg .c) f) (eqb (length ts) (cfg .d + 1)) first-two
+
+  pub floor-count : length ts ≡ cfg .d + 1
+  floor-count = eqb-true (length ts) (cfg .d + 1) (and-right (allowed (cfg .c) f) (eqb (length ts) (cfg .d + 1)) first-two)
+
+  pub floor-every : every (λ (t : Tag). above cfg t f) ts ≡ true
+  unfolding floorWithin
+  floor-every = and-right (allowed (cfg .c) f && eqb (length ts) (cfg .d + 1)) (every (λ (t : Tag). above cfg t f) ts) h
 
 -- the clauses of what a server keeps
 abbrev withinClauses : Config → Tag → Option Tag → List Tag → List Bool

@@ -16,6 +16,7 @@ use Rattle.tag.specs.declared.Tag.{Tag}
 use Rattle.tag.specs.Tag.{above, allowed, plainAbove, plainKey}
 use Rattle.tag.proofs.Order.{allowed-client}
 use Rattle.tag.proofs.Ranks.{equal-above}
+use Rattle.record.specs.Element.{Element}
 use Rattle.record.specs.Record.{messageOf}
 use Rattle.record.proofs.Clauses.{its-client, its-tag}
 use Rattle.protocol.specs.Number.{toList}
@@ -29,8 +30,7 @@ use Rattle.server.specs.View.{view}
 use Rattle.server.proofs.Asked.{step-accepted}
 use Rattle.server.proofs.Invariant.{tags-of}
 use Rattle.server.proofs.Laws.{server-within}
-use Rattle.server.proofs.Limits.{within-allowed, within-floor, within-highest}
-use Rattle.record.specs.Element.{Element}
+use Rattle.server.proofs.Limits.{floor-allowed, within-allowed, within-floor, within-highest}
 
 module _ (cfg : Config) (equal : RanksEqual cfg) where
   every-equal : (f : Tag) → allowed (cfg .c) f ≡ true → (ts : List Tag) → every (allowed (cfg .c)) ts ≡ true
@@ -56,13 +56,10 @@ module _ (cfg : Config) (equal : RanksEqual cfg) where
 -- the tags of a server that passes question 6 are of the clients
 module _ (cfg : Config) where
   floor-limited : (f : Option Tag) (ts : List Tag) → floorWithin cfg f ts ≡ true → Every (Limited (cfg .c)) (toList f)
-  unfolding floorWithin toList
+  unfolding toList
   floor-limited none ts h = no-one
   floor-limited (some f) ts h =
-      one-more
-      (allowed-client (cfg .c) f
-      (and-left (allowed (cfg .c) f) (eqb (length ts) (cfg .d + 1)) (and-left (allowed (cfg .c) f && eqb (length ts) (cfg .d + 1)) (every (λ (t : Tag). above cfg t f) ts) h)))
-      no-one
+      one-more (allowed-client (cfg .c) f (floor-allowed cfg f ts h)) no-one
 
   stored-limited : (xs : List (Stored Element)) → every (allowed (cfg .c)) (tagsOf xs) ≡ true → Every (λ (x : Stored Element). Limited (cfg .c) (x .tag)) xs
   unfolding every tagsOf

@@ -1,15 +1,13 @@
 -- Of the tags received the D + 1 highest are stored, and the floor, if any, is the highest dropped. Assumes nothing.
 use mathlib.Core.Path.{_≡_, refl, sym, _∙_, ap}
-use mathlib.Core.Bool.{true, false, _&&_, _||_, true≢false}
+use mathlib.Core.Bool.{true, false, _||_, true≢false}
 use mathlib.Core.List.{List, [], _∷_}
 use mathlib.Core.Logic.{_⊎_, inl, inr, ⊎-elim}
 use mathlib.Core.Option.{Option, none, some}
 use Prim.Native.Nat.{ℕ, _+_, _≤_, _<_}
 use native.Mathlib.Decide.{ℕ-discrete}
 use native.Mathlib.Omega.{arith}
-use borrow.Author.Tests.{eqb-true, le-leb, leb-false, leb-true}
-use lib.Dec.{eqb}
-use lib.ListN.{length}
+use borrow.Author.Tests.{le-leb, leb-false, leb-true}
 use Rattle.config.specs.declared.Config.{Config}
 use Rattle.config.specs.Config.{Valid}
 use Rattle.laws.proofs.Bools.{and-left, and-right}
@@ -22,7 +20,7 @@ use Rattle.record.specs.Message.{Message}
 use Rattle.protocol.specs.Server.{Server, Stored, addLast, atOrBelowFloor, finalised, freshServer, inPlaceOf, preWrite, query, readFinalise, serverStep, serverStepOf, store, storeElement, writeFinalise}
 use Rattle.server.specs.Within.{among, every, floorWithin, tagsOf}
 use Rattle.server.specs.Received.{Highest, eachAllowed, holds, receive, receivedAfter, serverAfter, withTag}
-use Rattle.server.proofs.Limits.{within-allowed, within-count, within-floor, within-once}
+use Rattle.server.proofs.Limits.{floor-allowed, floor-count, floor-every, within-allowed, within-count, within-floor, within-once}
 use Rattle.server.proofs.Invariant.{finalised-tags, floored, fresh-tags, serverTags, store-cases, store-tags, tags-last, tags-long, tags-replaced}
 use Rattle.server.proofs.Tags.{among-last, both, every-in, lowest-in, lowestOf, not-in, or-first, or-second, or-true, replaced, replaced-in, replaced-keeps, replaced-new}
 
@@ -56,25 +54,12 @@ no-floor f e = let z : _≡_ {A = ℕ} 0 1 = cc in omega arith
 
 -- a floor within its limits: the stored tags are above it
 module _ (cfg : Config) (valid : Valid cfg) (f : Tag) (ts : List Tag) (all : every (allowed (cfg .c)) ts ≡ true) (h : floorWithin cfg (some f) ts ≡ true) where
-  pub floor-allowed : allowed (cfg .c) f ≡ true
-  unfolding floorWithin
-  floor-allowed =
-      and-left (allowed (cfg .c) f) (eqb (length ts) (cfg .d + 1)) (and-left (allowed (cfg .c) f && eqb (length ts) (cfg .d + 1)) (every (λ (x : Tag). above cfg x f) ts) h)
-
-  pub floor-count : length ts ≡ cfg .d + 1
-  unfolding floorWithin
-  floor-count =
-      eqb-true (length ts) (cfg .d + 1)
-      (and-right (allowed (cfg .c) f) (eqb (length ts) (cfg .d + 1)) (and-left (allowed (cfg .c) f && eqb (length ts) (cfg .d + 1)) (every (λ (x : Tag). above cfg x f) ts) h))
-
   pub floor-above : (x : Tag) → among x ts ≡ true → above cfg x f ≡ true
-  unfolding floorWithin
-  floor-above x i =
-      every-in (λ (y : Tag). above cfg y f) ts x (and-right (allowed (cfg .c) f && eqb (length ts) (cfg .d + 1)) (every (λ (x : Tag). above cfg x f) ts) h) i
+  floor-above x i = every-in (λ (y : Tag). above cfg y f) ts x (floor-every cfg f ts h) i
 
   pub floor-key : (x : Tag) → among x ts ≡ true → key cfg f < key cfg x
   floor-key x i =
-      above-key cfg valid x f (small cfg valid x (every-in (allowed (cfg .c)) ts x all i)) (small cfg valid f floor-allowed) (floor-above x i)
+      above-key cfg valid x f (small cfg valid x (every-in (allowed (cfg .c)) ts x all i)) (small cfg valid f (floor-allowed cfg f ts h)) (floor-above x i)
 
 module _ {Element : Type 0} (cfg : Config) (valid : Valid cfg) (received : List Tag) (v : Server Element) (k : Knows cfg received v) (y : Stored Element)
     (ok : allowed (cfg .c) (y .tag) ≡ true) where
@@ -312,7 +297,7 @@ module _ {Element : Type 0} (cfg : Config) (valid : Valid cfg) (received : List 
         stored = k .stored;
         above = above-by (v .floor) refl;
         all = all-by;
-        count = λ f e. sym (tags-long (v .stored)) ∙ floor-count cfg valid f held allowed-of (floor-of f e);
+        count = λ f e. sym (tags-long (v .stored)) ∙ floor-count cfg f held (floor-of f e);
         dropped =
             λ f e. (
               k .floor f e,

@@ -9,6 +9,7 @@
 #include <stdlib.h>
 #include <string.h>
 #include <time.h>
+#include "../package/coded_board.h"
 #ifdef WITH_JERASURE
 #include <jerasure.h>
 #endif
@@ -16,12 +17,15 @@
 #include <isa-l.h>
 #endif
 
-// The proved archives: a slice is a pointer and a length. The answer is the refusal's number, or 0.
-typedef uint8_t Encode(size_t n, size_t k, size_t e, const uint8_t *board, size_t board_len, uint8_t s, uint8_t *element, size_t element_len);
-typedef uint8_t Decode(size_t n, size_t k, size_t e, const uint8_t *servers, size_t servers_len, const uint8_t *elements,
-                       size_t elements_len, uint8_t *board, size_t board_len);
-Encode coded_encode, before_encode;
-Decode coded_decode, before_decode;
+// The archives' calls, with a number other than 0 for a refusal
+typedef __typeof__(coded_encode) Encode;
+typedef __typeof__(coded_decode) Decode;
+#ifdef WITH_EXPORTS
+#include "exports.h"
+#else
+Encode before_encode;
+Decode before_decode;
+#endif
 
 enum { N = 16, E = 64, V = N * E };
 enum { RECORD = 80, PLACE = 16, GUARD = 64 }; // a record's bytes, where its element begins, the bytes before and behind all records
@@ -93,6 +97,7 @@ __attribute__((noinline)) static void text_decode(int k, int e, const uint8_t *s
 // ---- a job: encode all N elements of the board; decode from the k highest servers, the inversion counted
 typedef struct {
     int n, k, e;
+    uint8_t config[CODED_CONFIG];         // with D 0, and a client of rank 0
     uint8_t board[V], all[V], decoded[V]; // all: the textbook's elements of all servers
     uint8_t servers[N], *elements;        // the k highest servers, and theirs among all
     alignas(64) uint8_t records[GUARD + N * RECORD + GUARD];
@@ -111,10 +116,10 @@ static inline int place(int s) { return GUARD + (s - 1) * RECORD + PLACE; }
 
 static inline void archive_encode(Job *t, Encode *f) {
     for (int s = 1; s <= t->n; s++)
-        if (f(t->n, t->k, t->e, t->board, t->k * t->e, s, t->records + place(s), t->e)) abort();
+        if (f(t->config, CODED_CONFIG, t->board, t->k * t->e, s, t->records + place(s), t->e)) abort();
 }
 static inline void archive_decode(Job *t, Decode *f) {
-    if (f(t->n, t->k, t->e, t->servers, t->k, t->elements, t->k * t->e, t->decoded, t->k * t->e)) abort();
+    if (f(t->config, CODED_CONFIG, t->servers, t->k, t->elements, t->k * t->e, t->decoded, t->k * t->e)) abort();
 }
 
 static void encode_proved(Job *t) { archive_encode(t, coded_encode); }
@@ -195,6 +200,7 @@ static uint8_t draw(void) {
 
 static void configure(Job *t, const int *at) {
     t->n = at[0], t->k = at[1], t->e = at[2];
+    memcpy(t->config, (uint8_t[CODED_CONFIG]){at[0], at[1], 0, at[2], 1}, CODED_CONFIG);
     t->elements = t->all + (t->n - t->k) * t->e;
     for (int r = 0; r < t->k; r++) t->servers[r] = t->n - t->k + 1 + r;
     for (int i = 0; i < N; i++)
@@ -258,7 +264,7 @@ static void compare_starts(Job *t, const Method *m, int b) {
     for (int start = 0; start + t->e <= (int)sizeof buffer; start++) {
         int s = 1 + (start + b) % t->n;
         fill(buffer, sizeof buffer, b);
-        if (m->one(t->n, t->k, t->e, t->board, t->k * t->e, s, buffer + start, t->e)) abort();
+        if (m->one(t->config, CODED_CONFIG, t->board, t->k * t->e, s, buffer + start, t->e)) abort();
         unchanged(m, buffer, 0, start, b);
         same(m, "elements", buffer + start, t->all + (s - 1) * t->e, t->e);
         unchanged(m, buffer, start + t->e, sizeof buffer, b);

@@ -11,8 +11,9 @@ pub mod Quorum
 pub mod Ranks
 mod Receiving
 pub mod Seen
+pub mod Sends
 mod Sending
-mod Sets
+pub mod Sets
 mod Settling
 pub mod Shown
 mod Stepping

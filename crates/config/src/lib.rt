@@ -226,6 +226,12 @@ pub struct Server(u8);
 // A client's number, 1 to C of the configuration that it was made for.
 pub struct Client(u8);
 
+// The first server, which every configuration has.
+pub const FIRST_SERVER: Server = Server(1);
+
+// The first client, which every configuration has.
+pub const FIRST_CLIENT: Client = Client(1);
+
 pub enum NewServer {
     Made(Server),
     No(Refusal),

@@ -1,5 +1,5 @@
 -- The records of a buffer, and what they are after each call. Assumes nothing.
--- Of a buffer: `length-records`, `records-add`, `records-front`, `records-take`, `records-same`; `at-record`, `record-long`, `record-byte`.
+-- Of a buffer: `length-records`, `records-add`, `records-take`, `records-same`; `at-record`, `record-long`, `record-byte`.
 -- Of a buffer that was written in place behind the first n records: `records-stay`, `records-written`.
 -- Of whatever meets a call's contract: `take-..`, `remove-..`, `append-..`, `double-..`.
 use Prim.Native.Nat.{ℕ, zero, suc, _+_, _-_, _*_, _/_, _%_, _≤_, _<_}
@@ -17,6 +17,7 @@ use lib.Seq.{paste, length-paste, take-all, take-append-le, drop-append-le, drop
 use Rattle.laws.specs.Lists.{toList, without}
 use Rattle.laws.proofs.Bools.{and-left, and-right}
 use Rattle.laws.proofs.Lists.{at-past, drop-take, without-past, without-seam}
+use Rattle.record.proofs.Records.{records-front}
 use Rattle.flight.specs.Flight.{AppendPost, DoublePost, RemovePost, TakePost, appended, appends, doubles, fits, recordAt, recordLength, records, removed, stands}
 
 pub length-records : (n : ℕ) (bytes : List ℕ) → length (records n bytes) ≡ n
@@ -38,15 +39,6 @@ records-add (suc n) k bytes =
     ap (λ j. records j bytes) (suc-add n k)
     ∙ ap (_∷_ (take recordLength bytes)) (records-add n k (drop recordLength bytes)
     ∙ ap (λ b. records n (drop recordLength bytes) ++ records k b) (next n bytes))
-
--- records look no further than their end
-pub records-front : (n : ℕ) (xs ys : List ℕ) → recordLength * n ≤ length xs → records n (xs ++ ys) ≡ records n xs
-unfolding records
-records-front zero xs ys h = refl
-records-front (suc n) xs ys h =
-    ap₂ _∷_ (take-append-le recordLength xs ys (omega (arith, h)))
-    (ap (records n) (drop-append-le recordLength xs ys (omega (arith, h)))
-    ∙ records-front n (drop recordLength xs) ys (omega (arith, h, length-drop recordLength xs)))
 
 pub records-take : (n : ℕ) (bytes : List ℕ) → records n (take (recordLength * n) bytes) ≡ records n bytes
 unfolding records

@@ -7,15 +7,11 @@ use mathlib.Core.List.{List, [], _∷_}
 use lib.Dec.{eqb, leb, ltb}
 use lib.ListN.{length, take, drop, replicate}
 use lib.Seq.{paste}
+unfoldable pub use Rattle.record.specs.Records.{records}
 
 -- a record's bytes
 abbrev pub recordLength : ℕ
 recordLength = 80
-
--- the first n records
-unfoldable pub records : ℕ → List ℕ → List (List ℕ)
-records zero bytes = []
-records (suc n) bytes = take recordLength bytes ∷ records n (drop recordLength bytes)
 
 -- n records fit into a buffer
 abbrev pub fits : ℕ → List ℕ → Bool

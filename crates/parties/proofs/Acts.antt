@@ -34,7 +34,7 @@ use Rattle.protocol.specs.Parties.{withPair}
 use Rattle.parties.specs.declared.Acted.{Acted}
 use Rattle.parties.specs.declared.Pair.{Pair}
 use Rattle.parties.specs.Acts.{ActPost, Parts, among, answerOf, isRead, pairWithin}
-use Rattle.parties.specs.Sound.{Sound}
+use Rattle.protocol.specs.Sound.{Sound}
 use Rattle.parties.specs.inner.Acted.{endedBy, movedOn, refusing}
 
 module _ (cfg : Config) (number : ℕ) (act : BoardParties → BoardActed) (x : Pair) (l : Parts) (sends read : List ℕ) where

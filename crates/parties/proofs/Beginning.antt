@@ -35,10 +35,10 @@ use Rattle.protocol.proofs.Pairs.{begin-pair}
 use Rattle.parties.specs.declared.Acted.{Acted}
 use Rattle.parties.specs.declared.Pair.{Pair}
 use Rattle.parties.specs.Acts.{ActPost, begins, parts}
-use Rattle.parties.specs.Sound.{Sound}
+use Rattle.protocol.specs.Sound.{Sound}
 use Rattle.parties.specs.inner.Acted.{movedOn}
 use Rattle.parties.proofs.Acts.{client-act}
-use Rattle.parties.proofs.Formed.{begun-sound}
+use Rattle.protocol.proofs.Formed.{begun-sound}
 
 -- what it shows that no question of a beginning is answered no, 9 to 11 among them
 module _ (cfg : Config) (sized : Bool) (x : client.State) (others : List Question) (h : firstNo (callQuestions cfg sized x others) ≡ 0)

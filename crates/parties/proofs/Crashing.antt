@@ -28,7 +28,7 @@ use Rattle.parties.specs.declared.Pair.{Pair}
 use Rattle.parties.specs.Acts.{ActPost, Parts, crashesClient, crashesServer}
 use Rattle.parties.specs.inner.Acted.{endedBy, movedOn, quietly, refusing}
 use Rattle.parties.proofs.Acts.{accepted-act, refused-act}
-use Rattle.parties.proofs.Sound.{sound-none}
+use Rattle.protocol.proofs.Sound.{sound-none}
 use Rattle.client.proofs.Phases.{self-in}
 use Rattle.client.specs.Send.{recordsOf}
 

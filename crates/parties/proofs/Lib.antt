@@ -4,6 +4,5 @@ pub mod Crashing
 pub mod Formed
 pub mod Making
 pub mod Owned
-pub mod Sound
 pub mod ToClient
 pub mod ToServer

@@ -54,7 +54,8 @@ use Rattle.parties.specs.declared.Pair.{Pair}
 use Rattle.parties.specs.Acts.{ActPost, ClientPost, Parts, among, answerOf, delivers, parts, toClientQuestions}
 use Rattle.parties.specs.inner.Acted.{endedBy, movedOn, quietly, refusing}
 use Rattle.parties.proofs.Acts.{accepted-act, its-answer, not-read, refused-act}
-use Rattle.parties.proofs.Formed.{NumberedPhase, client-seen-fits, step-fits}
+use Rattle.protocol.proofs.Formed.{step-fits}
+use Rattle.parties.proofs.Formed.{NumberedPhase, client-seen-fits}
 
 -- ---- a step that sends takes no element and ends nothing
 

@@ -39,11 +39,12 @@ use Rattle.protocol.proofs.Pairs.{deliver-down, deliver-up}
 use Rattle.parties.specs.declared.Acted.{Acted}
 use Rattle.parties.specs.declared.Pair.{Pair}
 use Rattle.parties.specs.Acts.{ActPost, Parts, among, delivers, pairWithin, parts}
-use Rattle.parties.specs.Sound.{Sound}
+use Rattle.protocol.specs.Sound.{Sound}
 use Rattle.parties.specs.inner.Acted.{quietly, refusing, steppedOn, withState}
 use Rattle.parties.proofs.Acts.{accepted-act, refused-act}
-use Rattle.parties.proofs.Formed.{NumberedServer, answer-sound, server-seen-fits}
-use Rattle.parties.proofs.Sound.{sound-first, sound-none}
+use Rattle.protocol.proofs.Formed.{answer-sound}
+use Rattle.parties.proofs.Formed.{NumberedServer, server-seen-fits}
+use Rattle.protocol.proofs.Sound.{sound-first, sound-none}
 
 -- a record is at the front of a buffer of its length
 front-one : (cfg : Config) (m : BoardMessage) (answer answer′ : List ℕ) → answer′ ≡ recordOf cfg m → length answer′ ≡ length answer

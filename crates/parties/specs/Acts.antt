@@ -25,7 +25,7 @@ use Rattle.protocol.specs.Parties.{withPair}
 use Rattle.parties.specs.declared.Acted.{Acted}
 use Rattle.parties.specs.declared.Answer.{Answer}
 use Rattle.parties.specs.declared.Pair.{Pair}
-use Rattle.parties.specs.Sound.{Sound}
+use Rattle.protocol.specs.Sound.{Sound}
 
 -- the parts of the buffers that are the two's: the server's store, the board that the client keeps to write, the elements that it has
 -- received

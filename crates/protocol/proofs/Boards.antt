@@ -14,7 +14,7 @@ use Rattle.code.specs.Decoded.{decodedPairs, risingAbove}
 use Rattle.code.specs.Element.{element}
 use Rattle.code.proofs.Decoding.{decode-pairs}
 use Rattle.record.specs.Element.{Element}
-use Rattle.protocol.specs.Boards.{Board, Filled, IsBoard, boardOf, bytesSent, decode, encode, fitsIn, lowestLength, order, BoardRig, BoardCall, BoardEvent, BoardExecution, BoardAtomic, freshRig, run}
+use Rattle.protocol.specs.Boards.{Board, Filled, IsBoard, boardOf, bytesSent, decode, encode, fitsIn, lowestLength, order, BoardRig, BoardCall, BoardEvent, BoardExecution, BoardHosted, BoardMessage, BoardParties, BoardAtomic, freshRig, run}
 use Rattle.protocol.specs.Endings.{EndsOne}
 use Rattle.protocol.specs.Laws.{TagOrder, Coding, Rising, ElementsOf}
 use Rattle.protocol.proofs.Cut.{filled-is}
@@ -90,3 +90,13 @@ module _ (cfg : Config) (valid : Valid cfg) (start : Board) (isBoard : IsBoard c
   pub ends-one : {r : BoardRig} {events : List BoardEvent} → BoardExecution cfg start r events → EndsOne events
   ends-one =
       theorem.ends-one cfg (order cfg) (tag-order cfg valid) (IsBoard cfg) (encode cfg) (decode cfg) (coding cfg valid) (valid .k-low) start isBoard
+
+  -- The same of every run of hosts, of the list of the clients' calls.
+  pub hosted-atomic : {p : BoardParties} {sent : List BoardMessage} {events : List BoardEvent} → BoardHosted cfg start p sent events
+      → BoardAtomic cfg start events
+  hosted-atomic =
+      theorem.hosted-atomic cfg (order cfg) (tag-order cfg valid) (IsBoard cfg) (encode cfg) (decode cfg) (coding cfg valid) (valid .k-low) start isBoard
+
+  pub hosted-ends-one : {p : BoardParties} {sent : List BoardMessage} {events : List BoardEvent} → BoardHosted cfg start p sent events → EndsOne events
+  hosted-ends-one =
+      theorem.hosted-ends-one cfg (order cfg) (tag-order cfg valid) (IsBoard cfg) (encode cfg) (decode cfg) (coding cfg valid) (valid .k-low) start isBoard

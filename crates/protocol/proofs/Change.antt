@@ -62,7 +62,7 @@ module _ (S : Setting) where
       server-rises = record { high = rises-at; number = λ c. le-refl _; base = λ c e z. refl; bytes = λ n w e. e }
 
       -- server s is changed, and sends
-      pub server-changed : (sends : List (Message Element)) → GoodServer S (know S ps g) s v → ((m : Message Element) → List·Memᴰ m sends → GoodMessage S (know S (withServer ps s v) g) m) → Good S (withServer ps s v) (ms ++ sends) g (now + 1)
+      pub server-changed : (sends : List (Message Element)) → GoodServer S (know S ps g) s v → ((m : Message Element) → List·Memᴰ m sends → GoodMessage S (know S (withServer ps s v) g) m) → Good S (withServer ps s v) (ms ++ sends) g now
       unfolding withServer know
       server-changed sends good sent =
           let up = server-rises in
@@ -74,7 +74,7 @@ module _ (S : Setting) where
                 (λ n. server-up S up (a .servers z));
             base = λ c z. omega (arith, a .base c z, rises-at z);
             clients = λ c. phase-up S up (keeps-refl S g c) refl (ps .clients c .phase) (a .clients c);
-            log = log-up S up (λ n. refl) (omega arith) (a .log);
+            log = log-up S up (λ n. refl) (le-refl now) (a .log);
           }
 
     -- client c is changed, and sends; the record is changed with it

@@ -30,12 +30,12 @@ abbrev pub decode : List (ℕ × ℕ) → ℕ
 decode [] = 0
 decode (x ∷ xs) = x .1
 
-tags : TagOrder config (key config)
+pub tags : TagOrder config (key config)
 unfolding firstNo questions ranksWithin rank allBelow
 tags = tag-order config (valid config refl)
 
 -- one element is the board
-coding : Coding config (λ (v : ℕ). Unit {0}) encode decode
+pub coding : Coding config (λ (v : ℕ). Unit {0}) encode decode
 unfolding ElementsOf
 coding = record { back = back }
   where

@@ -32,6 +32,7 @@ pub mod Alike
 pub mod Limited
 pub mod EqualRanks
 mod Move
+mod Hosts
 mod Sort
 mod Replay
 mod Order
@@ -48,3 +49,8 @@ mod ShortBoards
 mod Lengths
 mod Cleared
 mod Ties
+mod HostsExample
+pub mod Few
+pub mod Sound
+pub mod Formed
+pub mod Hosted

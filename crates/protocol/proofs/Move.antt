@@ -82,10 +82,10 @@ module _ (S : Setting) where
   more h x = length-append h (x ∷ [])
 
   -- what the parties do, with these messages in flight, leaves a good record; nothing is begun
-  abbrev Turned : Ghost S → ℕ → List (Message Element) → Acted Value Element → Type 0
+  abbrev pub Turned : Ghost S → ℕ → List (Message Element) → Acted Value Element → Type 0
   Turned g now ms x = (g′ : Ghost S) × Good S (x .parties) (ms ++ x .sends) g′ (now + 1) × Outcome S g g′ now (x .answer)
 
-  turned : {r : Rig Value Element} {h : List (Event Value)} (a : Invariant r h) (call : Call Value) (w : Code) → codeOf (call .code) ≡ some w → eqb (codeNumber w) 1 ≡ false → eqb (codeNumber w) 2 ≡ false → (ms : List (Message Element)) (x : Acted Value Element) → Turned (a .ghost) (length h) ms x → Invariant (leaves ms x .rig) (h ++ (record { call = call; answer = leaves ms x .answer } ∷ []))
+  pub turned : {r : Rig Value Element} {h : List (Event Value)} (a : Invariant r h) (call : Call Value) (w : Code) → codeOf (call .code) ≡ some w → eqb (codeNumber w) 1 ≡ false → eqb (codeNumber w) 2 ≡ false → (ms : List (Message Element)) (x : Acted Value Element) → Turned (a .ghost) (length h) ms x → Invariant (leaves ms x .rig) (h ++ (record { call = call; answer = leaves ms x .answer } ∷ []))
   unfolding leaves
   turned {h = h} a call w coded one two ms x left =
       record {
@@ -121,7 +121,7 @@ module _ (S : Setting) where
     deliver-good m good =
         cond-elim (Turned g now ms) (isForServer (m .kind)) (cond (ps .up (m .server)) (serverActs ps (m .server) (serverStep key (cfg .d) (m .server) (ps .servers (m .server)) m)) (quiet ps)) (clientActs ps (m .client) (clientStep key encode decode cfg (m .client) (ps .clients (m .client)) m))
         (λ e. cond-elim (Turned g now ms) (ps .up (m .server)) (serverActs ps (m .server) (serverStep key (cfg .d) (m .server) (ps .servers (m .server)) m)) (quiet ps)
-        (λ f. (g, server-good S a m good, still refl refl refl))
+        (λ f. (g, later S (server-good S a m good), still refl refl refl))
         (λ f. quiet-good))
         (λ e. client-good S a m good)
 
@@ -171,7 +171,7 @@ module _ (S : Setting) where
     unfolding begin clientActs beginClient
     begun-good = client-began S (a .good) c board was-idle low high isBoard
 
-    begun-invariant : Invariant (leaves (r .inFlight) (begin cfg ps c board) .rig) (h ++ (record { call = call; answer = leaves (r .inFlight) (begin cfg ps c board) .answer } ∷ []))
+    pub begun-invariant : Invariant (leaves (r .inFlight) (begin cfg ps c board) .rig) (h ++ (record { call = call; answer = leaves (r .inFlight) (begin cfg ps c board) .answer } ∷ []))
     unfolding leaves begin clientActs beginClient answerOf isAccepted names
     begun-invariant =
         record {
@@ -197,7 +197,7 @@ module _ (S : Setting) where
       }
 
   -- the questions of a client that is to begin
-  begin-asked : (ps : Parties Value Element) (c : ℕ) → firstNo (questionsToBegin cfg ps c) ≡ 0 → (within 1 (cfg .c) c ≡ true) × (isIdle (ps .clients c .phase) ≡ true)
+  pub begin-asked : (ps : Parties Value Element) (c : ℕ) → firstNo (questionsToBegin cfg ps c) ≡ 0 → (within 1 (cfg .c) c ≡ true) × (isIdle (ps .clients c .phase) ≡ true)
   unfolding questionsToBegin beginQuestions
   begin-asked ps c e =
       let x = ps .clients c in

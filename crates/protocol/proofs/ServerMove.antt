@@ -39,7 +39,7 @@ module _ (S : Setting) where
 
     -- what the server's step leaves is good
     abbrev Left : Served Element → Type 0
-    Left o = Good S (withServer ps s (o .server)) (ms ++ toList (o .answer)) g (now + 1)
+    Left o = Good S (withServer ps s (o .server)) (ms ++ toList (o .answer)) g now
 
     -- an answer to m is good, once server s has the state w
     reply-good : (w : Server Element) (kind : Kind) (t : Tag) (e : Option Element) (known : Known S (know S ps g) t) → key (v .highest) ≤ key (w .highest) → ((x : Element) → e ≡ some x → x ≡ encode (known .board) s) → (kindNumber kind ≡ 2 → g .base (m .client) s ≤ key t) → (kindNumber kind ≡ 6 → key t ≤ key (w .highest)) → (kindNumber kind ≡ 8 → key t ≤ key (w .highest)) → GoodMessage S (know S (withServer ps s w) g) (answerTo s m kind t e)

@@ -22,6 +22,7 @@ use Rattle.protocol.specs.Client as client
 use Rattle.protocol.specs.Board as board
 use Rattle.protocol.specs.Parties as parties
 use Rattle.protocol.specs.Rig as rig
+use Rattle.protocol.specs.Hosts as hosts
 use Rattle.protocol.specs.Rig.{Code}
 
 -- a board has a length and bytes
@@ -178,6 +179,17 @@ module _ (cfg : Config) where
   -- executions, and what is to be shown of their events
   abbrev pub BoardExecution : Board → BoardRig → List BoardEvent → Type 0
   BoardExecution = rig.Execution (order cfg) (encode cfg) (decode cfg) cfg (IsBoard cfg)
+
+  -- runs of hosts
+  abbrev pub BoardHosted : Board → BoardParties → List BoardMessage → List BoardEvent → Type 0
+  BoardHosted = hosts.Hosted (order cfg) (encode cfg) (decode cfg) cfg (IsBoard cfg)
+
+  -- the server, or the client, that a message is for does its step
+  abbrev pub served : BoardParties → BoardMessage → BoardActed
+  served = hosts.served (order cfg) (encode cfg) (decode cfg) cfg
+
+  abbrev pub stepped : BoardParties → BoardMessage → BoardActed
+  stepped = hosts.stepped (order cfg) (encode cfg) (decode cfg) cfg
 
   -- "A read must return the length of the nearest write and that many of its bytes, zeros after, and the starting board has length V; that is
   -- what the single board now keeps and shows."

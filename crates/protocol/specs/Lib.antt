@@ -7,5 +7,7 @@ pub mod Endings
 pub mod Parties
 pub mod Rig
 pub mod Alike
+pub mod Hosts
 pub mod Laws
 pub mod Boards
+pub mod Sound

@@ -47,7 +47,7 @@ joined n p q r a b c d e f g h = omega arith
 low-digit : (q r x : ℕ) → r < 256 → x ≡ q * 256 + r → (x % 256 ≡ r) × (x / 256 ≡ q)
 low-digit q r x h e = (ap (λ (y : ℕ). y % 256) e ∙ digits-mod q h, ap (λ (y : ℕ). y / 256) e ∙ digits-div q h)
 
-four-number : (n : ℕ) → n ≤ highestNumber → littleEndian (n % 256) (n / 256 % 256) (n / 65536 % 256) (n / 16777216 % 256) ≡ n
+pub four-number : (n : ℕ) → n ≤ highestNumber → littleEndian (n % 256) (n / 256 % 256) (n / 65536 % 256) (n / 16777216 % 256) ≡ n
 four-number n h =
     let p = n / 256 in
     let q = n / 65536 in
@@ -107,7 +107,7 @@ zero-list (b ∷ bs) h =
     ap₂ {A = ℕ} (λ (x : ℕ) (l : List ℕ). x ∷ l) (eqb-true b 0 (and-left (eqb b 0) (allZero bs) h)) (zero-list bs (and-right (eqb b 0) (allZero bs) h))
 
 -- whether an element is present, as offset 3 has it
-flag-back : (b : Bool) → eqb (cond b 1 0) 1 ≡ b
+pub flag-back : (b : Bool) → eqb (cond b 1 0) 1 ≡ b
 flag-back true = refl
 flag-back false = refl
 

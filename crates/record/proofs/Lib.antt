@@ -5,3 +5,4 @@ pub mod Clauses
 pub mod Laws
 pub mod Parties
 pub mod Written
+pub mod Records

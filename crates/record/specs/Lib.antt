@@ -4,3 +4,4 @@ pub mod Kinds
 pub mod inner
 pub mod Message
 pub mod Record
+pub mod Records

@@ -1,4 +1,4 @@
-// Where things stand in a record, and its zeros.
+// Numbers as bytes, the lowest first; where things stand in a record, and its zeros.
 use config::Config;
 ghost use mathlib.Core.Path.{_≡_};
 ghost use Prim.Native.Nat.{_+_, _≤_};
@@ -9,7 +9,7 @@ ghost use mathlib.Core.Bool.{cond};
 ghost use Rattle.config.specs.Config.{Valid};
 
 // A number of four bytes, the lowest first.
-fn number(a: u8, b: u8, c: u8, d: u8) -> u32
+pub fn number(a: u8, b: u8, c: u8, d: u8) -> u32
     ensures { λ r. ⌜ r ≡ littleEndian a b c d ⌝ }
 {
     a as u32 + b as u32 * 256 + c as u32 * 65536 + d as u32 * 16777216
@@ -24,14 +24,14 @@ pub(crate) fn number_at(at: usize, buf: &[u8]) -> u32
 }
 
 // A length's two bytes, the lowest first.
-pub(crate) fn length(a: u8, b: u8) -> u16
+pub fn length(a: u8, b: u8) -> u16
     ensures { λ r. ⌜ r ≡ littleTwo a b ⌝ }
 {
     a as u16 + b as u16 * 256
 }
 
 // The four bytes of a number, the lowest first.
-pub(crate) fn four_bytes(n: u32) -> [u8; 4]
+pub fn four_bytes(n: u32) -> [u8; 4]
     ensures { λ r. ⌜ r ≡ fourBytes n ⌝ }
 {
     [
@@ -42,8 +42,8 @@ pub(crate) fn four_bytes(n: u32) -> [u8; 4]
     ]
 }
 
-// The byte at offset 3.
-pub(crate) fn flag(present: bool) -> u8
+// A flag's byte.
+pub fn flag(present: bool) -> u8
     ensures { λ r. ⌜ r ≡ cond present 1 0 ⌝ }
 {
     if present {

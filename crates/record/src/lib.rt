@@ -1,7 +1,7 @@
 // The message record, 80 bytes: reading, writing, and the test whether a record is well formed. The element stays in the
 // record, at 16: a header says whether one is present. Every function is proved, nothing is assumed, and no public function
 // has a `requires`.
-mod layout;
+pub mod layout;
 mod rules;
 
 use config::Client;

@@ -25,9 +25,10 @@ use Rattle.protocol.specs.Parties as parties
 use Rattle.protocol.specs.Parties.{questionsToBegin, questionsToCrashClient, questionsToCrashServer, quiet}
 use Rattle.protocol.specs.Rig as protocol
 use Rattle.protocol.specs.Rig.{Code, beginWrite, beginRead, handOver, lose, double, crashServer, crashClient, codeOf, deliverAt, doubled, fresh, hasRoom, leaves, moves, positionQuestions, questionsTo11, refuses, unlessNo, without}
-use Rattle.parties.specs.Sound.{Sound}
-use Rattle.parties.proofs.Formed.{ActedFits, BoardFits, PartiesFit, begin-fits, crash-client-fits, crash-server-fits, deliver-fits, fresh-fits, quiet-fits}
-use Rattle.parties.proofs.Sound.{sound-append, sound-at, sound-doubled, sound-first, sound-none, sound-rest, sound-without}
+use Rattle.protocol.specs.Sound.{Sound}
+use Rattle.protocol.proofs.Hosted.{begin-low}
+use Rattle.protocol.proofs.Formed.{ActedFits, BoardFits, PartiesFit, begin-fits, crash-client-fits, crash-server-fits, deliver-fits, fresh-fits, quiet-fits}
+use Rattle.protocol.proofs.Sound.{sound-append, sound-at, sound-doubled, sound-first, sound-none, sound-rest, sound-without}
 use Rattle.events.specs.declared.Rig.{Rig}
 use Rattle.events.specs.View.{Lent, flight, messagesOf, view}
 use Rattle.events.specs.Questions.{eventQuestions, formed, formedFor}
@@ -51,15 +52,10 @@ module _ (cfg : Config) (valid : Valid cfg) (v : BoardRig) (fits : Fits cfg v) w
   -- a client that begins
   begins : (c : ℕ) (board : Option Board) → BoardFits cfg board → firstNo (questionsToBegin cfg (v .parties) c) ≡ 0
       → Fits cfg (leaves (v .inFlight) (parties.begin cfg (v .parties) c board) .rig)
-  unfolding questionsToBegin beginQuestions
   begins c board short h =
-      let x = v .parties .clients c in
-      let eight = yes-next 8 (within 1 (cfg .c) c) _ (omega arith) h in
-      let nine = yes-next 9 (isUp (x .phase)) _ (omega arith) (eight .1) in
-      let ten = yes-next 10 (isIdle (x .phase)) _ (omega arith) (nine .1) in
-      let eleven = yes-next 11 (ltb (x .operation) highestNumber) [] (omega arith) (ten .1) in
+      let low = begin-low cfg (v .parties) c h in
       leaves-fits (v .inFlight) _ (fits .inFlight)
-      (begin-fits cfg (v .parties) (fits .parties) c (eight .0) (ltb-true (x .operation) highestNumber (eleven .0)) board short)
+      (begin-fits cfg (v .parties) (fits .parties) c (low .0) (ltb-true (v .parties .clients c .operation) highestNumber (low .1)) board short)
 
   -- a message that is handed over
   delivers : (i : ℕ) (o : Option BoardMessage) → getElem? (v .inFlight) i ≡ o → ActedFits cfg (deliverAt (order cfg) (encode cfg) (decode cfg) cfg (v .parties) o)

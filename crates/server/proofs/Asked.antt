@@ -53,6 +53,10 @@ state-holds cfg s long h =
     let y = last-all (questions cfg) 6 (same && stateWithin cfg s) (questions-numbered cfg) (omega arith) h in
     (valid cfg (y .0), and-right same (stateWithin cfg s) (y .1), eqb-true long (storeLength cfg) (and-left same (stateWithin cfg s) (y .1)))
 
+pub state-numbered : (cfg : Config) (s : State) (long : ℕ) → numbered (stateQuestions cfg s long) ≡ true
+unfolding numbered stateQuestions questions
+state-numbered cfg s long = refl
+
 pub state-valid : (cfg : Config) (s : State) (store : List ℕ) → firstNo (stateQuestions cfg s (length store)) ≡ 0 → ValidState cfg s store
 state-valid cfg s store h = let y = state-holds cfg s (length store) h in record { valid = y .0; within = y .1; long = y .2 }
 

@@ -14,9 +14,9 @@ use Rattle.tag.specs.declared.Tag.{Tag}
 use Rattle.tag.specs.Tag.{above, same}
 use Rattle.protocol.proofs.Basics.{or-left, or-right}
 use Rattle.server.specs.declared.places.Least.{Least}
-use Rattle.server.specs.inner.Places.{leastFrom, placeIn}
+use Rattle.server.specs.inner.Places.{leastFrom}
 use Rattle.server.specs.Within.{among, every, once}
-use Rattle.server.specs.View.{each}
+use Rattle.server.specs.View.{each, placeIn}
 
 module _ {A : Type 0} where
   -- from place i up to n: a first one and the rest, or none

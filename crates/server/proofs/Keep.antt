@@ -19,9 +19,9 @@ use Rattle.record.specs.Element.{Element, elementWith}
 use Rattle.protocol.specs.Server.{Stored, atOrBelowFloor, dropSmallest, isStored, store as stores}
 use Rattle.server.specs.declared.State.{State}
 use Rattle.server.specs.inner.Keep.{AppendPost, DropSmallestPost, KeepPre, KeepPost, appended, dropped, lowest}
-use Rattle.server.specs.inner.Places.{Room, placeIn}
+use Rattle.server.specs.inner.Places.{Room}
 use Rattle.server.specs.Within.{among, every}
-use Rattle.server.specs.View.{each, floorOf, placeAt, tagAt, tagsUsed, view}
+use Rattle.server.specs.View.{each, floorOf, placeAt, placeIn, tagAt, tagsUsed, view}
 use Rattle.server.proofs.Each.{length-each, place-among, place-not-among}
 use Rattle.server.proofs.Limits.{state-allowed, state-count, state-eight, state-once}
 use Rattle.server.proofs.Lists.{stored-among}

@@ -3,7 +3,7 @@ pub mod Answered
 mod Answering
 pub mod Asked
 mod Begin
-mod Each
+pub mod Each
 mod Figures
 mod Handed
 pub mod Invariant
@@ -12,7 +12,7 @@ pub mod Laws
 mod Lending
 pub mod Limits
 mod Lists
-mod Owned
+pub mod Owned
 pub mod Ranks
 mod Received
 mod Sent

@@ -17,9 +17,9 @@ use Rattle.tag.proofs.Order.{Small, above-ltb, same-eqb, small}
 use Rattle.protocol.specs.Server.{Stored, elementOf, inPlaceOf, isStored, smallest}
 use Rattle.protocol.specs.Tags.{lower}
 use Rattle.server.specs.declared.places.Least.{Least}
-use Rattle.server.specs.inner.Places.{leastFrom, placeIn}
+use Rattle.server.specs.inner.Places.{leastFrom}
 use Rattle.server.specs.Within.{among, every, once}
-use Rattle.server.specs.View.{each}
+use Rattle.server.specs.View.{each, placeIn}
 use Rattle.server.proofs.Each.{among-at, each-same, every-at}
 
 -- the lower of two, by one test or the other

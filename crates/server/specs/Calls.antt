@@ -1,17 +1,17 @@
 -- A server's calls: what each asks, and what it answers.
-use Prim.Native.Nat.{ℕ}
+use Prim.Native.Nat.{ℕ, _*_}
 use mathlib.Core.Bool.{Bool, cond, _&&_}
 use mathlib.Core.Path.{_≡_}
 use mathlib.Core.List.{List, [], _∷_, _++_}
 use mathlib.Core.Option.{Option, none, some}
-use lib.Dec.{eqb}
+use lib.Dec.{eqb, ltb}
 use lib.ListN.{length, drop, replicate}
 use Rattle.config.specs.declared.Config.{Config}
 use Rattle.config.specs.declared.Server.{Server as ServerNumber}
 use Rattle.config.specs.Config.{boardLength, questions, recordLength, storeLength}
 use Rattle.config.specs.Number.{serverNumber}
 use Rattle.config.specs.Questions.{Question, ask, firstNo, within}
-use Rattle.config.specs.Refusal.{verdictNumber}
+use Rattle.config.specs.Refusal.{refusalNumber, verdictNumber}
 use Rattle.tag.specs.declared.Tag.{Tag}
 use Rattle.tag.specs.Tag.{key, start}
 use Rattle.record.specs.Element.{Element}
@@ -20,10 +20,11 @@ use Rattle.record.specs.Message.{Message}
 use Rattle.record.specs.Record.{messageOf, recordOf, wellFormed}
 use Rattle.protocol.specs.Server.{Served, elementOf, serverStep}
 use Rattle.server.specs.declared.Floor.{Floor}
+use Rattle.server.specs.declared.Found.{Found}
 use Rattle.server.specs.declared.State.{State}
 use Rattle.server.specs.declared.Stepped.{Stepped}
 use Rattle.server.specs.Within.{stateWithin}
-use Rattle.server.specs.View.{view}
+use Rattle.server.specs.View.{placeIn, tagsUsed, view}
 
 -- A state: questions 1 to 5 and 21; 6, the length of its store, and the state.
 unfoldable pub stateQuestions : Config → State → ℕ → List Question
@@ -101,3 +102,22 @@ pub record LendPost (cfg : Config) (s : State) (t : Tag) (store lent : List ℕ)
   pub number : told ≡ firstNo (stateQuestions cfg s (length store))
   pub part : lent
       ≡ cond (eqb (firstNo (stateQuestions cfg s (length store))) 0) (lentBytes (elementOf (key cfg) t (view cfg s store .stored))) []
+
+-- where the element of a tag begins in the store, at its place × E, if the tag is stored
+unfoldable pub elementPlace : Config → State → Tag → Option ℕ
+elementPlace cfg s t = cond (ltb (placeIn t (tagsUsed s)) (s .count)) (some (placeIn t (tagsUsed s) * cfg .e)) none
+
+abbrev pub foundNumber : Found → ℕ
+foundNumber (Found.No why) = refusalNumber why
+foundNumber Found.Nowhere = 0
+foundNumber (Found.At i) = 0
+
+abbrev pub foundPlace : Found → Option ℕ
+foundPlace (Found.No why) = none
+foundPlace Found.Nowhere = none
+foundPlace (Found.At i) = some i
+
+-- the place that is found, in a store of a length
+pub record FindPost (cfg : Config) (s : State) (t : Tag) (long : ℕ) (r : Found) : Type 0 where
+  pub number : foundNumber r ≡ firstNo (stateQuestions cfg s long)
+  pub place : foundPlace r ≡ cond (eqb (firstNo (stateQuestions cfg s long)) 0) (elementPlace cfg s t) none

@@ -2,12 +2,13 @@
 -- the length beside it is length i.
 -- Only the places in use are read.
 use Prim.Native.Nat.{ℕ, zero, suc, _*_}
+use mathlib.Core.Bool.{cond}
 use mathlib.Core.List.{List, [], _∷_}
 use mathlib.Core.Option.{Option, none, some}
 use lib.ListN.{getD, take, drop}
 use Rattle.config.specs.declared.Config.{Config}
 use Rattle.tag.specs.declared.Tag.{Tag}
-use Rattle.tag.specs.Tag.{start}
+use Rattle.tag.specs.Tag.{same, start}
 use Rattle.record.specs.Element.{Element, elementWith}
 use Rattle.protocol.specs.Server.{Server, Stored}
 use Rattle.server.specs.declared.Floor.{Floor}
@@ -53,3 +54,8 @@ tagsUsed s = each (tagAt (s .tags)) 0 (s .count)
 -- the lengths beside their elements
 abbrev pub lengthsUsed : State → List ℕ
 lengthsUsed s = each (storedLength (s .lengths)) 0 (s .count)
+
+-- "the first place in the store that holds that tag", among tags; their number where none is that tag
+unfoldable pub placeIn : Tag → List Tag → ℕ
+placeIn t [] = 0
+placeIn t (x ∷ xs) = cond (same x t) 0 (suc (placeIn t xs))

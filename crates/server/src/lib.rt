@@ -14,7 +14,7 @@ use record::Reading;
 use tag::Tag;
 ghost use mathlib.Core.Path.{_≡_};
 ghost use Rattle.config.specs.Questions.{firstNo};
-ghost use Rattle.server.specs.Calls.{FreshPost, LendPost, StepPost, freshState, stateQuestions, stepQuestions};
+ghost use Rattle.server.specs.Calls.{FindPost, FreshPost, LendPost, StepPost, freshState, stateQuestions, stepQuestions};
 ghost use Rattle.server.specs.inner.Receive.{ReceivePost};
 ghost use Rattle.server.specs.inner.Serve.{unchanged};
 
@@ -180,23 +180,52 @@ pub fn step(
     }
 }
 
-// The stored element of a tag, as that part of the store: empty if there is none or the call is refused. The refusal's number, or
-// 0, goes into the lent number. Questions 1 to 5, 21 and 6.
-pub fn lend<'a>(cfg: Config, state: State, tag: Tag, store: &'a [u8], no: &mut u8) -> &'a [u8]
-    ensures { λ r. ⌜ LendPost cfg state tag (now (store .entry)) (now r) (now (no .exit)) ⌝ }
+// Where the stored element of a tag stands.
+pub enum Found {
+    // The call is refused.
+    No(Refusal),
+    // The tag is not stored.
+    Nowhere,
+    // So many bytes from the start of the store.
+    At(usize),
+}
+
+// The first place in a store of this length that holds a tag: questions 1 to 5, 21 and 6.
+pub fn find(cfg: Config, state: State, tag: Tag, long: usize) -> Found
+    ensures { λ r. ⌜ FindPost cfg state tag long r ⌝ }
 {
-    let asked = ask(cfg, state, store.len());
-    *no = asked;
-    if asked != 0 {
-        return &store[0..0];
+    let no = ask(cfg, state, long);
+    if no != 0 {
+        return Found::No(Refusal::of(no));
     }
     let count = state.count as usize;
     let tags = state.tags;
     let place = places::place_of(tag, 0, count, tags);
     if count <= place {
-        return &store[0..0];
+        return Found::Nowhere;
     }
-    let from = place * cfg.e;
-    let end = from + cfg.e;
-    &store[from..end]
+    Found::At(place * cfg.e)
+}
+
+// The stored element of a tag, as that part of the store: empty if there is none or the call is refused. The refusal's number, or
+// 0, goes into the lent number. Questions 1 to 5, 21 and 6.
+pub fn lend<'a>(cfg: Config, state: State, tag: Tag, store: &'a [u8], no: &mut u8) -> &'a [u8]
+    ensures { λ r. ⌜ LendPost cfg state tag (now (store .entry)) (now r) (now (no .exit)) ⌝ }
+{
+    let found = find(cfg, state, tag, store.len());
+    match found {
+        Found::No(why) => {
+            *no = why.number();
+            &store[0..0]
+        }
+        Found::Nowhere => {
+            *no = 0;
+            &store[0..0]
+        }
+        Found::At(from) => {
+            *no = 0;
+            let end = from + cfg.e;
+            &store[from..end]
+        }
+    }
 }

@@ -3,8 +3,8 @@ use tag::Tag;
 ghost use mathlib.Core.Path.{_≡_};
 ghost use Prim.Native.Nat.{_+_, _-_, _*_, _≤_};
 ghost use Rattle.laws.specs.Parts.{over};
-ghost use Rattle.server.specs.inner.Places.{Room, leastFrom, placeIn};
-ghost use Rattle.server.specs.View.{each, tagAt};
+ghost use Rattle.server.specs.inner.Places.{Room, leastFrom};
+ghost use Rattle.server.specs.View.{each, placeIn, tagAt};
 use config::Config;
 
 // A tag and its place.

@@ -50,7 +50,7 @@ use Rattle.events.proofs.Clients.{idleOf, ask-number, ask-numbered, beg
 use Rattle.events.proofs.Numbers.{early-number, long-number}
 use Rattle.events.proofs.Pairs.{Back, back-same, client-at, partsOf}
 use Rattle.events.proofs.Ready.{board-long, client-below, client-me, client-within, is-valid, kept-long, messages-long, party-client, server-below}
-use Rattle.events.proofs.Sends.{records-out}
+use Rattle.client.proofs.Sends.{records-out}
 use Rattle.events.proofs.outcome.Laws.{Moves, acted-on, acted-turn, full-no, refused-on, sends-many, sends-out, sends-sound}
 
 -- ---- the protocol's events

@@ -55,7 +55,7 @@ use Rattle.events.specs.inner.Turn.{Ready}
 use Rattle.events.proofs.Numbers.{ill-number, missing, position-there}
 use Rattle.events.proofs.Pairs.{Back, partsOf}
 use Rattle.events.proofs.Ready.{client-me, client-within, count-below, count-fits, is-valid, kept-long, messages-long, read-long, received-long, server-kept, server-me, store-long}
-use Rattle.events.proofs.Sends.{records-out}
+use Rattle.client.proofs.Sends.{records-out}
 use Rattle.events.proofs.named.Laws.{by-record, place-back}
 use Rattle.events.proofs.outcome.Laws.{Moves, acted, acted-no, acted-on, acted-yes, full-no, refused-on, refused-turn, sends-many, sends-out, sends-sound, sent-room, turn-on}
 

@@ -38,8 +38,8 @@ use Rattle.parties.specs.declared.Answer.{Answer}
 use Rattle.parties.specs.declared.Pair.{Pair}
 use Rattle.parties.specs.Acts.{ActPost, Parts, among, answerOf, isRead}
 use Rattle.parties.specs.Acts as acts
-use Rattle.parties.specs.Sound.{Sound}
-use Rattle.parties.proofs.Sound.{sound-none}
+use Rattle.protocol.specs.Sound.{Sound}
+use Rattle.protocol.proofs.Sound.{sound-none}
 use Rattle.events.specs.declared.Call.{Call}
 use Rattle.events.specs.declared.Change.{Change}
 use Rattle.events.specs.declared.Part.{Part}
@@ -55,7 +55,8 @@ use Rattle.events.proofs.RigWithin.{clients-taken, part-within, servers
 use Rattle.events.proofs.Numbers.{accepted-number, early-number, full-number}
 use Rattle.events.proofs.Pairs.{Back, another, partsOf, put-among, put-same}
 use Rattle.events.proofs.Ready.{boards-long, client-below, client-me, elements-long, is-valid, is-within, kept-long, own-among, pair-within, received-long, server-below, server-me, store-long, stores-long}
-use Rattle.events.proofs.Sends.{messages-behind, room-out}
+use Rattle.client.proofs.Sends.{room-out}
+use Rattle.events.proofs.Sends.{messages-behind}
 
 -- ---- an event
 

@@ -6,13 +6,8 @@ use mathlib.Core.List.{List, [], _∷_}
 use lib.ListN.{length}
 use Rattle.config.specs.declared.Config.{Config}
 use Rattle.tag.specs.declared.Tag.{Tag}
-use Rattle.tag.specs.Tag.{above, same}
+use Rattle.tag.specs.Tag.{above}
 use Rattle.server.specs.declared.places.Least.{Least}
-
--- the first place of t among tags, or their number
-unfoldable pub placeIn : Tag → List Tag → ℕ
-placeIn t [] = 0
-placeIn t (x ∷ xs) = cond (same x t) 0 (suc (placeIn t xs))
 
 -- the lowest of t and of tags, with its place: t's is p, the tags' are i and on
 unfoldable pub leastFrom : Config → Tag → ℕ → ℕ → List Tag → Least

@@ -9,7 +9,7 @@ use lib.Seq.{length-take-le}
 use Rattle.laws.proofs.Parts.{lent-is, over-lent, part-fits}
 use Rattle.config.specs.Config.{boardLength}
 use Rattle.config.proofs.Sizes.{board-small, elements-small}
-use Rattle.flight.proofs.Laws.{records-front}
+use Rattle.record.proofs.Records.{records-front}
 use Rattle.events.proofs.Lengths.{all-elements-small, boards-small}
 use Rattle.events.proofs.deliver.Laws.{received-done, received-full, taken-long}
 use Rattle.events.proofs.outcome.Laws.{sent-room}

@@ -2,8 +2,7 @@ use mathlib.Core.Path.{_≡_, refl, sym, _∙_}
 use Prim.Native.Nat.{_+_, _-_, _≤_, _<_}
 use native.Mathlib.Omega.{arith}
 use borrow.Author.Needs.{needs}
-use Rattle.server.specs.inner.Places.{placeIn}
-use Rattle.server.specs.View.{each, tagAt}
+use Rattle.server.specs.View.{each, placeIn, tagAt}
 use Rattle.server.proofs.Each.{place-end, place-hit, place-miss}
 use Rattle.server.proofs.places.place_of.Statement.{statement}
 use Rattle.server.proofs.places.place_of.Tie as tie

@@ -4,9 +4,8 @@ use Prim.Native.Nat.{ℕ, _+_, _-_, _≤_, _<_}
 use native.Mathlib.Nat.{sub-zero}
 use native.Mathlib.Omega.{arith}
 use lib.ListN.{length}
-use Rattle.server.specs.inner.Places.{placeIn}
 use Rattle.server.specs.Within.{once}
-use Rattle.server.specs.View.{each, tagAt}
+use Rattle.server.specs.View.{each, placeIn, tagAt}
 use Rattle.server.proofs.Each.{length-each, once-end, once-no, once-yes, place-among, place-not-among}
 use Rattle.server.proofs.within.once.Statement.{statement}
 use Rattle.server.proofs.within.once.Tie as tie

@@ -1,0 +1,4 @@
+mod Answers
+mod Bytes
+mod Owned
+mod Rows

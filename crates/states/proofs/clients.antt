@@ -1,0 +1,4 @@
+mod Back
+pub mod Laws
+mod Owned
+pub mod Packed

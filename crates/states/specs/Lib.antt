@@ -1,0 +1,4 @@
+pub mod Bytes
+pub mod Clients
+pub mod Servers
+pub mod inner

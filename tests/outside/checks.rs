@@ -1,5 +1,6 @@
 //! Checks of the model and of the search themselves.
 
+use crate::board_checks;
 use crate::common::{Checks, tell};
 use crate::directed;
 use crate::history::{self, History, Operation, fits, history, rises, search, search_rising};
@@ -35,13 +36,14 @@ pub fn all() -> usize {
         orders_of_lengths(),
         small_histories(),
         rank_checks::all(),
+        board_checks::all(),
     ];
     tell("model and search", &sections.concat())
 }
 
-/// With ranks 0.
+/// With ranks 0 and one board, whose share is 0.
 pub fn config(n: usize, k: usize, d: usize, e: usize, c: usize, m: usize) -> Config {
-    Config { n, k, d, e, c, m, ranks: [0; 16] }
+    Config { n, k, d, e, c, m, ..programs::PROGRAM }
 }
 
 pub fn tag(number: u32, client: u8) -> Tag {
@@ -144,14 +146,19 @@ fn server() -> Checks {
     ]
 }
 
-/// An event other than a begin of a write.
+/// An event of board 1 other than a begin of a write.
 fn event(rig: &mut Rig, code: u8, party: u8, position: usize) -> Result<Answer, u8> {
-    rig.event(code, party, position, &[], 0)
+    rig.event(Event { code, party, position, board: 1, bytes: &[], length: 0 })
 }
 
 /// A begin of a write of all V bytes.
 fn begin_write(rig: &mut Rig, party: u8, bytes: &[u8]) -> Result<Answer, u8> {
-    rig.event(1, party, 0, bytes, bytes.len())
+    begin_cut(rig, party, bytes, bytes.len())
+}
+
+/// A begin of a write of this length.
+fn begin_cut(rig: &mut Rig, party: u8, bytes: &[u8], length: usize) -> Result<Answer, u8> {
+    rig.event(Event { code: 1, party, position: 0, board: 1, bytes, length })
 }
 
 /// Hands over until an answer ends something.
@@ -167,14 +174,15 @@ fn until_ended(rig: &mut Rig) -> Answer {
 fn client() -> Checks {
     let fresh = || Rig::make(programs::PROGRAM, &[0]).unwrap();
     let mut spent = fresh();
-    spent.servers.iter_mut().for_each(|s| s.highest = tag(u32::MAX, 2));
+    spent.parties[0].servers.iter_mut().for_each(|s| s.highest = tag(u32::MAX, 2));
     begin_write(&mut spent, 1, &[5]).unwrap();
-    let was_spent = until_ended(&mut spent) == Answer::Spent(1) && spent.clients[0].phase == Phase::Idle;
+    let was_spent =
+        until_ended(&mut spent) == Answer::Spent(1) && spent.parties[0].clients[0].phase == Phase::Idle;
     let mut last = fresh();
-    last.servers.iter_mut().for_each(|s| s.highest = tag(u32::MAX - 1, 2));
+    last.parties[0].servers.iter_mut().for_each(|s| s.highest = tag(u32::MAX - 1, 2));
     begin_write(&mut last, 1, &[5]).unwrap();
     let mut out_of_numbers = fresh();
-    out_of_numbers.clients[0].operation = u32::MAX;
+    out_of_numbers.parties[0].clients[0].operation = u32::MAX;
     let mut written = fresh();
     begin_write(&mut written, 2, &[9]).unwrap();
     let answer = until_ended(&mut written);
@@ -198,16 +206,16 @@ fn rig() -> Checks {
     let mut full = make(4);
     let begun = [event(&mut full, 2, 1, 0), event(&mut full, 2, 1, 0), event(&mut full, 2, 2, 0)];
     let doubled = [event(&mut full, 5, 0, 0), event(&mut full, 5, 0, 3), event(&mut full, 5, 0, 4)];
-    let order: Vec<_> = full.flight.iter().map(|r| (r.kind, r.server)).collect();
+    let order: Vec<_> = full.of(1).map(|r| (r.kind, r.server)).collect();
     let to_servers = [event(&mut full, 3, 0, 0), event(&mut full, 3, 0, 0)];
     // In flight: query 3, the copy of query 1, the answers of 1 and 2. The second one makes a quorum.
     let counted = event(&mut full, 3, 0, 2);
-    let before = format!("{:?} {:?}", full.flight, full.clients);
+    let before = format!("{full:?}");
     let refused = event(&mut full, 3, 0, 2);
-    let after = format!("{:?} {:?}", full.flight, full.clients);
+    let after = format!("{full:?}");
     let lost = event(&mut full, 4, 0, 0);
     let accepted = event(&mut full, 3, 0, 1);
-    let kinds: Vec<_> = full.flight.iter().map(|r| (r.kind, r.server)).collect();
+    let kinds: Vec<_> = full.of(1).map(|r| (r.kind, r.server)).collect();
     let mut crashed = make(64);
     event(&mut crashed, 2, 1, 0).unwrap();
     let servers = [event(&mut crashed, 6, 3, 0), event(&mut crashed, 6, 3, 0), event(&mut crashed, 6, 4, 0)];
@@ -263,20 +271,21 @@ fn lines() -> Checks {
     ];
     let example = events.map(|(code, party, at)| [code, party, at, 0, 0, 0, 0]).concat();
     let printed = "1 ok\n2 ok\n3 ok\n4 ok\n5 ok\n6 ok\n7 ok\n8 ok\n9 read 0 0 00\n10 no 8\n";
-    let head = [3, 1, 0, 1, 2, 64, 0, 0, 0, 0];
+    let head = [3, 1, 0, 1, 2, 64, 0, 0, 0, 1, 0, 0, 0];
+    let numbered = events.map(|(code, party, at)| [code, party, at, 0, 1, 0, 0, 0]).concat();
     vec![
         ("the document's example", board(&example) == printed),
-        ("the same by simulate", simulate(&[&head[..], &example].concat()) == printed),
+        ("the same by simulate", simulate(&[&head[..], &numbered].concat()) == printed),
         ("nothing in, nothing out", board(&[]).is_empty()),
         ("short", board(&[9, 0, 0, 0, 0, 0, 0, 3, 0]) == "1 no 7\n2 short\n"),
         ("short of its length", board(&[9, 0, 0, 0, 0, 0]) == "1 short\n"),
         ("header cut short", simulate(&head[..6]) == "0 short\n" && simulate(&[]) == "0 short\n"),
-        ("starting board cut short", simulate(&head[..9]) == "0 short\n"),
+        ("head cut short", (7..13).all(|length| simulate(&head[..length]) == "0 short\n")),
         ("refused making", simulate(&[17, 1, 0, 1, 2, 64, 0]) == "0 no 1\n"),
         (
             "M is little-endian",
             simulate(&[3, 1, 0, 1, 2, 1, 2]) == "0 no 5\n"
-                && simulate(&[3, 1, 0, 1, 2, 0, 2, 0, 0, 0]).is_empty(),
+                && simulate(&[3, 1, 0, 1, 2, 0, 2, 0, 0, 1, 0, 0, 0]).is_empty(),
         ),
     ]
 }
@@ -294,11 +303,11 @@ fn laid_out(r: &Record) -> Vec<u8> {
 fn cut_boards() -> Checks {
     let config = config(5, 3, 1, 1, 2, 64);
     let mut rig = Rig::make(config, &[1, 2, 3]).unwrap();
-    rig.event(1, 2, 0, &[10, 20, 30], 2).unwrap();
-    while rig.clients[1].phase == Phase::Asking {
+    begin_cut(&mut rig, 2, &[10, 20, 30], 2).unwrap();
+    while rig.parties[0].clients[1].phase == Phase::Asking {
         event(&mut rig, 3, 0, 0).unwrap();
     }
-    let sent: Vec<Record> = rig.flight.iter().filter(|r| r.kind == PRE_WRITE).copied().collect();
+    let sent: Vec<Record> = rig.of(1).filter(|r| r.kind == PRE_WRITE).copied().collect();
     let elements: Vec<u8> = sent.iter().map(|r| r.piece.unwrap().element[0]).collect();
     let with_length = |length| {
         let piece = sent[3].piece.map(|piece| Piece { length, ..piece });
@@ -323,15 +332,18 @@ fn cut_boards() -> Checks {
 
 /// 19 comes before 8, 9, 10 and 13, and is asked of event 1 only.
 fn asked_lengths() -> Checks {
-    let begin = |rig: &mut Rig, party, length| rig.event(1, party, 0, &[7; 3], length);
+    let begin = |rig: &mut Rig, party, length| begin_cut(rig, party, &[7; 3], length);
+    let long = |rig: &mut Rig, code| {
+        rig.event(Event { code, party: 1, position: 0, board: 1, bytes: &[7; 3], length: 65535 })
+    };
     let mut rig = Rig::make(config(3, 3, 0, 1, 3, 8), &[0; 3]).unwrap();
     let accepted = [begin(&mut rig, 1, 3), begin(&mut rig, 2, 0)];
     let full = [begin(&mut rig, 3, 3), begin(&mut rig, 3, 4)];
     let busy = [begin(&mut rig, 1, 3), begin(&mut rig, 1, 4)];
-    let crashed = rig.event(7, 1, 0, &[], 65535);
+    let crashed = long(&mut rig, 7);
     let down = [begin(&mut rig, 1, 3), begin(&mut rig, 1, 4)];
     let unknown = [begin(&mut rig, 4, 3), begin(&mut rig, 4, 4), begin(&mut rig, 0, 65535)];
-    let other = [4, 5, 3, 4, 6].map(|code| rig.event(code, 1, 0, &[], 65535));
+    let other = [4, 5, 3, 4, 6].map(|code| long(&mut rig, code));
     vec![
         ("lengths 0 and V", accepted.iter().all(|answer| *answer == Ok(Answer::Nothing))),
         ("19 before 13", full == [Err(13), Err(19)]),
@@ -339,24 +351,21 @@ fn asked_lengths() -> Checks {
         ("19 before 9", crashed.is_ok() && down == [Err(9), Err(19)]),
         ("19 before 8", unknown == [Err(8), Err(19), Err(19)]),
         ("a length that isn't a write's", other.iter().all(|answer| *answer == Ok(Answer::Nothing))),
-        (
-            "7, whatever the length",
-            [0, 8, 255].iter().all(|code| rig.event(*code, 1, 0, &[7; 3], 65535) == Err(7)),
-        ),
+        ("7, whatever the length", [0, 8, 255].iter().all(|code| long(&mut rig, *code) == Err(7))),
     ]
 }
 
 /// Servers that hold other lengths, which no list brings about: answers of 4, 2, 5 and 3, in this order.
 fn lowest_length() -> Checks {
     let mut rig = Rig::make(config(5, 3, 0, 1, 1, 64), &[10, 20, 30]).unwrap();
-    for (server, length) in rig.servers.iter_mut().zip([3, 1, 2, 3, 0]) {
+    for (server, length) in rig.parties[0].servers.iter_mut().zip([3, 1, 2, 3, 0]) {
         server.stored[0].1.length = length;
     }
     event(&mut rig, 2, 1, 0).unwrap();
-    while rig.clients[0].phase == Phase::Asking {
+    while rig.parties[0].clients[0].phase == Phase::Asking {
         event(&mut rig, 3, 0, 0).unwrap();
     }
-    rig.flight.retain(|r| r.kind == READ_FINALISE);
+    rig.flight.retain(|message| message.record.kind == READ_FINALISE);
     [3, 1, 2, 1].iter().for_each(|position| _ = event(&mut rig, 3, 0, *position).unwrap());
     rig.flight.remove(0);
     let shown = Board { length: 1, bytes: vec![10, 0, 0] };
@@ -384,7 +393,7 @@ fn lines_of_lengths() -> Checks {
         ("a read of length 0 prints only its tag", board(&empty.concat()) == of_empty.collect::<String>()),
         ("lengths are little-endian", {
             let event =
-                |code, length: u16| [&[code, 1, 0, 0][..], &[0xab; 1024], &length.to_le_bytes()].concat();
+                |code, length: u16| [&[code, 1, 0, 0, 1][..], &[0xab; 1024], &length.to_le_bytes()].concat();
             let events =
                 [event(1, 1025), event(1, 1000), event(3, 0).repeat(96), event(2, 0), event(3, 0).repeat(64)];
             let lines = simulate(&[large, vec![0; 1024], events.concat()].concat());
@@ -457,31 +466,32 @@ fn cleared_awaited() -> Checks {
 /// server 1; server 2 has sent its element and is counted.
 fn told(operation: u32, in_flight: usize) -> Rig {
     let mut rig = Rig::make(programs::PROGRAM, &[0]).unwrap();
-    rig.clients[0].operation = operation;
+    rig.parties[0].clients[0].operation = operation;
     event(&mut rig, 2, 1, 0).unwrap();
     // Query 3 and three read finalises are left in flight, then without that of server 2.
     [0, 0, 1, 1, 2, 3].iter().for_each(|position| _ = event(&mut rig, 3, 0, *position).unwrap());
     let piece = Some(Piece { length: 1, element: [0; 64] });
     let (client, server, operation) = (2, 1, 1);
     let pre_write = Record { kind: PRE_WRITE, client, server, operation, tag: tag(1, 2), piece };
-    rig.servers[0].step(&programs::PROGRAM, &pre_write);
+    rig.parties[0].servers[0].step(&programs::PROGRAM, &pre_write);
     (4..=in_flight).for_each(|_| _ = event(&mut rig, 5, 0, 0).unwrap());
     event(&mut rig, 3, 0, 1).unwrap();
     rig
 }
 
 fn all_of(rig: &Rig) -> String {
-    format!("{:?} {:?} {:?}", rig.flight, rig.clients, rig.servers)
+    format!("{rig:?}")
 }
 
 /// A read that has k elements asks again, if there is room for it: at most 64 are in flight.
 fn asked_again() -> Checks {
     let mut rig = told(0, 62);
-    let due = rig.clients[0].awaits(&rig.flight[61]) && rig.clients[0].pieces.len() == 1;
+    let reader = &rig.on(1).clients[0];
+    let due = reader.awaits(&rig.flight[61].record) && reader.pieces.len() == 1;
     let answer = event(&mut rig, 3, 0, 61);
-    let Client { phase, operation, board, tag, counted, pieces, .. } = &rig.clients[0];
+    let Client { phase, operation, board, tag, counted, pieces, .. } = &rig.parties[0].clients[0];
     let anew = *phase == Phase::Asking && *operation == 2 && board.is_none() && *tag == START;
-    let sent: Vec<_> = rig.flight[61..].iter().map(|r| (r.kind, r.client, r.server, r.operation)).collect();
+    let sent: Vec<_> = rig.of(1).skip(61).map(|r| (r.kind, r.client, r.server, r.operation)).collect();
     let refused = [63, 64].map(|in_flight| {
         let mut rig = told(0, in_flight);
         let before = all_of(&rig);
@@ -505,11 +515,14 @@ fn spent_read() -> Checks {
         (
             "the last number asks again",
             accepted == Ok(Answer::Nothing)
-                && last.clients[0].operation == u32::MAX
-                && last.clients[0].phase == Phase::Asking
+                && last.parties[0].clients[0].operation == u32::MAX
+                && last.parties[0].clients[0].phase == Phase::Asking
                 && last.flight.len() == 6,
         ),
-        ("a read ends spent", ended == Ok(Answer::Spent(1)) && full.clients[0].phase == Phase::Idle),
+        (
+            "a read ends spent",
+            ended == Ok(Answer::Spent(1)) && full.parties[0].clients[0].phase == Phase::Idle,
+        ),
         ("and sends nothing, so there is no 13", full.flight.len() == 63),
         ("and is the client's last", event(&mut full, 2, 1, 0) == Err(11)),
     ]
@@ -518,11 +531,11 @@ fn spent_read() -> Checks {
 /// A write that ends spent, by the model's own lines: the servers have finalised the last number.
 fn spent() -> Checks {
     let mut rig = Rig::make(programs::PROGRAM, &[0]).unwrap();
-    rig.servers.iter_mut().for_each(|s| s.highest = tag(u32::MAX, 2));
+    rig.parties[0].servers.iter_mut().for_each(|s| s.highest = tag(u32::MAX, 2));
     let handed_over = [0, 0, 1, 1].map(|position| [3, 0, position, 0, 0, 0, 0]).concat();
     let input = [vec![1, 1, 0, 0, 5, 1, 0], handed_over].concat();
     let mut out = vec![];
-    programs::events(rig, &mut &input[..], &mut out).unwrap();
+    programs::events(rig, false, &mut &input[..], &mut out).unwrap();
     vec![("a spent line", out == b"1 ok\n2 ok\n3 ok\n4 ok\n5 spent\n")]
 }
 
@@ -532,7 +545,7 @@ fn taken(events: &[(u8, u8, u8, u16)], named: &[u8], lines: &str) -> Option<(usi
     let records = events.iter().flat_map(|(code, party, byte, length)| record(*code, *party, *byte, *length));
     let (input, named) = (records.collect(), named.to_vec());
     let list = List { general: false, input, config: programs::PROGRAM, start: vec![0], named };
-    let history = history(&list, lines).ok()?;
+    let history = history(&list, lines, 1).ok()?;
     let order = search(&history).is_some_and(|order| fits(&history, &order));
     Some((history.operations.len(), order))
 }

@@ -2,10 +2,11 @@
 
 use crate::common::{difference, output};
 use crate::directed;
-use crate::list::{List, ranked};
+use crate::list::{List, ranked, shared};
 use crate::lists;
 use crate::maker::Seen;
 use crate::model::Config;
+use crate::pairs;
 use crate::printed::Printed;
 use crate::programs::PROGRAM;
 use crate::random::Random;
@@ -55,41 +56,66 @@ impl<'a> Runs<'a> {
         std::fs::write(kept, &list.input).expect("keeping the input");
     }
 
-    fn one(&mut self, list: &List, name: &str) {
+    /// Runs a list; the lines printed, if they are the model's.
+    fn one(&mut self, list: &List, name: &str) -> Option<String> {
         let expected = list.lines();
         let printed =
             run(if list.general { self.simulate } else { self.board }, &list.input, &mut self.random);
         self.lists += 1;
         self.events += list.named.len();
-        let printed = match printed {
-            Ok(printed) => printed,
-            Err(what) => return self.report(list, name, &what),
+        let wrong = match &printed {
+            Ok(printed) => difference(&expected, printed),
+            Err(what) => Some(what.clone()),
         };
-        if let Some(what) = difference(&expected, &printed) {
-            return self.report(list, name, &what);
+        if let Some(what) = wrong {
+            self.report(list, name, &what);
+            return None;
         }
+        let printed = printed.ok()?;
         self.printed.note(list, &printed);
         if list.config.c <= SEARCHED && !list.named.is_empty() {
-            self.histories += 1;
-            match ordered(list, &printed) {
-                Ok(history) => {
+            self.searched(list, name, &printed);
+        }
+        Some(printed)
+    }
+
+    /// Searches the history of each board.
+    fn searched(&mut self, list: &List, name: &str, printed: &str) {
+        match ordered(list, printed) {
+            Ok(histories) => {
+                for history in histories {
+                    self.histories += 1;
                     self.operations += history.operations.len();
                     self.printed.note_history(&history);
                 }
-                Err(Fault::NoOrder(what) | Fault::NoneRises(what)) => self.report(list, name, &what),
             }
+            Err(Fault::NoOrder(what) | Fault::NoneRises(what)) => self.report(list, name, &what),
         }
     }
 
-    /// A list by `simulate` with all clients at one rank: the lines are those of ranks 0, which `board` has.
+    /// A second list with the same events for one board and the same crashes. Where that board meets no 13 in either,
+    /// it has the same answers in both.
+    fn paired(&mut self, list: &List, printed: &str, name: &str, seen: &mut Seen) {
+        let board = self.random.within(1, list.config.boards) as u8;
+        let name = format!("{name}, the same for board {board}");
+        let second = pairs::second(&mut self.random, list, board, seen);
+        let Some(other) = self.one(&second, &name) else { return };
+        if let Err(what) = self.printed.pairs.note([list, &second], [printed, &other], board) {
+            self.report(&second, &name, &what);
+        }
+    }
+
+    /// A list by `simulate` with all clients at one rank, and with any share if it has one board: the lines are those of
+    /// ranks 0 and share 0, which `board` has.
     fn at_one_rank(&mut self, list: &List, name: &str) {
-        let rank = self.random.below(4) as u8;
-        let name = format!("{name} by simulate at rank {rank}");
+        let (rank, share) = (self.random.below(4) as u8, self.random.within(0, list.config.m));
+        let name = format!("{name} by simulate at rank {rank} with share {share}");
         let of_0 = if list.general { list.at_rank(0).lines() } else { list.lines() };
         let list = list.at_rank(rank);
+        let list = if list.config.boards == 1 { list.at_share(share) } else { list };
         match difference(&of_0, &list.lines()) {
             Some(what) => self.report(&list, &name, &format!("the model itself: {what}")),
-            None => self.one(&list, &name),
+            None => _ = self.one(&list, &name),
         }
     }
 
@@ -116,7 +142,10 @@ impl<'a> Runs<'a> {
             }
             let list = lists::list(seed, number, seen);
             let name = format!("seed {seed} list {number}");
-            self.one(&list, &name);
+            let printed = self.one(&list, &name);
+            if let Some(printed) = printed.filter(|_| number % lists::KINDS == lists::SHARED) {
+                self.paired(&list, &printed, &name, seen);
+            }
             let one_in = if list.general { 8 } else { 4 };
             if number / lists::KINDS % one_in == 0 && !list.named.is_empty() {
                 self.at_one_rank(&list, &name);
@@ -128,11 +157,15 @@ impl<'a> Runs<'a> {
         let of_three = |n, k, e| Config { n, k, d: 2, e, c: 3, m: 512, ..PROGRAM };
         let few = ranked(of_three(5, 2, 2), &[3, 1, 2]);
         let all = ranked(of_three(16, 16, 64), &[1, 1, 0]);
-        for (config, general, events) in [(PROGRAM, false, 20_000), (few, true, 20_000), (all, true, 8_000)] {
-            let list = lists::long(seed, config, general, events, seen);
+        let eight = shared(few, &[100, 0, 1, 50, 20, 0, 7, 60]);
+        let configs = [(PROGRAM, 20_000), (few, 20_000), (all, 8_000), (eight, 40_000)];
+        for (config, events) in configs {
+            let list = lists::long(seed, config, config != PROGRAM, events, seen);
             self.one(&list, &format!("seed {seed} long list"));
         }
-        self.one(&lists::full(seed, seen), &format!("seed {seed} full list"));
+        for shares in [&[0][..], &[64; 8], &[0; 8]] {
+            self.one(&lists::full(seed, shares, seen), &format!("seed {seed} full list"));
+        }
     }
 }
 

@@ -1,14 +1,15 @@
 //! Lists made for one point each that random lists seldom meet, with the lines that are due.
 
+use crate::directed_boards;
 use crate::directed_ranks;
 use crate::list::{List, head};
 use crate::model::{CLEARED, Config, PRE_WRITE, QUERY, READ_FINALISE, WRITE_FINALISE};
 use crate::programs::PROGRAM;
 use crate::script::{Directed, Script};
 
-/// Kind 9, makings and ranks.
+/// Kind 9, makings, ranks and boards.
 pub fn all() -> Vec<Directed> {
-    [cleared(), makings(), directed_ranks::all()].into_iter().flatten().collect()
+    [cleared(), makings(), directed_ranks::all(), directed_boards::all()].into_iter().flatten().collect()
 }
 
 /// Kind 9 and what a reader does with it, where N is 3, k 1, D 0 and E 1, so q is 2, and the starting board is 0.
@@ -39,12 +40,12 @@ fn makings() -> Vec<Directed> {
 
 fn refused(name: &'static str, config: Config, number: u8) -> Directed {
     let input = [head(&config), vec![0; 80]].concat();
-    making(name, config, input, &format!("no {number}"))
+    making(name, config, &input, &format!("no {number}"))
 }
 
 /// A making from this input that comes to no event.
-pub fn making(name: &'static str, config: Config, input: Vec<u8>, due: &str) -> Directed {
-    let list = List { general: true, input, config, start: vec![], named: vec![] };
+pub fn making(name: &'static str, config: Config, input: &[u8], due: &str) -> Directed {
+    let list = List { general: true, input: input.to_vec(), config, start: vec![], named: vec![] };
     Directed { name, list, due: format!("0 {due}\n") }
 }
 

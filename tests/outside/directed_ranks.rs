@@ -2,7 +2,7 @@
 //! count, so that their tags have number 1; client c writes byte c.
 
 use crate::directed::making;
-use crate::list::{head, ranked};
+use crate::list::{head, ranked, ranks_head};
 use crate::model::{CLEARED, Config, PRE_WRITE, QUERY, READ_FINALISE, WRITE_FINALISE};
 use crate::programs::PROGRAM;
 use crate::script::{Directed, Script};
@@ -194,10 +194,10 @@ fn below_the_floor() -> Script {
 /// 21, where it stands among the questions, and ranks cut short. The rest of each input is zeros.
 fn makings() -> Vec<Directed> {
     let of = |config: Config, ranks: &[u8]| ranked(config, ranks);
-    let whole = |name, config: Config, due| making(name, config, [head(&config), vec![0; 80]].concat(), due);
+    let whole = |name, config: Config, due| making(name, config, &[head(&config), vec![0; 80]].concat(), due);
     let cut = |name, ranks: &[u8], length, due| {
         let config = of(PROGRAM, ranks);
-        making(name, config, head(&config)[..length].to_vec(), due)
+        making(name, config, &ranks_head(&config)[..length], due)
     };
     let mut last_of_16 = [3; 16];
     last_of_16[15] = 4;
@@ -209,10 +209,10 @@ fn makings() -> Vec<Directed> {
         whole("rank 4 and M 513", of(Config { m: 513, ..PROGRAM }, &[4, 4]), "no 5"),
         whole("rank 4 and M 0", of(Config { m: 0, ..PROGRAM }, &[4, 4]), "no 5"),
         whole("rank 4 and E 65", of(Config { e: 65, ..PROGRAM }, &[4, 4]), "no 4"),
-        cut("rank 4 and no starting board", &[0, 4], 9, "no 21"),
+        cut("rank 4 and nothing after it", &[0, 4], 9, "no 21"),
         cut("no ranks", &[0, 0], 7, "short"),
         cut("a rank cut off", &[3, 0], 8, "short"),
         cut("a rank cut off after rank 4", &[4, 0], 8, "short"),
-        cut("ranks and no starting board", &[3, 3], 9, "short"),
+        cut("ranks and nothing after them", &[3, 3], 9, "short"),
     ]
 }

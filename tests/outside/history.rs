@@ -2,6 +2,7 @@
 //! Gong). The search knows operations, boards and times, and of tags only how those of ended writes rise.
 
 use crate::list::List;
+use crate::model::Event;
 use std::collections::{HashMap, HashSet};
 
 /// What the single board keeps and shows: a length and V bytes, zero past it.
@@ -35,18 +36,19 @@ pub struct History {
     pub operations: Vec<Operation>,
 }
 
-/// The lines don't print the client whose operation ended, so `list` names it.
-pub fn history(list: &List, lines: &str) -> Result<History, String> {
-    let v = list.start.len();
+/// That of one board, from the events that name it. The lines don't print the client whose operation ended, so `list`
+/// names it.
+pub fn history(list: &List, lines: &str, board: u8) -> Result<History, String> {
+    let v = list.config.v();
     let mut operations: Vec<Operation> = vec![];
     let mut open: [Option<usize>; 17] = [None; 17];
     let mut left_out = vec![];
-    for (time, (event, line)) in list.events().zip(lines.lines()).enumerate() {
+    for (time, event, line) in of_board(list, lines, board) {
         let words: Vec<&str> = line.split(' ').collect();
-        let (code, client) = (event[0], list.named[time] as usize);
+        let (code, client) = (event.code, list.named[time] as usize);
         if words[1] == "ok" && matches!(code, 1 | 2) {
-            open[event[1] as usize] = Some(operations.len());
-            let board = if code == 1 { written(event, v) } else { shown("", v) };
+            open[event.party as usize] = Some(operations.len());
+            let board = if code == 1 { written(&event, v) } else { shown("", v) };
             operations.push(Operation { write: code == 1, board, begin: time, end: None, tag: None });
         } else if matches!(words[1], "written" | "spent" | "read") {
             let ended = open[client].take().ok_or(format!("nothing open for {client}: {line}"))?;
@@ -67,7 +69,19 @@ pub fn history(list: &List, lines: &str) -> Result<History, String> {
     }
     let kept = operations.into_iter().enumerate();
     let kept = kept.filter(|(i, o)| !left_out.contains(i) && (o.write || o.end.is_some()));
-    Ok(History { start: board(v, &list.start, v), operations: kept.map(|(_, o)| o).collect() })
+    let start = self::board(v, list.start_of(board), v);
+    Ok(History { start, operations: kept.map(|(_, o)| o).collect() })
+}
+
+/// The events that name a board, with their places in the list and their lines. A crash names none.
+pub fn of_board<'a>(
+    list: &'a List,
+    lines: &'a str,
+    board: u8,
+) -> impl Iterator<Item = (usize, Event<'a>, &'a str)> {
+    let all = list.events().zip(lines.lines()).enumerate();
+    let all = all.map(|(time, (event, line))| (time, event, line));
+    all.filter(move |(_, event, _)| (1..=5).contains(&event.code) && event.board == board)
 }
 
 fn printed(number: &str, rank: u8, client: usize) -> Result<Tag, String> {
@@ -75,9 +89,9 @@ fn printed(number: &str, rank: u8, client: usize) -> Result<Tag, String> {
     Ok((number, rank, client as u8))
 }
 
-/// The board that an event 1 hands in; its length stands at the end.
-fn written(event: &[u8], v: usize) -> Board {
-    board(u16::from_le_bytes([event[4 + v], event[5 + v]]) as usize, &event[4..4 + v], v)
+/// The board that an event 1 hands in.
+fn written(event: &Event, v: usize) -> Board {
+    board(event.length, event.bytes, v)
 }
 
 /// The board of a read's digits; there are none if its length is 0.

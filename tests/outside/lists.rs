@@ -1,37 +1,29 @@
 //! The lists of a seed.
 
-use crate::list::{List, head};
+use crate::list::{List, head, shared};
 use crate::maker::{Maker, Mood, Order, Seen};
 use crate::model::Config;
 use crate::programs::PROGRAM;
 use crate::random::Random;
 
-/// Of five lists in turn one is for the program, one of any configuration, one adverse, one clearing and one tied.
-pub const KINDS: u64 = 5;
+/// Of six lists in turn one is for the program, one of any configuration, one adverse, one clearing, one tied and one
+/// shared.
+pub const KINDS: u64 = 6;
 pub const ADVERSE: u64 = 2;
 pub const CLEARING: u64 = 3;
 pub const TIED: u64 = 4;
+pub const SHARED: u64 = 5;
 
 /// List `number` of a seed.
 pub fn list(seed: u64, number: u64, seen: &mut Seen) -> List {
     let random = &mut Random::new(seed, number);
     let kind = number % KINDS;
-    if kind == 1 && random.chance(200) {
+    if kind == 1 && random.chance(350) {
         return refused(random);
     }
-    let config = match kind {
-        0 => PROGRAM,
-        1 => any_config(random),
-        ADVERSE => small_config(random),
-        CLEARING => clearing_config(random),
-        _ => tied_config(random),
-    };
-    let mood = match kind {
-        ADVERSE | TIED => adverse(random, &config),
-        CLEARING => clearing(random, &config),
-        _ => any_mood(random, &config),
-    };
-    let length = random.within(20, 40 + 80 * config.n).min(80_000 / config.v());
+    let (config, mood) = drawn(random, kind);
+    let length = random.within(20, 40 + 80 * config.n) * config.boards.min(4);
+    let length = length.min(80_000 / config.v());
     let noise = kind < ADVERSE && random.chance(50);
     let partial = if random.chance(250) { random.within(1, 5 + config.v()) } else { 0 };
     let partial = random.bytes(partial);
@@ -42,6 +34,7 @@ pub fn list(seed: u64, number: u64, seen: &mut Seen) -> List {
     let round = if kind == TIED { maker.random.within(20, 20 * config.n) } else { length };
     for event in 0..length {
         if kind == TIED && event % round == 0 {
+            maker.on = maker.random.within(1, config.boards) as u8;
             maker.tie();
         }
         if noise { maker.noise() } else { maker.any() }
@@ -54,8 +47,28 @@ pub fn list(seed: u64, number: u64, seen: &mut Seen) -> List {
     list
 }
 
-fn any_mood(random: &mut Random, config: &Config) -> Mood {
-    let calm = Mood {
+/// The configuration and the mood of a list of this kind.
+fn drawn(random: &mut Random, kind: u64) -> (Config, Mood) {
+    let config = match kind {
+        0 => PROGRAM,
+        1 => any_config(random),
+        ADVERSE => small_config(random),
+        CLEARING => clearing_config(random),
+        TIED => tied_config(random),
+        _ => shared_config(random),
+    };
+    let mood = match kind {
+        ADVERSE | TIED => adverse(random, &config),
+        CLEARING => clearing(random, &config),
+        SHARED => sharing(random, &config),
+        _ => any_mood(random, &config),
+    };
+    (config, mood)
+}
+
+/// No faults.
+fn calm(random: &mut Random, config: &Config) -> Mood {
+    Mood {
         begin: random.pick(&[20, 60, 150]),
         write: random.pick(&[300, 500, 700]),
         lose: 0,
@@ -72,7 +85,13 @@ fn any_mood(random: &mut Random, config: &Config) -> Mood {
         whole: random.pick(&[100, 300, 600]),
         fill: false,
         settle: true,
-    };
+        stay: random.pick(&[0, 500, 950]),
+        no_crash: false,
+    }
+}
+
+fn any_mood(random: &mut Random, config: &Config) -> Mood {
+    let calm = calm(random, config);
     let mixed = Mood {
         lose: random.below(20),
         double: random.below(60),
@@ -130,12 +149,30 @@ fn clearing(random: &mut Random, config: &Config) -> Mood {
     }
 }
 
+/// Out for 13: much is sent and doubled, and little is handed over or lost.
+pub fn sharing(random: &mut Random, config: &Config) -> Mood {
+    Mood {
+        begin: random.pick(&[50, 150, 300]),
+        lose: random.pick(&[0, 10, 100]),
+        double: random.pick(&[0, 50, 300]),
+        crash_server: random.pick(&[0, 0, 4]),
+        crash_client: random.pick(&[0, 0, 4]),
+        junk: random.pick(&[10, 60]),
+        writers: 16,
+        alone: false,
+        fill: random.chance(300),
+        settle: random.chance(700),
+        ..any_mood(random, config)
+    }
+}
+
 /// Servers that keep one or two elements. Now and then there is room for little more than what two clients send.
 fn clearing_config(random: &mut Random) -> Config {
     let Config { n, k, e, .. } = small_config(random);
     let m = if random.chance(150) { random.within(3 * n, 8 * n) } else { 512 };
     let (d, c) = (random.pick(&[0, 0, 1]), random.within(3, 4));
-    Config { n, k, d, e, c, m, ranks: ranks(random, c) }
+    let config = Config { n, k, d, e, c, m, ranks: ranks(random, c), ..PROGRAM };
+    on_boards(random, config, 300, 3)
 }
 
 /// Three or four clients that differ in rank, so that those of lower numbers often have the later tag.
@@ -149,7 +186,40 @@ fn small_config(random: &mut Random) -> Config {
     let n = random.within(3, 6);
     let (k, d, e) = (random.within(1, n - 2), random.within(1, 4), random.within(1, 2));
     let c = random.within(2, 4);
-    Config { n, k, d, e, c, m: 512, ranks: ranks(random, c) }
+    let config = Config { n, k, d, e, c, m: 512, ranks: ranks(random, c), ..PROGRAM };
+    on_boards(random, config, 300, 3)
+}
+
+/// Several boards, and often little room for all of them together.
+fn shared_config(random: &mut Random) -> Config {
+    let n = random.within(1, 5);
+    let (k, d, e) = (random.within(1, n.div_ceil(2)), random.below(4), random.within(1, 2));
+    let (c, most) = (random.within(1, 4), random.pick(&[2, 2, 3, 4, 8]));
+    let m = random.within(n, 16 * n * most).min(512);
+    let config = Config { n, k, d, e, c, m, ranks: ranks(random, c), ..PROGRAM };
+    on_boards(random, config, 1000, most)
+}
+
+/// The same with several boards, up to so many, in so many of 1000 draws; else with one. Shares are any.
+fn on_boards(random: &mut Random, config: Config, of_1000: usize, most: usize) -> Config {
+    let boards = if random.chance(of_1000) { random.within(2, most) } else { 1 };
+    shared(config, &shares(random, boards, config.m))
+}
+
+/// None, or adding to M, or to any number in between; even, or anyhow, or all of one board.
+fn shares(random: &mut Random, boards: usize, m: usize) -> Vec<usize> {
+    let any = random.within(0, m);
+    let whole = random.pick(&[0, m, any, any]);
+    let mut cuts: Vec<usize> = match random.below(4) {
+        0 => (0..=boards).map(|board| whole * board / boards).collect(),
+        1 => {
+            let first = random.within(1, boards);
+            (0..=boards).map(|board| if board < first { 0 } else { whole }).collect()
+        }
+        _ => (1..boards).map(|_| random.within(0, whole)).chain([0, whole]).collect(),
+    };
+    cuts.sort();
+    cuts.windows(2).map(|two| two[1] - two[0]).collect()
 }
 
 /// Mixed mostly, now and then all 0 or all the same.
@@ -185,21 +255,25 @@ fn any_config(random: &mut Random) -> Config {
         1 => random.within(2 * n, 64),
         _ => random.within(64, 512),
     };
-    Config { n, k, d, e, c, m, ranks: ranks(random, c) }
+    let config = Config { n, k, d, e, c, m, ranks: ranks(random, c), ..PROGRAM };
+    on_boards(random, config, if config.v() <= 64 { 400 } else { 100 }, if config.v() <= 64 { 8 } else { 2 })
 }
 
 /// A making that gets a number, or that is cut short.
 fn refused(random: &mut Random) -> List {
-    let mut config = any_config(random);
+    let config = any_config(random);
+    let mut config = on_boards(random, config, 700, 8);
     let cut = random.chance(400);
     while !cut && (config.ask().is_ok() || random.chance(300)) {
-        match random.below(9) {
+        match random.below(16) {
             0 => config.n = random.pick(&[0, 17, 255]),
             1 => config.k = random.pick(&[0, config.n + 1, 17, 255]),
             2 => config.d = random.pick(&[8, 9, 255]),
             3 => config.e = random.pick(&[0, 65, 255]),
             4 => config.c = random.pick(&[0, 17, 255]),
             5 => config.m = random.pick(&[0, 513, 768, 65535]),
+            6 | 7 => config.boards = random.pick(&[0, 9, 255]),
+            8..=11 => shares_too_high(random, &mut config),
             _ => {
                 let last = config.c.clamp(1, 16) - 1;
                 let any = random.within(0, last);
@@ -215,22 +289,54 @@ fn rank_too_high(random: &mut Random, config: &mut Config, places: &[usize]) {
     config.ranks[random.pick(places)] = random.pick(&[4, 4, 5, 255]);
 }
 
-/// Short of the header, of the ranks, where one may be too high, or of the starting board.
+/// One share is 1 above what the others leave of M, or more; or their sum is small in 16 bits alone.
+fn shares_too_high(random: &mut Random, config: &mut Config) {
+    let boards = config.boards.clamp(1, 8);
+    let place = random.below(boards);
+    let others: usize = (0..boards).filter(|other| *other != place).map(|other| config.shares[other]).sum();
+    let least = (config.m + 1).saturating_sub(others).min(65535);
+    let wraps = 65536_usize.saturating_sub(others.max(1)).min(65535);
+    config.shares[place] = random.pick(&[least, least, wraps, 65535]);
+}
+
+/// Short of the header, of the ranks, of the number of boards, of the shares, or of the starting boards. A rank or a
+/// share may be too high in a part that is cut.
 fn cut_short(random: &mut Random, config: &mut Config) -> Vec<u8> {
-    let (ranks, whole) = (7 + config.c, 7 + config.c + config.v());
-    let (from, to) = random.pick(&[(0, 7), (7, ranks), (7, ranks), (ranks, whole)]);
-    if random.chance(600) {
+    let ranks = 7 + config.c;
+    let (shares, whole) = (head(config).len(), head(config).len() + config.boards * config.v());
+    let parts = [(0, 7), (7, ranks), (7, ranks), (ranks, ranks + 1), (ranks + 1, shares), (shares, whole)];
+    let (from, to) = random.pick(&parts);
+    if to <= ranks && random.chance(600) {
         let last = config.c - 1;
         rank_too_high(random, config, &[0, 0, last]);
+    } else if to == shares && random.chance(600) {
+        config.shares[0] = random.pick(&[config.m + 1, 65535]);
     }
-    let mut input = [head(config), random.bytes(config.v())].concat();
+    let mut input = [head(config), random.bytes(config.boards * config.v())].concat();
     input.truncate(random.within(from, to - 1));
     input
 }
 
+/// What is read before a making is refused, or more.
 fn going_on(random: &mut Random, config: &Config) -> Vec<u8> {
+    if random.chance(300) {
+        return head(config)[..read_part(config)].to_vec();
+    }
     let more = random.below(3000);
     [head(config), random.bytes(more)].concat()
+}
+
+/// How much of the head is read before the question that refuses it.
+fn read_part(config: &Config) -> usize {
+    if config.ask_numbers().is_err() {
+        7
+    } else if config.ask_ranks().is_err() {
+        7 + config.c
+    } else if config.ask_boards().is_err() {
+        8 + config.c
+    } else {
+        head(config).len()
+    }
 }
 
 /// No faults, few writes at once.
@@ -249,6 +355,7 @@ fn busy(random: &mut Random, config: &Config) -> Mood {
         adverse: false,
         boards: 0,
         whole: 300,
+        stay: 0,
         ..any_mood(random, config)
     }
 }
@@ -262,14 +369,18 @@ pub fn long(seed: u64, config: Config, general: bool, events: usize, seen: &mut 
     maker.list
 }
 
-/// As many in flight as there can be, and more refused; then all is handed over.
-pub fn full(seed: u64, seen: &mut Seen) -> List {
+/// As many in flight as there can be, and more refused; then all is handed over. Boards have these shares.
+pub fn full(seed: u64, shares: &[usize], seen: &mut Seen) -> List {
     let random = &mut Random::new(seed, u64::MAX - 2);
-    let config = Config { n: 16, k: 8, d: 3, e: 2, c: 4, m: 512, ranks: ranks(random, 4) };
+    let config = Config { n: 16, k: 8, d: 3, e: 2, c: 4, m: 512, ranks: ranks(random, 4), ..PROGRAM };
+    let config = shared(config, shares);
     let mood = busy(random, &config);
     let mut maker = Maker::new(random, seen, mood, config, true);
     maker.fill();
-    (0..2 * config.n).for_each(|position| maker.position(5, position));
+    for board in 1..=config.boards as u8 {
+        maker.on = board;
+        (0..2 * config.n).for_each(|position| maker.position(5, position));
+    }
     maker.settle();
     maker.list
 }

@@ -2,7 +2,7 @@
 //! seed, and the program `load`.
 
 use crate::model::{Rig, ask};
-use crate::programs::{PROGRAM, called, take};
+use crate::programs::{PROGRAM, called, event, take};
 use std::io::{self, Read, Write};
 
 /// A draw, or the seed, from which the first one is made.
@@ -44,9 +44,10 @@ fn record(rig: &mut Rig, mut draw: impl FnMut() -> Draw) -> Event {
         _ => (0, second.checked_rem(in_flight).unwrap_or(0)),
     };
     let (code, party, byte, length) = (code as u8, party as u8, (third % 256) as u8, (code == 1) as u8);
-    _ = rig.event(code, party, position as usize, &[byte], length as usize);
     let [low, high] = (position as u16).to_le_bytes();
-    [code, party, low, high, byte, length, 0]
+    let made = [code, party, low, high, byte, length, 0];
+    _ = rig.event(event(&made, false));
+    made
 }
 
 /// Runs the program `load`, if this one is called so.

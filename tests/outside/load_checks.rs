@@ -3,7 +3,7 @@
 use crate::common::{Checks, tell};
 use crate::load::{DEFAULT_SEED, Draw, draws, load, records};
 use crate::model::{Answer, Phase, Rig};
-use crate::programs::PROGRAM;
+use crate::programs::{PROGRAM, event};
 
 /// All checks; the number that failed.
 pub fn all() -> usize {
@@ -41,9 +41,8 @@ fn figures() -> Checks {
 fn answers(seed: u32, count: usize) -> (Vec<(usize, Result<Answer, u8>)>, Rig) {
     let mut rig = Rig::make(PROGRAM, &[0]).unwrap();
     let mut answers = vec![];
-    for [code, party, low, high, byte, length, more] in records(seed).unwrap().take(count) {
-        let [position, length] = [[low, high], [length, more]].map(|two| u16::from_le_bytes(two) as usize);
-        answers.push((rig.flight.len(), rig.event(code, party, position, &[byte], length)));
+    for record in records(seed).unwrap().take(count) {
+        answers.push((rig.flight.len(), rig.event(event(&record, false))));
     }
     (answers, rig)
 }
@@ -88,7 +87,7 @@ fn came_to(seed: u32, count: usize) -> Came {
         last: answers.iter().rposition(|(_, answer)| answer.is_ok()).map_or(0, |at| at + 1),
         ended: ended.count(),
         most: answers.iter().map(|(in_flight, _)| *in_flight).max().unwrap(),
-        at_rest: rig.flight.is_empty() && rig.clients.iter().all(|client| client.phase != Phase::Idle),
+        at_rest: rig.flight.is_empty() && rig.on(1).clients.iter().all(|client| client.phase != Phase::Idle),
     }
 }
 

@@ -1,22 +1,26 @@
 //! Tests from outside: the programs `board` and `simulate` against an independent model of the documents.
 //! Called as `board` or `simulate` it is that program, run by the model.
 
+mod board_checks;
 mod checks;
 mod common;
 mod compare;
 mod directed;
+mod directed_boards;
 mod directed_ranks;
 mod history;
 mod list;
 mod lists;
 mod maker;
 mod model;
+mod pairs;
 mod printed;
 mod programs;
 mod random;
 mod rank_checks;
 mod script;
 mod search;
+mod sharing;
 mod speed;
 mod ties;
 

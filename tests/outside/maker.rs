@@ -1,11 +1,13 @@
 //! Makes a list of events. The model runs along, so that a draw can name what is in flight.
 
 use crate::common::never;
-use crate::list::{List, head};
+use crate::list::List;
 use crate::model::{
-    Answer, Board, CLEARED, Client, Config, Phase, QUERY, READ_FINALISE, Record, Rig, START, Tag,
+    Answer, Board, CLEARED, Client, Config, Event, Parties, Phase, QUERY, READ_FINALISE, Record, Rig, START,
+    Tag,
 };
 use crate::random::Random;
+use crate::sharing::{Before, Shared, Sharing};
 use crate::ties::{Ties, mixed, plain};
 use std::collections::HashSet;
 
@@ -16,7 +18,7 @@ pub struct Seen {
     pub written: usize,
     pub read: usize,
     /// By number.
-    pub refused: [usize; 20],
+    pub refused: [usize; 23],
     pub refused_13_at_handing_over: usize,
     pub refused_19_of_no_client: usize,
     /// Accepted, with bytes past their length that aren't 0.
@@ -33,6 +35,7 @@ pub struct Seen {
     pub most_in_flight: usize,
     pub cleared: Cleared,
     pub ties: Ties,
+    pub boards: Shared,
 }
 
 /// What they have met of kind 9.
@@ -73,6 +76,7 @@ impl Seen {
             ("13", self.refused[13]),
             ("13 at handing over", self.refused_13_at_handing_over),
             ("19", self.refused[19]),
+            ("22", self.refused[22]),
             ("19 of a client that isn't there", self.refused_19_of_no_client),
             ("writes with bytes past their length", self.writes_with_more_bytes),
             ("reads begun with a length above V", self.begun_reads_with_a_length),
@@ -83,7 +87,7 @@ impl Seen {
             ("not awaited (14)", self.not_awaited),
             ("512 in flight", (self.most_in_flight == 512) as usize),
         ];
-        [never(&counts), self.cleared.missing(), self.ties.missing()].concat()
+        [never(&counts), self.cleared.missing(), self.ties.missing(), self.boards.missing()].concat()
     }
 }
 
@@ -139,8 +143,31 @@ pub struct Mood {
     pub whole: usize,
     /// First the messages in flight are doubled up to about M.
     pub fill: bool,
-    /// In the end everything is handed over and each client reads.
+    /// In the end everything is handed over and clients read.
     pub settle: bool,
+    /// Chances of 1000 that an event is of the same board as the one before; else its board is drawn.
+    pub stay: usize,
+    /// No crash, not even one that is refused.
+    pub no_crash: bool,
+}
+
+/// What is kept of one board's part of a list.
+struct Part {
+    /// For each client: its operation and phase, and the servers that are quick in it, as bits.
+    quick: Vec<(u32, Phase, usize)>,
+    /// How often each client's operation has asked again.
+    again: Vec<usize>,
+    /// Client, operation number and server of each kind 9 that made a read ask again.
+    heeded: HashSet<(u8, u32, u8)>,
+    /// For each client the highest tag of its latest asking, ranks left out.
+    plain: Vec<Tag>,
+}
+
+impl Part {
+    fn of(c: usize) -> Part {
+        let quick = vec![(0, Phase::Idle, 0); c];
+        Part { quick, again: vec![0; c], heeded: HashSet::new(), plain: vec![START; c] }
+    }
 }
 
 pub struct Maker<'a> {
@@ -149,18 +176,15 @@ pub struct Maker<'a> {
     pub mood: Mood,
     pub rig: Rig,
     pub list: List,
+    /// The board that events name.
+    pub on: u8,
     /// Fields that an event doesn't use are drawn; else they are 0.
     littered: bool,
-    /// For each client: its operation and phase, and the servers that are quick in it, as bits.
-    quick: Vec<(u32, Phase, usize)>,
-    /// How often each client's operation has asked again.
-    again: Vec<usize>,
-    /// Client, operation number and server of each kind 9 that made a read ask again.
-    heeded: HashSet<(u8, u32, u8)>,
+    /// Those of boards 1, 2 and so on.
+    parts: Vec<Part>,
+    sharing: Sharing,
     /// Clients differ in rank.
     mixed: bool,
-    /// For each client the highest tag of its latest asking, ranks left out.
-    plain: Vec<Tag>,
 }
 
 impl<'a> Maker<'a> {
@@ -171,37 +195,71 @@ impl<'a> Maker<'a> {
         config: Config,
         general: bool,
     ) -> Self {
-        let start = if general { random.bytes(config.v()) } else { vec![0; config.v()] };
-        let input = if general { [head(&config), start.clone()].concat() } else { vec![] };
-        let rig = Rig::make(config, &start).expect("a configuration in range");
-        let list = List { general, input, config, start, named: vec![] };
+        let bytes = config.boards * config.v();
+        let start = if general { random.bytes(bytes) } else { vec![0; bytes] };
+        Maker::from(random, seen, mood, List::new(general, config, start))
+    }
+
+    /// Goes on from a list with no events.
+    pub fn from(random: &'a mut Random, seen: &'a mut Seen, mood: Mood, list: List) -> Self {
+        let config = list.config;
+        let rig = Rig::make(config, &list.start).expect("a configuration in range");
         let littered = random.chance(500);
-        let (quick, again) = (vec![(0, Phase::Idle, 0); config.c], vec![0; config.c]);
-        let (mixed, plain) = (mixed(&config), vec![START; config.c]);
-        let heeded = HashSet::new();
-        Maker { random, seen, mood, rig, list, littered, quick, again, heeded, mixed, plain }
+        let parts = (0..config.boards).map(|_| Part::of(config.c)).collect();
+        seen.boards.note_list(&config);
+        let (sharing, mixed) = (Sharing::default(), mixed(&config));
+        Maker { random, seen, mood, rig, list, on: 1, littered, parts, sharing, mixed }
+    }
+
+    /// The parties as the board has them.
+    fn here(&self) -> &Parties {
+        self.rig.on(self.on)
+    }
+
+    fn part(&self) -> &Part {
+        &self.parts[self.on as usize - 1]
+    }
+
+    fn part_mut(&mut self) -> &mut Part {
+        &mut self.parts[self.on as usize - 1]
+    }
+
+    /// The board's messages.
+    fn flight(&self) -> Vec<Record> {
+        self.rig.of(self.on).copied().collect()
     }
 
     /// Puts an event in the list and has the model run it.
-    fn put(&mut self, code: u8, party: u8, position: usize, bytes: &[u8], length: usize) {
-        self.list.input.extend([code, party]);
-        self.list.input.extend((position as u16).to_le_bytes());
-        self.list.input.extend(bytes);
-        self.list.input.extend((length as u16).to_le_bytes());
+    pub fn put(&mut self, event: Event) {
+        let names = (1..=5).contains(&event.code) && self.rig.config.ask_board(event.board).is_ok();
+        self.on = if names { event.board } else { self.on };
         self.seen.most_in_flight = self.seen.most_in_flight.max(self.rig.flight.len());
-        let handed = self.rig.flight.get(position).filter(|_| code == 3).copied();
-        let client = handed.map(|r| self.rig.clients[r.client as usize - 1].clone());
+        let handed = self.rig.of(self.on).nth(event.position).filter(|_| names && event.code == 3).copied();
+        let client = handed.map(|r| self.here().clients[r.client as usize - 1].clone());
         if let Some(r) = handed.filter(|r| self.mixed && r.for_server()) {
             self.note_tie(&r);
         }
-        let answer = self.rig.event(code, party, position, bytes, length);
+        let before = Before::of(&self.rig);
+        self.sharing.note_crash(&mut self.seen.boards, &self.rig, &event);
+        let answer = self.rig.event(event);
+        self.sharing.note(&mut self.seen.boards, &before, &self.rig, &event, &answer);
         if let (Some(r), Some(client)) = (handed, client) {
             self.note_handed_over(&r, &client, &answer);
         }
+        self.note_answer(&event, &answer);
+        let named = answer.map_or(0, |answer| answer.client());
+        self.list.put(&event, named);
+        if named > 0 {
+            self.part_mut().again[named as usize - 1] = 0;
+        }
+    }
+
+    fn note_answer(&mut self, event: &Event, answer: &Result<Answer, u8>) {
+        let Event { code, party, bytes, length, .. } = *event;
         match code {
-            1 => self.note_write(&answer, party, &bytes[length.min(bytes.len())..]),
+            1 => self.note_write(answer, party, &bytes[length.min(bytes.len())..]),
             2 => self.seen.begun_reads_with_a_length += (answer.is_ok() && length > bytes.len()) as usize,
-            _ => self.note_read(&answer),
+            _ => self.note_read(answer),
         }
         let met = match answer {
             Ok(Answer::Nothing) => &mut self.seen.ok,
@@ -209,27 +267,25 @@ impl<'a> Maker<'a> {
             Ok(Answer::Read(..)) => &mut self.seen.read,
             Ok(Answer::Spent(_)) => unreachable!("no list is that long"),
             Err(number) => {
-                self.seen.refused_13_at_handing_over += (code == 3 && number == 13) as usize;
-                &mut self.seen.refused[number as usize]
+                self.seen.refused_13_at_handing_over += (code == 3 && *number == 13) as usize;
+                &mut self.seen.refused[*number as usize]
             }
         };
         *met += 1;
-        let named = answer.map_or(0, |answer| answer.client());
-        self.list.named.push(named);
-        if named > 0 {
-            self.again[named as usize - 1] = 0;
-        }
     }
 
     /// Notes what a message has met and led to, by its client before it.
     fn note_handed_over(&mut self, r: &Record, client: &Client, answer: &Result<Answer, u8>) {
-        let server_up = self.rig.servers[r.server as usize - 1].up;
+        let server_up = self.here().servers[r.server as usize - 1].up;
         let up = if r.for_server() { server_up } else { client.phase != Phase::Down };
-        self.seen.handed_to_crashed += !up as usize;
+        if !up {
+            self.seen.handed_to_crashed += 1;
+            self.sharing.note_gone(&mut self.seen.boards, r, self.on);
+        }
         self.seen.not_awaited += (up && !r.for_server() && !client.awaits(r)) as usize;
         match r.kind {
             READ_FINALISE if up => {
-                let sent = self.rig.flight.last().map(|sent| sent.kind);
+                let sent = self.rig.flight.last().map(|sent| sent.record.kind);
                 self.seen.cleared.sent += (sent == Some(CLEARED)) as usize;
             }
             CLEARED => self.note_cleared(r, client, answer),
@@ -240,7 +296,7 @@ impl<'a> Maker<'a> {
 
     /// Notes what ranks will do with a message at a server that is up.
     fn note_tie(&mut self, r: &Record) {
-        let server = &self.rig.servers[r.server as usize - 1];
+        let server = &self.rig.on(self.on).servers[r.server as usize - 1];
         if server.up {
             self.seen.ties.at_server(&self.rig.config, server, r);
         }
@@ -250,26 +306,28 @@ impl<'a> Maker<'a> {
     fn note_asked(&mut self, r: &Record, client: &Client) {
         self.seen.ties.at_client(&self.rig.config, client.tag, r.tag);
         let place = client.number as usize - 1;
-        let before = if client.counted.is_empty() { START } else { self.plain[place] };
-        self.plain[place] = if plain(r.tag) > plain(before) { r.tag } else { before };
-        let Client { phase, tag, .. } = self.rig.clients[place];
-        self.seen.ties.taken += (phase == Phase::FinalisingRead && tag != self.plain[place]) as usize;
+        let before = if client.counted.is_empty() { START } else { self.part().plain[place] };
+        let highest = if plain(r.tag) > plain(before) { r.tag } else { before };
+        self.part_mut().plain[place] = highest;
+        let Client { phase, tag, .. } = self.here().clients[place];
+        self.seen.ties.taken += (phase == Phase::FinalisingRead && tag != highest) as usize;
     }
 
     /// Notes what a kind 9 has met.
     fn note_cleared(&mut self, r: &Record, client: &Client, answer: &Result<Answer, u8>) {
-        let met = &mut self.seen.cleared;
         let told = (r.client, r.operation, r.server);
+        let heeded = self.part().heeded.contains(&told);
+        let met = &mut self.seen.cleared;
         if client.phase == Phase::Down {
             met.handed_to_crashed += 1;
         } else if client.awaits(r) && answer.is_ok() {
-            self.heeded.insert(told);
+            self.part_mut().heeded.insert(told);
             self.note_again(client);
         } else if client.awaits(r) {
             met.refused_13 += 1;
         } else if client.phase == Phase::FinalisingRead && r.operation == client.operation {
             met.of_a_counted += 1;
-        } else if self.heeded.contains(&told) {
+        } else if heeded {
             met.doubled += 1;
         } else {
             met.late += 1;
@@ -278,12 +336,13 @@ impl<'a> Maker<'a> {
 
     /// Notes that a read asks again.
     fn note_again(&mut self, client: &Client) {
-        let again = &mut self.again[client.number as usize - 1];
+        let again = &mut self.part_mut().again[client.number as usize - 1];
         *again += 1;
+        let again = *again;
         let met = &mut self.seen.cleared;
         met.askings += 1;
-        met.asked_again += (*again == 1) as usize;
-        met.asked_twice += (*again == 2) as usize;
+        met.asked_again += (again == 1) as usize;
+        met.asked_twice += (again == 2) as usize;
         met.with_counted += !client.counted.is_empty() as usize;
         met.with_elements += !client.pieces.is_empty() as usize;
         met.with_k_elements += (client.pieces.len() >= self.rig.config.k) as usize;
@@ -299,8 +358,9 @@ impl<'a> Maker<'a> {
     /// Notes the length of a read that ends, and whether it has asked again.
     fn note_read(&mut self, answer: &Result<Answer, u8>) {
         let Ok(Answer::Read(client, tag, Board { length, bytes })) = answer else { return };
-        let again = self.again[*client as usize - 1];
-        self.seen.ties.ended += (self.mixed && *tag != self.plain[*client as usize - 1]) as usize;
+        let Part { again, plain, .. } = self.part();
+        let (again, plain) = (again[*client as usize - 1], plain[*client as usize - 1]);
+        self.seen.ties.ended += (self.mixed && *tag != plain) as usize;
         self.seen.cleared.ended_after_one += (again == 1) as usize;
         self.seen.cleared.ended_after_more += (again > 1) as usize;
         self.seen.reads_of_length_0 += (*length == 0) as usize;
@@ -313,8 +373,13 @@ impl<'a> Maker<'a> {
         if self.littered { self.random.below(most) } else { 0 }
     }
 
-    fn unused_board(&mut self) -> Vec<u8> {
-        (0..self.list.start.len()).map(|_| self.unused(256) as u8).collect()
+    fn unused_bytes(&mut self) -> Vec<u8> {
+        (0..self.rig.config.v()).map(|_| self.unused(256) as u8).collect()
+    }
+
+    /// The board's number in an event of this code; a crash and an unknown event don't use it.
+    fn number(&mut self, code: u8) -> u8 {
+        if (1..=5).contains(&code) || !self.list.general { self.on } else { self.unused(256) as u8 }
     }
 
     /// An event that names a party.
@@ -323,14 +388,16 @@ impl<'a> Maker<'a> {
             let length = self.length();
             return self.write(party, length);
         }
-        let (position, bytes, length) = (self.unused(65536), self.unused_board(), self.unused(65536));
-        self.put(code, party, position, &bytes, length);
+        let (position, bytes, length) = (self.unused(65536), self.unused_bytes(), self.unused(65536));
+        let board = self.number(code);
+        self.put(Event { code, party, position, board, bytes: &bytes, length });
     }
 
     /// An event that names a position.
     pub fn position(&mut self, code: u8, position: usize) {
-        let (party, bytes, length) = (self.unused(256) as u8, self.unused_board(), self.unused(65536));
-        self.put(code, party, position, &bytes, length);
+        let (party, bytes, length) = (self.unused(256) as u8, self.unused_bytes(), self.unused(65536));
+        let board = self.number(code);
+        self.put(Event { code, party, position, board, bytes: &bytes, length });
     }
 
     pub fn begin(&mut self, client: u8, write: bool) {
@@ -339,7 +406,7 @@ impl<'a> Maker<'a> {
 
     /// A write's length: V as often as the mood has it, else 0, any up to V, and now and then more.
     fn length(&mut self) -> usize {
-        let v = self.list.start.len();
+        let v = self.rig.config.v();
         if self.random.chance(self.mood.whole) {
             return v;
         }
@@ -351,19 +418,19 @@ impl<'a> Maker<'a> {
     }
 
     fn length_above(&mut self) -> usize {
-        let v = self.list.start.len();
+        let v = self.rig.config.v();
         let any = self.random.within(v + 1, 65535);
         self.random.pick(&[v + 1, v + 1, v + 256, 32768, 65535, any])
     }
 
     fn write(&mut self, party: u8, length: usize) {
         let (position, bytes) = (self.unused(65536), self.bytes(length));
-        self.put(1, party, position, &bytes, length);
+        self.put(Event { code: 1, party, position, board: self.on, bytes: &bytes, length });
     }
 
     /// The bytes of a write. Many are 0, so that some boards differ by their length alone.
     fn bytes(&mut self, length: usize) -> Vec<u8> {
-        let v = self.list.start.len();
+        let v = self.rig.config.v();
         let any = (0..v).map(|_| if self.random.chance(250) { 0 } else { self.random.byte() });
         let mut bytes: Vec<u8> = any.collect();
         if self.mood.boards > 0 {
@@ -373,11 +440,11 @@ impl<'a> Maker<'a> {
     }
 
     fn clients(&self, fit: impl Fn(&Client) -> bool) -> Vec<u8> {
-        self.rig.clients.iter().filter(|client| fit(client)).map(|client| client.number).collect()
+        self.here().clients.iter().filter(|client| fit(client)).map(|client| client.number).collect()
     }
 
     fn servers(&self, up: bool) -> Vec<u8> {
-        (1..).zip(&self.rig.servers).filter(|(_, server)| server.up == up).map(|(s, _)| s).collect()
+        (1..).zip(&self.here().servers).filter(|(_, server)| server.up == up).map(|(s, _)| s).collect()
     }
 
     /// Names one of the parties, if there are any.
@@ -392,13 +459,13 @@ impl<'a> Maker<'a> {
     /// Of its client's present phase, and to or from a server quick in it.
     fn ready(&self, r: &Record) -> bool {
         let phases = [Phase::Asking, Phase::PreWriting, Phase::FinalisingWrite, Phase::FinalisingRead];
-        let (operation, phase, quick) = self.quick[r.client as usize - 1];
+        let (operation, phase, quick) = self.part().quick[r.client as usize - 1];
         let present = operation == r.operation && phase == phases[(r.kind as usize - 1).min(7) / 2];
         !self.mood.adverse || present && quick >> r.server & 1 == 1
     }
 
     fn any_ready(&self) -> bool {
-        self.rig.flight.iter().any(|r| self.ready(r))
+        self.rig.of(self.on).any(|r| self.ready(r))
     }
 
     /// Draws the servers that are quick in a client's phase: a quorum, or often fewer.
@@ -410,15 +477,15 @@ impl<'a> Maker<'a> {
         while servers.len() > count {
             servers.remove(self.random.below(servers.len()));
         }
-        let Client { operation, phase, .. } = self.rig.clients[client];
-        self.quick[client] = (operation, phase, servers.iter().map(|s| 1 << s).sum());
+        let Client { operation, phase, .. } = self.here().clients[client];
+        self.part_mut().quick[client] = (operation, phase, servers.iter().map(|s| 1 << s).sum());
     }
 
     /// Draws for phases just entered, for others now and then, and for anyone when all wait.
     fn draw_all_quick(&mut self) {
         for client in 0..self.rig.config.c {
-            let (operation, phase, _) = self.quick[client];
-            let now = &self.rig.clients[client];
+            let (operation, phase, _) = self.part().quick[client];
+            let now = &self.here().clients[client];
             if (now.operation, now.phase) != (operation, phase) || self.random.chance(5) {
                 self.draw_quick(client);
             }
@@ -434,7 +501,7 @@ impl<'a> Maker<'a> {
 
     /// Hands over, loses or doubles a message, one that is ready if there is any.
     fn message(&mut self, code: u8) {
-        let flight = &self.rig.flight;
+        let flight = self.flight();
         let mut from: Vec<usize> = (0..flight.len()).filter(|p| self.ready(&flight[*p])).collect();
         if from.is_empty() || self.random.chance(20) {
             from = (0..flight.len()).collect();
@@ -453,32 +520,60 @@ impl<'a> Maker<'a> {
         self.write(party, length);
     }
 
-    /// Codes, parties, positions and lengths that no sensible host names.
+    /// An event of a board that isn't there, whatever else it names.
+    fn no_board(&mut self) {
+        let Config { c, boards, .. } = self.rig.config;
+        let next = boards as u8 + 1;
+        let board = self.random.pick(&[0, 0, next, next, next + 7, 255]);
+        let (code, party) = (self.random.within(1, 5) as u8, self.random.below(c + 2) as u8);
+        let position = self.random.pick(&[0, self.rig.flight.len(), 65535]);
+        let length = if self.random.chance(700) { self.length() } else { self.length_above() };
+        let bytes = self.bytes(length);
+        self.put(Event { code, party, position, board, bytes: &bytes, length });
+    }
+
+    /// Codes, parties, positions, lengths and boards that no sensible host names.
     fn junk(&mut self) {
-        let Config { n, c, .. } = self.rig.config;
-        let flight = self.rig.flight.len();
-        let outside = |most: usize| [0, most as u8 + 1, most as u8 + 16, 255];
-        let begin_or_crash = self.random.pick(&[1, 2, 7]);
-        if self.random.chance(100) {
-            return self.too_long();
+        match self.random.below(20) {
+            0 | 1 => self.too_long(),
+            2..=4 if self.list.general => self.no_board(),
+            _ => self.no_such(),
         }
+    }
+
+    /// Codes, parties and positions that aren't there, and parties that are down or busy.
+    fn no_such(&mut self) {
+        let Config { n, c, .. } = self.rig.config;
+        let (flight, all) = (self.rig.count(self.on), self.rig.flight.len());
+        let outside = |most: usize| [0, most as u8 + 1, most as u8 + 16, 255];
+        let no_crash = self.mood.no_crash;
+        let begin_or_crash = self.random.pick(if no_crash { &[1, 2] } else { &[1, 2, 7] });
         let made = match self.random.below(6) {
             0 => self.one_of(begin_or_crash, &outside(c)),
-            1 => self.one_of(6, &outside(n)),
+            1 if !no_crash => self.one_of(6, &outside(n)),
             2 => self.one_of(begin_or_crash.min(2), &self.clients(|client| client.phase != Phase::Idle)),
-            3 => self.one_of(7, &self.clients(|client| client.phase == Phase::Down)),
-            4 => self.one_of(6, &self.servers(false)),
+            3 if !no_crash => self.one_of(7, &self.clients(|client| client.phase == Phase::Down)),
+            4 if !no_crash => self.one_of(6, &self.servers(false)),
             _ => false,
         };
         let code = self.random.pick(&[0, 3, 4, 5, 8, 128, 255]);
-        let position = self.random.pick(&[flight, flight + 1, flight + 256, 512, 32768, 65535]);
+        let last = all.max(flight + 1) - 1;
+        let position = self.random.pick(&[flight, flight + 1, flight + 256, last, 512, 32768, 65535]);
         if !made {
             self.position(code, position);
         }
     }
 
-    /// Any event, as the mood has it.
+    /// Any event of any board, as the mood has it.
     pub fn any(&mut self) {
+        if !self.random.chance(self.mood.stay) {
+            self.on = self.random.within(1, self.rig.config.boards) as u8;
+        }
+        self.any_here();
+    }
+
+    /// Any event of the board.
+    pub fn any_here(&mut self) {
         let mood = self.mood;
         if mood.adverse {
             self.draw_all_quick();
@@ -497,7 +592,7 @@ impl<'a> Maker<'a> {
         }
         let idle = self.clients(|client| client.phase == Phase::Idle);
         let busy = |client: &Client| !matches!(client.phase, Phase::Idle | Phase::Down);
-        let waits = |client: &Client| busy(client) && self.again[client.number as usize - 1] < 2;
+        let waits = |client: &Client| busy(client) && self.part().again[client.number as usize - 1] < 2;
         let may_begin = !idle.is_empty() && (!mood.alone || self.clients(waits).is_empty());
         if may_begin && (!self.any_ready() || self.random.chance(mood.begin)) {
             let writers = self.clients(|client| busy(client) && client.board.is_some());
@@ -505,7 +600,7 @@ impl<'a> Maker<'a> {
             let client = self.random.pick(&idle);
             return self.begin(client, write);
         }
-        if self.rig.flight.is_empty() {
+        if self.rig.count(self.on) == 0 {
             return self.junk();
         }
         let lose = self.random.chance(mood.lose);
@@ -513,16 +608,24 @@ impl<'a> Maker<'a> {
         self.message(if lose { 4 } else { 3 + 2 * double as u8 });
     }
 
-    /// Each client begins, then messages are doubled, nearly to M.
+    /// Each client begins on each board, then messages are doubled, nearly to M or as far as shares have it.
     pub fn fill(&mut self) {
-        for client in 1..=self.rig.config.c as u8 {
-            let write = self.random.chance(self.mood.write);
-            self.begin(client, write);
+        let Config { n, c, m, boards, .. } = self.rig.config;
+        for board in 1..=boards as u8 {
+            self.on = board;
+            for client in 1..=c as u8 {
+                let write = self.random.chance(self.mood.write);
+                self.begin(client, write);
+            }
         }
-        let most = self.rig.config.m.saturating_sub(self.random.below(2 * self.rig.config.n));
-        while !self.rig.flight.is_empty() && self.rig.flight.len() < most {
-            let position = self.random.below(self.rig.flight.len());
-            self.position(5, position);
+        let most = m.saturating_sub(self.random.below(2 * n));
+        for _ in 0..2 * m {
+            self.on = self.random.within(1, boards) as u8;
+            let count = self.rig.count(self.on);
+            if count > 0 && self.rig.flight.len() < most {
+                let position = self.random.below(count);
+                self.position(5, position);
+            }
         }
     }
 
@@ -536,20 +639,29 @@ impl<'a> Maker<'a> {
         writers.iter().for_each(|client| self.begin(*client, true));
         for kind in [QUERY, QUERY + 1] {
             let theirs = |r: &&Record| r.kind == kind && writers.contains(&r.client);
-            for _ in 0..self.rig.flight.iter().filter(theirs).count() {
-                let first = self.rig.flight.iter().position(|r| theirs(&r));
+            for _ in 0..self.rig.of(self.on).filter(theirs).count() {
+                let first = self.rig.of(self.on).position(|r| theirs(&r));
                 self.position(3, first.expect("one is left"));
             }
         }
     }
 
-    /// Everything is handed over, then each client that is idle reads.
+    /// Everything is handed over, then each client that is idle reads; where there are several boards, two of them on
+    /// each.
     pub fn settle(&mut self) {
         self.mood.adverse = false;
-        self.hand_over_all();
-        for client in self.clients(|client| client.phase == Phase::Idle) {
-            self.begin(client, false);
+        let Config { c, boards, .. } = self.rig.config;
+        for board in 1..=boards as u8 {
+            self.on = board;
             self.hand_over_all();
+        }
+        for board in 1..=boards as u8 {
+            self.on = board;
+            let idle = self.clients(|client| client.phase == Phase::Idle);
+            for client in idle.into_iter().take(if boards == 1 { c } else { 2 }) {
+                self.begin(client, false);
+                self.hand_over_all();
+            }
         }
     }
 
@@ -557,7 +669,7 @@ impl<'a> Maker<'a> {
     /// for each client: they could ask for ever.
     fn hand_over_all(&mut self) {
         let most = self.seen.cleared.askings + 3 * self.rig.config.c;
-        while !self.rig.flight.is_empty() {
+        while self.rig.count(self.on) > 0 {
             let refused = self.seen.refused_13_at_handing_over;
             self.message(if self.seen.cleared.askings < most { 3 } else { 4 });
             if self.seen.refused_13_at_handing_over > refused {
@@ -573,8 +685,10 @@ impl<'a> Maker<'a> {
         let (code, party, low) = (byte(), byte(), byte());
         let high = if self.random.chance(950) { 0 } else { self.random.byte() };
         let position = u16::from_le_bytes([low, high]) as usize;
-        let bytes = self.random.bytes(self.list.start.len());
+        let bytes = self.random.bytes(self.rig.config.v());
         let length = if self.random.chance(800) { self.length() } else { self.random.below(65536) };
-        self.put(code, party, position, &bytes, length);
+        let any = self.random.below(self.rig.config.boards + 2) as u8;
+        let board = if self.list.general { any } else { 1 };
+        self.put(Event { code, party, position, board, bytes: &bytes, length });
     }
 }

@@ -1,4 +1,4 @@
-//! An independent model of document 01 and of requests L1, L2 and L5 of document 02, from their text alone: field,
+//! An independent model of document 01 and of requests L1, L2, L5 and L6 of document 02, from their text alone: field,
 //! code, tags, server, client, rig.
 //! A refusal is `Err` with the number of the first question answered no.
 
@@ -17,6 +17,10 @@ pub struct Config {
     pub m: usize,
     /// Those of clients 1 to C, in this order.
     pub ranks: [u8; 16],
+    /// Their number.
+    pub boards: usize,
+    /// The guaranteed messages of boards 1, 2 and so on.
+    pub shares: [usize; 8],
 }
 
 pub fn ask(yes: bool, number: u8) -> Result<(), u8> {
@@ -24,10 +28,12 @@ pub fn ask(yes: bool, number: u8) -> Result<(), u8> {
 }
 
 impl Config {
-    /// Questions 1 to 5 and 21, as the rig puts them.
+    /// Questions 1 to 5, 21 and 22, as the rig puts them.
     pub fn ask(&self) -> Result<(), u8> {
         self.ask_numbers()?;
-        ask(self.ranks[..self.c].iter().all(|rank| *rank <= 3), 21)
+        self.ask_ranks()?;
+        self.ask_boards()?;
+        self.ask_shares()
     }
 
     /// Questions 1 to 5.
@@ -37,6 +43,31 @@ impl Config {
         ask(self.d <= 7, 3)?;
         ask((1..=64).contains(&self.e), 4)?;
         ask((1..=16).contains(&self.c) && (1..=512).contains(&self.m), 5)
+    }
+
+    /// Question 21.
+    pub fn ask_ranks(&self) -> Result<(), u8> {
+        ask(self.ranks[..self.c].iter().all(|rank| *rank <= 3), 21)
+    }
+
+    /// Question 22, of the number of boards.
+    pub fn ask_boards(&self) -> Result<(), u8> {
+        ask((1..=8).contains(&self.boards), 22)
+    }
+
+    /// Question 22, of their shares.
+    pub fn ask_shares(&self) -> Result<(), u8> {
+        ask(self.guaranteed() <= self.m, 22)
+    }
+
+    /// Question 22, of the board that an event names.
+    pub fn ask_board(&self, board: u8) -> Result<(), u8> {
+        ask((1..=self.boards).contains(&(board as usize)), 22)
+    }
+
+    /// The shares' sum.
+    pub fn guaranteed(&self) -> usize {
+        self.shares.iter().take(self.boards).sum()
     }
 
     /// Bytes in a board.
@@ -402,14 +433,14 @@ impl Client {
     }
 
     /// Queries under the next operation number, at a begin and when a read asks again.
-    fn query(&mut self, config: &Config, flight: &mut Vec<Record>) {
+    fn query(&mut self, config: &Config, sent: &mut Vec<Record>) {
         self.operation += 1;
         self.pieces.clear();
-        self.enter(config, Phase::Asking, START, flight);
+        self.enter(config, Phase::Asking, START, sent);
     }
 
     /// Enters a phase and sends its records, in server order.
-    fn enter(&mut self, config: &Config, phase: Phase, tag: Tag, flight: &mut Vec<Record>) {
+    fn enter(&mut self, config: &Config, phase: Phase, tag: Tag, sent: &mut Vec<Record>) {
         self.counted.clear();
         (self.phase, self.tag) = (phase, tag);
         let kind = match phase {
@@ -422,7 +453,7 @@ impl Client {
         for server in 1..=config.n as u8 {
             let board = self.board.as_ref().filter(|_| kind == PRE_WRITE);
             let piece = board.map(|board| Piece::of(config, board, server));
-            flight.push(Record { kind, client, server, operation, tag, piece });
+            sent.push(Record { kind, client, server, operation, tag, piece });
         }
     }
 }
@@ -448,126 +479,228 @@ impl Answer {
     }
 }
 
-pub struct Rig {
-    pub config: Config,
+/// An event as a host names it. Only a begin of a write looks at the bytes and at the length, and only events 1 to 5 at
+/// the board.
+#[derive(Clone, Copy, Debug)]
+pub struct Event<'a> {
+    pub code: u8,
+    pub party: u8,
+    pub position: usize,
+    pub board: u8,
+    pub bytes: &'a [u8],
+    pub length: usize,
+}
+
+/// A message in flight: its record, and beside it its board.
+#[derive(Clone, Copy, Debug)]
+pub struct Message {
+    pub board: u8,
+    pub record: Record,
+}
+
+/// The parties as they are on one board. Whether one is down is the same on all boards.
+#[derive(Clone, Debug)]
+pub struct Parties {
     pub servers: Vec<Server>,
     pub clients: Vec<Client>,
-    pub flight: Vec<Record>,
+}
+
+impl Parties {
+    /// The starting board has length V.
+    fn fresh(config: &Config, bytes: &[u8]) -> Parties {
+        let board = Board { length: config.v(), bytes: bytes.to_vec() };
+        let servers = (1..=config.n as u8).map(|s| Server::fresh(Piece::of(config, &board, s)));
+        let clients = (1..=config.c as u8).map(Client::fresh);
+        Parties { servers: servers.collect(), clients: clients.collect() }
+    }
+}
+
+#[derive(Clone, Debug)]
+pub struct Rig {
+    pub config: Config,
+    /// For boards 1, 2 and so on.
+    pub parties: Vec<Parties>,
+    /// The messages of all boards, in order of sending.
+    pub flight: Vec<Message>,
 }
 
 impl Rig {
-    /// The starting board has length V.
+    /// Starting boards come joined, board by board.
     pub fn make(config: Config, bytes: &[u8]) -> Result<Rig, u8> {
         config.ask()?;
-        ask(bytes.len() == config.v(), 6)?;
-        let board = Board { length: config.v(), bytes: bytes.to_vec() };
-        let servers = (1..=config.n as u8).map(|s| Server::fresh(Piece::of(&config, &board, s)));
-        let clients = (1..=config.c as u8).map(Client::fresh);
-        Ok(Rig { config, servers: servers.collect(), clients: clients.collect(), flight: vec![] })
+        ask(bytes.len() == config.boards * config.v(), 6)?;
+        let parties = bytes.chunks(config.v()).map(|start| Parties::fresh(&config, start));
+        Ok(Rig { config, parties: parties.collect(), flight: vec![] })
     }
 
-    /// Only a begin of a write looks at the bytes and at the length.
-    pub fn event(
-        &mut self,
-        code: u8,
-        party: u8,
-        position: usize,
-        bytes: &[u8],
-        length: usize,
-    ) -> Result<Answer, u8> {
+    /// The parties as this board has them.
+    pub fn on(&self, board: u8) -> &Parties {
+        &self.parties[board as usize - 1]
+    }
+
+    fn on_mut(&mut self, board: u8) -> &mut Parties {
+        &mut self.parties[board as usize - 1]
+    }
+
+    /// This board's messages, in order of sending.
+    pub fn of(&self, board: u8) -> impl Iterator<Item = &Record> {
+        self.flight.iter().filter(move |message| message.board == board).map(|message| &message.record)
+    }
+
+    /// How many messages this board has in flight.
+    pub fn count(&self, board: u8) -> usize {
+        self.of(board).count()
+    }
+
+    /// 22 comes before all else that is asked of an event. A crash and an unknown event name no board.
+    pub fn event(&mut self, event: Event) -> Result<Answer, u8> {
+        let Event { code, party, position, board, bytes, length } = event;
+        if (1..=5).contains(&code) {
+            self.config.ask_board(board)?;
+        }
         match code {
-            1 => self.begin_write(party, bytes, length),
-            2 => self.begin(party, None),
-            3 => self.hand_over(position),
-            4 => self.lose(position),
-            5 => self.double(position),
+            1 => self.begin_write(board, party, bytes, length),
+            2 => self.begin(board, party, None),
+            3 => self.hand_over(board, position),
+            4 => self.lose(board, position),
+            5 => self.double(board, position),
             6 => self.crash_server(party),
             7 => self.crash_client(party),
             _ => Err(7),
         }
     }
 
-    /// 19 comes before 8.
-    fn begin_write(&mut self, party: u8, bytes: &[u8], length: usize) -> Result<Answer, u8> {
-        ask(length <= self.config.v(), 19)?;
-        self.begin(party, Some((bytes, length)))
+    /// Question 8 of a position, which counts this board's messages only: the message's place among all in flight.
+    fn place(&self, board: u8, position: usize) -> Result<usize, u8> {
+        let all = self.flight.iter().enumerate();
+        let of_board = all.filter(|(_, message)| message.board == board);
+        of_board.map(|(place, _)| place).nth(position).ok_or(8)
     }
 
-    fn begin(&mut self, party: u8, write: Option<(&[u8], usize)>) -> Result<Answer, u8> {
+    /// How many messages are beyond the shares, summed over all boards, if this board has so many.
+    pub fn beyond(&self, board: u8, count: usize) -> usize {
+        let beyond = |other: u8| {
+            let count = if other == board { count } else { self.count(other) };
+            count.saturating_sub(self.config.shares[other as usize - 1])
+        };
+        (1..=self.config.boards as u8).map(beyond).sum()
+    }
+
+    /// Question 13, where this board would have so many in flight afterwards.
+    fn ask_room(&self, board: u8, count: usize) -> Result<(), u8> {
+        ask(self.beyond(board, count) <= self.config.m - self.config.guaranteed(), 13)
+    }
+
+    /// What is sent is of the board whose event sends it.
+    fn send(&mut self, board: u8, sent: Vec<Record>) {
+        self.flight.extend(sent.into_iter().map(|record| Message { board, record }));
+    }
+
+    fn take(&mut self, place: usize) -> Message {
+        self.flight.remove(place)
+    }
+
+    /// 19 comes before 8.
+    fn begin_write(&mut self, board: u8, party: u8, bytes: &[u8], length: usize) -> Result<Answer, u8> {
+        ask(length <= self.config.v(), 19)?;
+        self.begin(board, party, Some((bytes, length)))
+    }
+
+    fn begin(&mut self, board: u8, party: u8, write: Option<(&[u8], usize)>) -> Result<Answer, u8> {
         ask((1..=self.config.c).contains(&(party as usize)), 8)?;
-        let client = &mut self.clients[party as usize - 1];
+        let client = &self.on(board).clients[party as usize - 1];
         let up = client.phase != Phase::Down;
         ask(up, 9)?;
         ask(client.phase == Phase::Idle, 10)?;
         ask(client.operation < u32::MAX, 11)?;
-        ask(self.flight.len() + self.config.n <= self.config.m, 13)?;
+        self.ask_room(board, self.count(board) + self.config.n)?;
+        let (config, mut sent) = (self.config, vec![]);
+        let client = &mut self.on_mut(board).clients[party as usize - 1];
         client.board = write.map(|(bytes, length)| Board::cut(bytes, length));
-        client.query(&self.config, &mut self.flight);
+        client.query(&config, &mut sent);
+        self.send(board, sent);
         Ok(Answer::Nothing)
     }
 
-    fn hand_over(&mut self, position: usize) -> Result<Answer, u8> {
-        ask(position < self.flight.len(), 8)?;
-        let r = self.flight[position];
+    fn hand_over(&mut self, board: u8, position: usize) -> Result<Answer, u8> {
+        let place = self.place(board, position)?;
+        let r = self.flight[place].record;
         ask(r.well_formed(&self.config), 12)?;
-        if r.for_server() { self.to_server(position, r) } else { self.to_client(position, r) }
+        if r.for_server() { self.to_server(board, place, r) } else { self.to_client(board, place, r) }
     }
 
     /// One leaves and at most one comes, so 13 is never due.
-    fn to_server(&mut self, position: usize, r: Record) -> Result<Answer, u8> {
-        self.flight.remove(position);
-        let server = &mut self.servers[r.server as usize - 1];
+    fn to_server(&mut self, board: u8, place: usize, r: Record) -> Result<Answer, u8> {
+        let (config, mut sent) = (self.config, vec![]);
+        self.take(place);
+        let server = &mut self.on_mut(board).servers[r.server as usize - 1];
         if server.up {
-            self.flight.push(server.step(&self.config, &r));
+            sent.push(server.step(&config, &r));
         }
+        self.send(board, sent);
         Ok(Answer::Nothing)
     }
 
-    fn to_client(&mut self, position: usize, r: Record) -> Result<Answer, u8> {
-        let client = &mut self.clients[r.client as usize - 1];
-        let next = client.next(&self.config, &r);
-        let sent = if matches!(next, Next::Send(..) | Next::AskAgain) { self.config.n } else { 0 };
-        ask(self.flight.len() - 1 + sent <= self.config.m, 13)?;
-        self.flight.remove(position);
+    fn to_client(&mut self, board: u8, place: usize, r: Record) -> Result<Answer, u8> {
+        let (config, mut sent) = (self.config, vec![]);
+        let next = self.on(board).clients[r.client as usize - 1].next(&config, &r);
+        let sends = if matches!(next, Next::Send(..) | Next::AskAgain) { config.n } else { 0 };
+        self.ask_room(board, self.count(board) - 1 + sends)?;
+        self.take(place);
+        let client = &mut self.on_mut(board).clients[r.client as usize - 1];
+        let mut answer = Answer::Nothing;
         match next {
             Next::NotAwaited => {}
-            Next::Count => client.count(&self.config, &r),
-            Next::Send(phase, tag) => client.enter(&self.config, phase, tag, &mut self.flight),
-            Next::AskAgain => client.query(&self.config, &mut self.flight),
-            Next::End(answer) => {
-                client.phase = Phase::Idle;
-                return Ok(answer);
-            }
+            Next::Count => client.count(&config, &r),
+            Next::Send(phase, tag) => client.enter(&config, phase, tag, &mut sent),
+            Next::AskAgain => client.query(&config, &mut sent),
+            Next::End(ended) => (client.phase, answer) = (Phase::Idle, ended),
         }
+        self.send(board, sent);
+        Ok(answer)
+    }
+
+    fn lose(&mut self, board: u8, position: usize) -> Result<Answer, u8> {
+        let place = self.place(board, position)?;
+        self.take(place);
         Ok(Answer::Nothing)
     }
 
-    fn lose(&mut self, position: usize) -> Result<Answer, u8> {
-        ask(position < self.flight.len(), 8)?;
-        self.flight.remove(position);
+    fn double(&mut self, board: u8, position: usize) -> Result<Answer, u8> {
+        let place = self.place(board, position)?;
+        self.ask_room(board, self.count(board) + 1)?;
+        self.flight.push(self.flight[place]);
         Ok(Answer::Nothing)
     }
 
-    fn double(&mut self, position: usize) -> Result<Answer, u8> {
-        ask(position < self.flight.len(), 8)?;
-        ask(self.flight.len() < self.config.m, 13)?;
-        self.flight.push(self.flight[position]);
-        Ok(Answer::Nothing)
-    }
-
+    /// On all boards.
     fn crash_server(&mut self, party: u8) -> Result<Answer, u8> {
         ask((1..=self.config.n).contains(&(party as usize)), 8)?;
-        let server = &mut self.servers[party as usize - 1];
-        ask(server.up, 9)?;
-        server.up = false;
+        let place = party as usize - 1;
+        ask(self.parties[0].servers[place].up, 9)?;
+        self.parties.iter_mut().for_each(|parties| parties.servers[place].up = false);
         Ok(Answer::Nothing)
     }
 
+    /// On all boards.
     fn crash_client(&mut self, party: u8) -> Result<Answer, u8> {
         ask((1..=self.config.c).contains(&(party as usize)), 8)?;
-        let client = &mut self.clients[party as usize - 1];
-        ask(client.phase != Phase::Down, 9)?;
-        client.phase = Phase::Down;
+        let place = party as usize - 1;
+        ask(self.parties[0].clients[place].phase != Phase::Down, 9)?;
+        self.parties.iter_mut().for_each(|parties| parties.clients[place].phase = Phase::Down);
         Ok(Answer::Nothing)
+    }
+
+    /// Question 6, of stored tags, of each message's board, of the room and of who is down.
+    pub fn in_limits(&self) -> bool {
+        let down = |parties: &Parties| -> (Vec<bool>, Vec<bool>) {
+            let clients = parties.clients.iter().map(|client| client.phase == Phase::Down);
+            (parties.servers.iter().map(|server| !server.up).collect(), clients.collect())
+        };
+        let alike = |parties: &Parties| down(parties) == down(&self.parties[0]);
+        let stored = |parties: &Parties| parties.servers.iter().all(|server| server.in_limits(&self.config));
+        self.parties.iter().all(|parties| alike(parties) && stored(parties))
+            && self.flight.iter().all(|message| self.config.ask_board(message.board).is_ok())
+            && self.ask_room(1, self.count(1)).is_ok()
     }
 }

@@ -1,6 +1,6 @@
 //! The programs `board` and `simulate` over the model: bytes in, lines out.
 
-use crate::model::{Answer, Config, Rig, Tag};
+use crate::model::{Answer, Config, Event, Rig, Tag};
 use std::io::{self, BufReader, BufWriter, Read, Stdin, Stdout, Write};
 use std::path::Path;
 use std::process::exit;
@@ -41,53 +41,89 @@ pub fn take(input: &mut impl Read, buffer: &mut [u8]) -> io::Result<usize> {
     Ok(got)
 }
 
-/// The program's configuration; its ranks and its starting board are 0.
-pub const PROGRAM: Config = Config { n: 3, k: 1, d: 0, e: 1, c: 2, m: 64, ranks: [0; 16] };
+/// The program's configuration; its ranks, its starting board and its one board's share are 0.
+pub const PROGRAM: Config =
+    Config { n: 3, k: 1, d: 0, e: 1, c: 2, m: 64, ranks: [0; 16], boards: 1, shares: [0; 8] };
 
 pub fn board(input: &mut impl Read, out: &mut impl Write) -> io::Result<()> {
     let rig = Rig::make(PROGRAM, &[0]).expect("the program's configuration");
-    events(rig, input, out)
+    events(rig, false, input, out)
 }
 
-/// Questions 1 to 5 are put to the header, before the ranks are looked at, and 21 to the ranks, before the starting
-/// board is.
-pub fn simulate(input: &mut impl Read, out: &mut impl Write) -> io::Result<()> {
-    let mut header = [0; 7];
-    if take(input, &mut header)? < 7 {
-        return writeln!(out, "0 short");
+/// Why no rig is made.
+enum Unmade {
+    Short,
+    No(u8),
+    Unread(io::Error),
+}
+
+impl From<u8> for Unmade {
+    fn from(number: u8) -> Unmade {
+        Unmade::No(number)
     }
+}
+
+/// Fills the whole buffer.
+fn fill(input: &mut impl Read, buffer: &mut [u8]) -> Result<(), Unmade> {
+    let got = take(input, buffer).map_err(Unmade::Unread)?;
+    if got < buffer.len() { Err(Unmade::Short) } else { Ok(()) }
+}
+
+pub fn simulate(input: &mut impl Read, out: &mut impl Write) -> io::Result<()> {
+    match made(input) {
+        Ok(rig) => events(rig, true, input, out),
+        Err(Unmade::Short) => writeln!(out, "0 short"),
+        Err(Unmade::No(number)) => writeln!(out, "0 no {number}"),
+        Err(Unmade::Unread(why)) => Err(why),
+    }
+}
+
+/// N, k, D, E, C, a byte each, M, 2 bytes; the ranks of clients 1 to C; the number of boards; a share of 2 bytes for
+/// each; the starting boards. Each part is asked once it is read.
+fn made(input: &mut impl Read) -> Result<Rig, Unmade> {
+    let mut header = [0; 7];
+    fill(input, &mut header)?;
     let [n, k, d, e, c] = std::array::from_fn(|i| header[i] as usize);
     let m = u16::from_le_bytes([header[5], header[6]]) as usize;
-    let mut config = Config { n, k, d, e, c, m, ranks: [0; 16] };
-    if let Err(number) = config.ask_numbers() {
-        return writeln!(out, "0 no {number}");
+    let mut config = Config { n, k, d, e, c, m, ..PROGRAM };
+    config.ask_numbers()?;
+    fill(input, &mut config.ranks[..c])?;
+    config.ask_ranks()?;
+    let mut number = [0];
+    fill(input, &mut number)?;
+    config.boards = number[0] as usize;
+    config.ask_boards()?;
+    let mut shares = vec![0; 2 * config.boards];
+    fill(input, &mut shares)?;
+    for (share, two) in config.shares.iter_mut().zip(shares.chunks(2)) {
+        *share = u16::from_le_bytes([two[0], two[1]]) as usize;
     }
-    let ranks = &mut config.ranks[..c];
-    if take(input, ranks)? < c {
-        return writeln!(out, "0 short");
-    }
-    if let Err(number) = config.ask() {
-        return writeln!(out, "0 no {number}");
-    }
-    let mut board = vec![0; config.v()];
-    if take(input, &mut board)? < board.len() {
-        return writeln!(out, "0 short");
-    }
-    events(Rig::make(config, &board).expect("asked above"), input, out)
+    config.ask_shares()?;
+    let mut start = vec![0; config.boards * config.v()];
+    fill(input, &mut start)?;
+    Ok(Rig::make(config, &start)?)
 }
 
-/// Records of 6 + V bytes: code, party, position, board, length.
-pub fn events(mut rig: Rig, input: &mut impl Read, out: &mut impl Write) -> io::Result<()> {
-    let v = rig.config.v();
-    let mut record = vec![0; 6 + v];
+/// A record of V bytes of a board and 6 or, with a board's number, 7 others: code, party, position (2 bytes), the
+/// board's number, the bytes, length (2 bytes). Without a number it is board 1.
+pub fn event(record: &[u8], numbered: bool) -> Event<'_> {
+    let (head, rest) = record.split_at(4 + numbered as usize);
+    let (bytes, length) = rest.split_at(rest.len() - 2);
+    let position = u16::from_le_bytes([head[2], head[3]]) as usize;
+    let length = u16::from_le_bytes([length[0], length[1]]) as usize;
+    let board = if numbered { head[4] } else { 1 };
+    Event { code: head[0], party: head[1], position, board, bytes, length }
+}
+
+/// Records of `simulate` have a board's number, those of `board` have none.
+pub fn events(mut rig: Rig, numbered: bool, input: &mut impl Read, out: &mut impl Write) -> io::Result<()> {
+    let mut record = vec![0; 6 + numbered as usize + rig.config.v()];
     for count in 1u64.. {
         let got = take(input, &mut record)?;
         if got < record.len() {
             return if got == 0 { Ok(()) } else { writeln!(out, "{count} short") };
         }
-        let position = u16::from_le_bytes([record[2], record[3]]) as usize;
-        let length = u16::from_le_bytes([record[4 + v], record[5 + v]]) as usize;
-        match rig.event(record[0], record[1], position, &record[4..4 + v], length) {
+        match rig.event(event(&record, numbered)) {
             Ok(Answer::Nothing) => writeln!(out, "{count} ok")?,
             Ok(Answer::Written(_, t)) => writeln!(out, "{count} written {} {}", t.number, t.client)?,
             Ok(Answer::Spent(_)) => writeln!(out, "{count} spent")?,

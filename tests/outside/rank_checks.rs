@@ -135,12 +135,10 @@ fn drawn(kind: u64, count: u64) -> impl Iterator<Item = List> {
 
 /// Whether each server's tags get a yes to 6 after each event, asked under these ranks.
 fn in_limits(list: &List, asked: &Config) -> bool {
-    let v = list.start.len();
     let mut rig = Rig::make(list.config, &list.start).unwrap();
     list.events().all(|event| {
-        let [position, length] = [2, 4 + v].map(|at| u16::from_le_bytes([event[at], event[at + 1]]) as usize);
-        _ = rig.event(event[0], event[1], position, &event[4..4 + v], length);
-        rig.servers.iter().all(|server| server.in_limits(asked))
+        _ = rig.event(event);
+        rig.parties.iter().flat_map(|parties| &parties.servers).all(|server| server.in_limits(asked))
     })
 }
 
@@ -206,7 +204,7 @@ fn rising_lines() -> Checks {
         let (input, config, named) = (input.collect(), ranked(PROGRAM, ranks), vec![0, 0, 1, 2, 0, 2]);
         let list = List { general: false, input, config, start: vec![0], named };
         let lines = format!("1 ok\n2 ok\n3 written 1 1\n4 written 1 2\n5 ok\n6 read 1 {shown}\n");
-        let operations = history(&list, &lines).unwrap().operations;
+        let operations = history(&list, &lines, 1).unwrap().operations;
         assert!(found(&operations), "an order fits: {:?}", from_zero(&operations));
         found_rising(&operations)
     };

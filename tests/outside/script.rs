@@ -1,7 +1,7 @@
 //! A list made by hand, event by event, with the lines that are due. Boards have one byte.
 
-use crate::list::{List, head};
-use crate::model::{Config, PRE_WRITE, QUERY, READ_FINALISE, Rig, WRITE_FINALISE};
+use crate::list::List;
+use crate::model::{Config, Event, PRE_WRITE, QUERY, READ_FINALISE, Rig, WRITE_FINALISE};
 use crate::programs::PROGRAM;
 
 pub struct Directed {
@@ -13,6 +13,8 @@ pub struct Directed {
 /// A list in the making. The model runs along, so that a message can be named by its kind, client and server.
 pub struct Script {
     pub rig: Rig,
+    /// The board that events name.
+    pub on: u8,
     list: List,
     due: String,
 }
@@ -20,12 +22,14 @@ pub struct Script {
 impl Script {
     /// For `board` if the configuration is the program's, else for `simulate`.
     pub fn new(config: Config) -> Script {
-        let general = config != PROGRAM;
-        let start = vec![0; config.v()];
-        let input = if general { [head(&config), start.clone()].concat() } else { vec![] };
-        let rig = Rig::make(config, &start).expect("a configuration in range");
-        let list = List { general, input, config, start, named: vec![] };
-        Script { rig, list, due: String::new() }
+        Script::from(config, &vec![0; config.boards])
+    }
+
+    /// From these starting boards.
+    pub fn from(config: Config, start: &[u8]) -> Script {
+        let rig = Rig::make(config, start).expect("a configuration in range");
+        let list = List::new(config != PROGRAM, config, start.to_vec());
+        Script { rig, on: 1, list, due: String::new() }
     }
 
     pub fn named(self, name: &'static str) -> Directed {
@@ -33,9 +37,14 @@ impl Script {
     }
 
     pub fn event(&mut self, [code, party, position, byte]: [u8; 4], due: &str) {
-        self.list.input.extend([code, party, position, 0, byte, 1, 0]);
-        let answer = self.rig.event(code, party, position as usize, &[byte], 1);
-        self.list.named.push(answer.map_or(0, |answer| answer.client()));
+        let (position, board) = (position as usize, self.on);
+        self.put(Event { code, party, position, board, bytes: &[byte], length: 1 }, due);
+    }
+
+    /// An event of any board and length.
+    pub fn put(&mut self, event: Event, due: &str) {
+        let answer = self.rig.event(event);
+        self.list.put(&event, answer.map_or(0, |answer| answer.client()));
         self.due += &format!("{} {due}\n", self.list.named.len());
     }
 
@@ -49,9 +58,9 @@ impl Script {
 
     /// Where the newest such message is; past all if there is none.
     fn newest(&self, kind: u8, client: u8, server: u8) -> u8 {
-        let flight = &self.rig.flight;
-        let found = flight.iter().rposition(|r| (r.kind, r.client, r.server) == (kind, client, server));
-        found.unwrap_or(flight.len()) as u8
+        let flight = || self.rig.of(self.on);
+        let found = flight().zip(0..).filter(|(r, _)| (r.kind, r.client, r.server) == (kind, client, server));
+        found.last().map_or(flight().count() as u8, |(_, position)| position)
     }
 
     /// Hands over the newest message of this kind to or from each of these servers.
@@ -80,7 +89,7 @@ impl Script {
         self.event([4, 0, self.newest(kind, client, server), 0], "ok");
     }
 
-    /// So many are in flight: there is nothing at that position, and the last one can be doubled and its copy lost.
+    /// So many of the board are in flight: there is nothing at that position, and the last one can be doubled and its copy lost.
     pub fn in_flight(&mut self, count: u8) {
         self.event([4, 0, count, 0], "no 8");
         self.event([5, 0, count - 1, 0], "ok");

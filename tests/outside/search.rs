@@ -11,10 +11,14 @@ pub enum Fault {
     NoneRises(String),
 }
 
-/// Whether the history of a run has an order that fits with its ended writes in rising tag order; the history, or what
-/// is wrong.
-pub fn ordered(list: &List, lines: &str) -> Result<History, Fault> {
-    let history = history(list, lines).map_err(Fault::NoOrder)?;
+/// Whether each board's history of a run has an order that fits with its ended writes in rising tag order; the
+/// histories, or what is wrong with the first that has none.
+pub fn ordered(list: &List, lines: &str) -> Result<Vec<History>, Fault> {
+    (1..=list.config.boards as u8).map(|board| one_ordered(list, lines, board)).collect()
+}
+
+fn one_ordered(list: &List, lines: &str, board: u8) -> Result<History, Fault> {
+    let history = history(list, lines, board).map_err(Fault::NoOrder)?;
     match search_rising(&history) {
         Some(order) if fits(&history, &order) && rises(&history, &order) => Ok(history),
         Some(_) => Err(Fault::NoOrder("the search's order doesn't fit or rise".to_string())),

@@ -11,6 +11,7 @@ mod model;
 mod programs;
 mod random;
 mod search;
+mod sharing;
 mod ties;
 
 use search::{Fault, ordered};
@@ -24,12 +25,13 @@ fn main() {
     exit(search_all(numbers[0], numbers[1]))
 }
 
-/// Histories of adverse, clearing and tied lists in turn, up to the first without an order that fits. Where each has
+/// Histories of adverse, clearing, tied and shared lists in turn, up to the first without an order that fits. Where each has
 /// one, tells the first in which the writes rise in none.
 fn search_all(seed: u64, count: u64) -> i32 {
     let mut none_rises = None;
     for number in 0..count {
-        let kind = [lists::ADVERSE, lists::CLEARING, lists::TIED][number as usize % 3];
+        let kinds = [lists::ADVERSE, lists::CLEARING, lists::TIED, lists::SHARED];
+        let kind = kinds[number as usize % kinds.len()];
         let list = lists::list(seed, lists::KINDS * number + kind, &mut maker::Seen::default());
         let told = |what: String| {
             let what: String = what.chars().take(80).collect();

@@ -1,5 +1,6 @@
 //! Events per second of the programs and of the model on the same list. Prints a table; decides nothing.
 
+use crate::list::shared;
 use crate::lists;
 use crate::maker::Seen;
 use crate::model::Config;
@@ -32,14 +33,16 @@ fn time(program: &Path, input: &Path, output: &Path) -> Duration {
 
 /// Prints a row for each program; a difference in the last lines counts as a failure.
 pub fn speed(seed: u64, directory: &str, board: &str, simulate: &str) -> usize {
-    let large = Config { n: 16, k: 8, d: 7, e: 64, c: 16, m: 512, ranks: [0; 16] };
+    let large = Config { n: 16, k: 8, d: 7, e: 64, c: 16, m: 512, ..PROGRAM };
+    let of_eight = shared(large, &[32; 8]);
     println!("seed {seed}: events a second of processor time, the best of {ROUNDS} rounds in turn");
     println!(
-        "program  (N, k, E, D, C, M)       events  written   read     model   program  program's time/model's"
+        "program  (N, k, E, D, C, M)   boards   events  written   read     model   program  program's time/model's"
     );
     let directory = Path::new(directory);
     row(seed, directory, "board", &PROGRAM, 2_000_000, board)
         + row(seed, directory, "simulate", &large, 100_000, simulate)
+        + row(seed, directory, "simulate", &of_eight, 100_000, simulate)
 }
 
 fn row(seed: u64, directory: &Path, name: &str, config: &Config, events: usize, program: &str) -> usize {
@@ -53,11 +56,11 @@ fn row(seed: u64, directory: &Path, name: &str, config: &Config, events: usize, 
         model_best = model_best.min(time(&directory.join(name), &input, &by_model));
         program_best = program_best.min(time(Path::new(program), &input, &by_program));
     }
-    let Config { n, k, d, e, c, m, .. } = config;
+    let Config { n, k, d, e, c, m, boards, .. } = config;
     let config = format!("({n}, {k}, {e}, {d}, {c}, {m})");
     let a_second = |best: Duration| events as f64 / best.as_secs_f64();
     println!(
-        "{name:<9}{config:<22}{events:>9}{:>9}{:>7}{:>10.0}{:>10.0}{:>8.2}",
+        "{name:<9}{config:<22}{boards:>6}{events:>9}{:>9}{:>7}{:>10.0}{:>10.0}{:>8.2}",
         seen.written,
         seen.read,
         a_second(model_best),

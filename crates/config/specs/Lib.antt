@@ -3,3 +3,4 @@ pub mod Lengths
 pub mod Number
 pub mod Questions
 pub mod Refusal
+pub mod Room

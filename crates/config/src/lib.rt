@@ -1,5 +1,6 @@
-// The configuration of document 01, with the ranks of document 02: its questions 1 to 5 and 21, the quorum, the lengths of buffers, the numbers of
-// servers and clients, and the names of the refusals. Every function is proved, nothing is assumed, and no public function has a `requires`.
+// The configuration of document 01, with the ranks of document 02, and the boards' shares of the messages in flight: its questions 1 to 5, 21
+// and 22, the quorum, the lengths of buffers, the numbers of servers and clients, and the names of the refusals. Every function is proved,
+// nothing is assumed, and no public function has a `requires`.
 ghost use mathlib.Core.List.{[], _∷_, _++_};
 ghost use mathlib.Core.Path.{_≡_};
 ghost use Rattle.config.specs.Config.{mostClients, questions, questionsTo5, quorumOf, rank as rankOf, ranksWithin, rigQuestions};
@@ -7,7 +8,9 @@ ghost use Rattle.config.specs.Lengths.{lengthsOf, messagesLength};
 ghost use Rattle.config.specs.Number.{NewClientPost, NewServerPost, clientNumber, serverNumber};
 ghost use Rattle.config.specs.Questions.{ask as question, firstNo, lastQuestion, within as inside};
 ghost use Rattle.config.specs.Refusal.{clamped, passing15, refusalNumber, verdictNumber};
+ghost use Rattle.config.specs.Room.{mostBoards, roomQuestions, sharesSum};
 ghost use Prim.Native.Nat.{min, _≤_};
+ghost use lib.Dec.{leb};
 
 // The most servers.
 pub const MOST_SERVERS: usize = 16;
@@ -23,6 +26,9 @@ pub const MOST_WIDTH: usize = 64;
 
 // The greatest M.
 pub const MOST_MESSAGES: usize = 512;
+
+// The most boards.
+pub const MOST_BOARDS: usize = 8;
 
 // The highest rank.
 pub const HIGHEST_RANK: u8 = 3;
@@ -43,6 +49,14 @@ pub struct Config {
     pub e: usize,
     pub c: usize,
     pub ranks: [u8; 16],
+}
+
+// The messages in flight: at most M; so many boards share them, numbered from 1, and each has a guaranteed share, that of board 1 first. Shares
+// past the boards are not looked at. The numbers may have any value.
+pub struct Room {
+    pub m: usize,
+    pub boards: usize,
+    pub shares: [usize; 8],
 }
 
 // The least configuration: one server and one client, of rank 0.
@@ -76,6 +90,23 @@ impl Config {
         }
         if !ranks_within(self) {
             return 21;
+        }
+        0
+    }
+
+    // Questions 1 to 5, 21 and 22 as the rig puts them: 22 is of the boards and of their shares of the messages.
+    pub fn ask_room(self, room: Room) -> u8
+        ensures { λ r. ⌜ r ≡ firstNo (roomQuestions self room) ⌝ }
+    {
+        let asked = self.ask_rig(room.m);
+        if asked != 0 {
+            return asked;
+        }
+        if !within(1, MOST_BOARDS, room.boards) {
+            return 22;
+        }
+        if !shares_fit(room) {
+            return 22;
         }
         0
     }
@@ -192,6 +223,24 @@ fn ranks_within(cfg: Config) -> bool
             return false;
         }
         i += 1;
+    }
+    true
+}
+
+// Question 22: whether the boards' shares add to at most M. They are taken from M one by one, for their sum could wrap.
+fn shares_fit(room: Room) -> bool
+    requires { ⌜ room .boards ≤ mostBoards ⌝ }
+    ensures { λ r. ⌜ r ≡ leb (sharesSum room) (room .m) ⌝ }
+{
+    let mut left = room.m;
+    let mut board = 0;
+    while board < room.boards {
+        let share = room.shares[board];
+        if left < share {
+            return false;
+        }
+        left -= share;
+        board += 1;
     }
     true
 }

@@ -72,7 +72,7 @@ left-of true false c d ec ed h z f = f refl
 left-of false b c d ec ed h z f = refl
 
 -- it is a number that is given
-six-given : (cfg : Config) (m : ℕ) (holds : Bool) → Given (firstNo (rigQuestions cfg m ++ ask 6 holds ∷ []))
+pub six-given : (cfg : Config) (m : ℕ) (holds : Bool) → Given (firstNo (rigQuestions cfg m ++ ask 6 holds ∷ []))
 unfolding numbered
 six-given cfg m holds =
     firstNo-given (rigQuestions cfg m ++ ask 6 holds ∷ []) (numbered-both (rigQuestions cfg m) (ask 6 holds ∷ []) (rigQuestions-numbered cfg m) refl)
@@ -254,7 +254,7 @@ module _ (cfg : Config) (m : ℕ) (r : Rig) (a : Call) (board read : List ℕ) (
       clientAt : ℕ → Bool
       clientAt i = clientInPlace cfg i (getElem? (r .clients) i)
 
-      pair-within : partWithin cfg p ≡ true
+      pub pair-within : partWithin cfg p ≡ true
       unfolding partWithin serverAt clientAt
       pair-within =
           ap₂ _&&_

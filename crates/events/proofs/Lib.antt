@@ -1,5 +1,6 @@
 pub mod Asked
 mod Clients
+pub mod Alone
 pub mod Entry
 pub mod Inside
 pub mod Lengths

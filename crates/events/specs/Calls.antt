@@ -1,13 +1,15 @@
 -- An event of a rig, and the same by the part of the rig that it can touch: what each answers and leaves.
 use Prim.Native.Nat.{ℕ, _-_}
-use mathlib.Core.Bool.{true, false}
+use mathlib.Core.Bool.{Bool, true, false, _&&_}
 use mathlib.Core.Path.{_≡_}
 use mathlib.Core.Option.{Option, none, some}
-use mathlib.Core.List.{List, _++_, map}
+use mathlib.Core.List.{List, [], _∷_, _++_, map}
+use lib.Dec.{leb}
 use lib.ListN.{length, drop, getElem?, set}
 use Rattle.laws.specs.Lists.{toList, without}
 use Rattle.config.specs.declared.Config.{Config}
-use Rattle.config.specs.Questions.{firstNo}
+use Rattle.config.specs.Config.{rigQuestions}
+use Rattle.config.specs.Questions.{ask, firstNo}
 use Rattle.record.specs.Record.{recordOf}
 use Rattle.client.specs.declared.State as client
 use Rattle.protocol.specs.Boards.{BoardCall, BoardMessage, BoardTurn, boardOf, moveOf}
@@ -17,12 +19,13 @@ use Rattle.parties.specs.declared.Node.{Node}
 use Rattle.parties.specs.Acts.{answerOf, isRead}
 use Rattle.events.specs.declared.Call.{Call}
 use Rattle.events.specs.declared.Change.{Change}
+use Rattle.events.specs.declared.Crashed.{Crashed}
 use Rattle.events.specs.declared.Part.{Part}
 use Rattle.events.specs.declared.Places.{Places}
 use Rattle.events.specs.declared.Rig.{Rig}
 use Rattle.events.specs.declared.Turn.{Turn}
 use Rattle.events.specs.View.{Lent, flight, view}
-use Rattle.events.specs.Questions.{eventQuestions, partQuestions, rigWithin, sized}
+use Rattle.events.specs.Questions.{allSized, eventQuestions, hasPlaces, partQuestions, partWithin, placesOf, rigWithin, sized}
 
 -- an event as it is called: its code, party and position, and the board handed in, of the length handed in
 abbrev pub called : Call → List ℕ → BoardCall
@@ -104,3 +107,34 @@ pub record ChangePost (cfg : Config) (m : ℕ) (p : Part) (a : Call) (board read
   -- leaves, with its answer and its buffers
   pub event : partNo cfg m p a board read l ≡ 0 → (r : Rig) → PartOf r p → rigWithin cfg m r ≡ true
       → EventPost cfg m r (called a board) read l (turned r x) read′ l′
+
+-- "6 crash a server, 7 crash a client"
+abbrev pub crashCode : Crashed → ℕ
+crashCode Crashed.Server = 6
+crashCode Crashed.Client = 7
+
+-- the crash of a party, as an event is called
+abbrev pub crashCall : Crashed → ℕ → Call
+crashCall k party = record { code = crashCode k; party = party; position = 0; length = 0 }
+
+-- 6 of a part, for a crash alone: how many are in flight, its places, which are to be those that the crash names, and what its parties keep. Which
+-- places a crash names does not hang on the messages.
+abbrev pub crashWithin : Config → ℕ → Part → Call → Bool
+crashWithin cfg m p a = leb (p .count) m && hasPlaces p (placesOf cfg (p .count) a []) && partWithin cfg p
+
+-- the first of questions 1 to 5, 21 and 6 that is answered no, or 0
+abbrev pub crashNo : Config → ℕ → Part → Call → ℕ
+crashNo cfg m p a = firstNo (rigQuestions cfg m ++ ask 6 (crashWithin cfg m p a) ∷ [])
+
+-- Events 6 and 7 alone, by the part of a rig that they name.
+pub record CrashesPost (cfg : Config) (m : ℕ) (p : Part) (a : Call) (x : Change) : Type 0 where
+  -- its places stay
+  pub server : x .part .server ≡ p .server
+  pub client : x .part .client ≡ p .client
+  -- "The first "no" is returned; state and buffers hold their old content"
+  pub refuses : (crashNo cfg m p a ≡ 0 → ⊥) → (read : List ℕ) → (answerOf (x .answer) read ≡ refused (crashNo cfg m p a)) × (x .part ≡ p)
+  -- of every rig that the part is of and whose parties pass question 6, with any buffers of their lengths: what is left, put into the part's
+  -- places, is what the rig's event leaves, with its answer; the buffers stay
+  pub event : crashNo cfg m p a ≡ 0 → (board read : List ℕ) (l : Lent) (r : Rig) → PartOf r p → rigWithin cfg m r ≡ true
+      → allSized cfg m (called a board .board .bytes) read l ≡ true
+      → EventPost cfg m r (called a board) read l (turned r x) read l

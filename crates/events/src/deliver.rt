@@ -22,7 +22,7 @@ fn settle(part: Part, position: usize, acted: Acted, sends: &[u8], messages: &mu
 {
     let count = part.count;
     let answer = acted.answer;
-    if outcome::is_refusal(answer) {
+    if answer.is_refusal() {
         return outcome::acted(part, acted, count);
     }
     let left = flight::remove(count, position, messages);

@@ -21,7 +21,7 @@ ghost use mathlib.Core.List.{[], _∷_, _++_};
 ghost use mathlib.Core.Path.{_≡_};
 ghost use Rattle.config.specs.Config.{rigQuestions};
 ghost use Rattle.config.specs.Questions.{ask as question, firstNo};
-ghost use Rattle.events.specs.Calls.{ChangePost, partAt};
+ghost use Rattle.events.specs.Calls.{ChangePost, CrashesPost, crashCall, partAt};
 ghost use Rattle.events.specs.Questions.{lentSized, placesOf};
 ghost use Rattle.events.specs.View.{lent};
 
@@ -75,6 +75,30 @@ impl Part {
 pub struct Change {
     pub answer: Answer,
     pub part: Part,
+}
+
+// What crashes: a server, or a client.
+pub enum Crashed {
+    Server,
+    Client,
+}
+
+impl Crashed {
+    // The crash of the party of a number, as an event is called.
+    pub fn call(self, party: u8) -> Call
+        ensures { λ r. ⌜ r ≡ crashCall self party ⌝ }
+    {
+        let code = match self {
+            Crashed::Server => 6,
+            Crashed::Client => 7,
+        };
+        Call {
+            code,
+            party,
+            position: 0,
+            length: 0,
+        }
+    }
 }
 
 // What an event leaves.
@@ -161,4 +185,20 @@ pub fn changes(
         boards,
         elements,
     )
+}
+
+// A crash alone, of the party of a number, on the part whose places `names` gives: questions 1 to 5, 21, 6, 8 and 9. It touches no buffer, and none
+// is lent: who keeps one party on several boards has it crash on each.
+pub fn crashes(cfg: Config, m: usize, part: Part, which: Crashed, party: u8) -> Change
+    ensures { λ x. ⌜ CrashesPost cfg m part (crashCall which party) x ⌝ }
+{
+    let call = which.call(party);
+    let asked = crash::ask(cfg, m, part, call);
+    if asked != 0 {
+        return outcome::refused(part, Refusal::of(asked));
+    }
+    match which {
+        Crashed::Server => crash::server(cfg, part, call),
+        Crashed::Client => crash::client(cfg, part, call),
+    }
 }

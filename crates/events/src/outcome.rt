@@ -5,7 +5,6 @@ use config::Refusal;
 use parties::Acted;
 use parties::Answer;
 ghost use mathlib.Core.Path.{_≡_};
-ghost use Rattle.events.specs.inner.Deliver.{isRefusal};
 ghost use Rattle.events.specs.inner.Part.{acting, counting, refusing};
 
 // A refusal, with the part as it was.
@@ -15,23 +14,6 @@ pub(crate) fn refused(part: Part, why: Refusal) -> Change
     Change {
         answer: Answer::No(why),
         part,
-    }
-}
-
-// Whether an answer is a refusal.
-pub(crate) fn is_refusal(answer: Answer) -> bool
-    ensures { λ r. ⌜ r ≡ isRefusal answer ⌝ }
-{
-    match answer {
-        Answer::Nothing => false,
-        Answer::Written { client: _, tag: _ } => false,
-        Answer::Spent { client: _ } => false,
-        Answer::Read {
-            client: _,
-            tag: _,
-            length: _,
-        } => false,
-        Answer::No(_) => true,
     }
 }
 

@@ -1,2 +1,4 @@
 mod Cases
 pub mod Laws
+mod Moves
+mod Scans

@@ -2,6 +2,9 @@
 // the bytes. Every function is proved, nothing is assumed, and no public function has a `requires`: where there is no such record, or
 // no room for those that come, all is as it was.
 // Records can also be written in place, into `&mut messages[80 * count..]`: proofs/Laws says what the records then are (`records-written`).
+// `owners` is of the records' boards, which stand beside them.
+pub mod owners;
+
 ghost use mathlib.Core.Path.{_≡_};
 ghost use Prim.Native.Nat.{_-_, _≤_};
 ghost use lib.ListN.{length, drop};

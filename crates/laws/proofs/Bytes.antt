@@ -5,8 +5,9 @@ use mathlib.Core.Path.{_≡_, refl, sym, ap, ap₂, _∙_}
 use mathlib.Core.List.{List, [], _∷_, _++_, map}
 use native.Mathlib.Nat.{zero-add, suc-add, zero-mul}
 use native.Mathlib.Omega.{arith}
-use lib.ListN.{length, getD, length-append, List·getD-append}
-use lib.Seq.{getD-append-add}
+use native.Mathlib.Decide.{decLt}
+use lib.ListN.{length, take, drop, getD, length-append, length-take, List·getD-append, List·getD-eq-default}
+use lib.Seq.{getD-append-add, getD-drop, getD-take}
 use Rattle.laws.specs.Bytes.{Bytes, joined, tabulate}
 
 module _ {A : Type 0} where
@@ -67,3 +68,10 @@ joined-at e (x ∷ ls) h (suc r) j l m =
     ap (λ n. getD (x ++ joined ls) n 0) (omega (arith, h 0 (omega arith)))
     ∙ getD-append-add x (joined ls) (r * e + j) 0
     ∙ joined-at e ls (λ t n. h (suc t) (omega arith)) r j (omega arith) m
+
+-- a part of bytes is bytes
+pub bytes-part : (n k : ℕ) (bs : List ℕ) → Bytes bs → Bytes (take n (drop k bs))
+bytes-part n k bs all i = elim (decLt i n) as (λ _. getD (take n (drop k bs)) i 0 < 256) [
+  | yes l ↦ omega (arith, getD-take n (drop k bs) i 0 l, getD-drop k bs i 0, all (k + i))
+  | no g ↦ omega (arith, List·getD-eq-default (take n (drop k bs)) 0 {n = i} (omega (arith, length-take n (drop k bs), g)))
+]

@@ -1,7 +1,10 @@
 pub mod Below
 pub mod Bools
 pub mod Bytes
+pub mod EachPlace
 pub mod Lists
+pub mod Owners
+pub mod OwnersScan
 pub mod Parts
 pub mod Servers
 pub mod Table

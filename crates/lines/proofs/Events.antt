@@ -5,15 +5,15 @@ use mathlib.Core.Logic.{_⊎_, inl, inr}
 use mathlib.Core.Path.{_≡_, refl, sym, ap, ap₂, subst, _∙_}
 use mathlib.Core.List.{List, [], _∷_, _++_, append-assoc, append-nil, map-append}
 use native.Mathlib.Omega.{arith}
-use native.Mathlib.Decide.{decLt, ℕ-discrete}
+use native.Mathlib.Decide.{ℕ-discrete}
 use native.Mathlib.Nat.{add-mul, add-zero, zero-add, zero-mul}
 use borrow.Author.Tests.{eq-eqb, eqb-true, leb-false, leb-true, ltb-false, ltb-true}
 use lib.Dec.{eqb, leb, ltb}
-use lib.ListN.{length, take, drop, getD, length-append, length-drop, length-take, List·getD-eq-default}
-use lib.Seq.{getD-drop, getD-take, length-take-le}
+use lib.ListN.{length, drop, length-append, length-drop}
+use lib.Seq.{length-take-le}
 use Rattle.laws.specs.Bytes.{Bytes, tabulate}
 use Rattle.laws.proofs.Bools.{and-left, and-right}
-use Rattle.laws.proofs.Bytes.{tabulate-append}
+use Rattle.laws.proofs.Bytes.{bytes-part, tabulate-append}
 use Rattle.config.specs.declared.Config.{Config}
 use Rattle.config.specs.declared.Lengths.{Lengths}
 use Rattle.config.specs.Config.{boardLength, questions, rigQuestions}
@@ -34,7 +34,7 @@ use Rattle.lines.specs.declared.Ran.{Ran}
 use Rattle.lines.specs.Block.{RanPost, countAfter, linesOf, lineRoom}
 use Rattle.lines.specs.Event.{bytesAt, callAt, callsIn, eventLength}
 use Rattle.lines.specs.Line.{lineOf}
-use Rattle.lines.specs.inner.Text.{Appended}
+use Rattle.lines.specs.Text.{Appended}
 use Rattle.lines.proofs.Texts.{joined, recast}
 
 -- ---- whether an event can be run
@@ -107,13 +107,6 @@ module _ {cfg : Config} {m v size starts long most taken used : ℕ} {goes : Boo
             ))
 
 -- ---- events that were run
-
--- the bytes of a part are bytes
-bytes-part : (n k : ℕ) (bs : List ℕ) → Bytes bs → Bytes (take n (drop k bs))
-bytes-part n k bs all i = elim (decLt i n) as (λ _. getD (take n (drop k bs)) i 0 < 256) [
-  | yes l ↦ omega (arith, getD-take n (drop k bs) i 0 l, getD-drop k bs i 0, all (k + i))
-  | no g ↦ omega (arith, List·getD-eq-default (take n (drop k bs)) 0 {n = i} (omega (arith, length-take n (drop k bs), g)))
-]
 
 count-more : (first n : ℕ) → (countAfter first n + 1) % 2 ^ 64 ≡ countAfter first (n + 1)
 count-more first n = omega arith

@@ -1,3 +1,4 @@
 pub mod Decimal
 pub mod Events
+pub mod Saying
 pub mod Texts

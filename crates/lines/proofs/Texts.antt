@@ -11,7 +11,7 @@ use Rattle.laws.specs.Parts.{over}
 use Rattle.laws.proofs.Parts.{over-copied-rest, over-length, over-rest}
 use Rattle.io.specs.Digits.{glyph}
 use Rattle.lines.specs.Line.{blank, bytesOf, hexOf}
-use Rattle.lines.specs.inner.Text.{Appended}
+use Rattle.lines.specs.Text.{Appended}
 
 -- bytes put behind others that were put there
 over-joined : (out : List ℕ) (a : ℕ) (s t : List ℕ) → a + length s + length t ≤ length out

@@ -6,6 +6,7 @@ use lib.ListN.{take, drop, getD}
 use Rattle.laws.specs.Bytes.{tabulate}
 use Rattle.record.specs.Record.{littleTwo}
 use Rattle.protocol.specs.Boards.{BoardCall, boardOf}
+use Rattle.protocol.specs.Network.{On}
 
 -- a record's bytes, where a board has v
 abbrev pub eventLength : ℕ → ℕ
@@ -31,3 +32,27 @@ callAt v at input =
 -- the calls of the first n records, which stand one behind the other
 abbrev pub callsIn : ℕ → ℕ → List ℕ → List BoardCall
 callsIn v n input = tabulate n (λ i. callAt v (i * eventLength v) input)
+
+-- ---- of several boards: the number of the board that it names stands behind the position
+
+abbrev pub eventOnLength : ℕ → ℕ
+eventOnLength v = 7 + v
+
+abbrev pub bytesOnAt : ℕ → ℕ → List ℕ → List ℕ
+bytesOnAt v at input = take v (drop (at + 5) input)
+
+abbrev pub lengthOnAt : ℕ → ℕ → List ℕ → ℕ
+lengthOnAt v at input = littleTwo (getD input (at + 5 + v) 0) (getD input (at + 6 + v) 0)
+
+unfoldable pub callOnAt : ℕ → ℕ → List ℕ → On BoardCall
+callOnAt v at input =
+    record {
+      board = getD input (at + 4) 0;
+      it =
+          record {
+            code = getD input at 0;
+            party = getD input (at + 1) 0;
+            position = littleTwo (getD input (at + 2) 0) (getD input (at + 3) 0);
+            board = boardOf (lengthOnAt v at input) (bytesOnAt v at input);
+          };
+    }

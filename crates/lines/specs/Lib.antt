@@ -2,4 +2,5 @@ pub mod Block
 pub mod Event
 pub mod Line
 pub mod Program
-pub mod inner
+pub mod Several
+pub mod Text

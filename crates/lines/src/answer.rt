@@ -7,7 +7,7 @@ ghost use mathlib.Core.Path.{_≡_};
 ghost use lib.ListN.{length, take};
 ghost use Rattle.parties.specs.Acts.{answerOf};
 ghost use Rattle.lines.specs.Line.{bytesOf, lineOf, refusedOf, saidOf, shownOf, tagOf, writtenOf};
-ghost use Rattle.lines.specs.inner.Text.{Appended};
+ghost use Rattle.lines.specs.Text.{Appended};
 
 // A tag, with a blank before each part.
 fn tagged(tag: Tag, out: &mut [u8], at: usize) -> usize

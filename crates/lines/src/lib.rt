@@ -1,8 +1,10 @@
-// Events as records of bytes, and their lines: all that the programs board and simulate do between reading a block and writing one. `block` is their loop. Its
-// contract says that the calls are those of the records in turn, that a list of events (`Runs`) goes on by them, and that the lines are those of
-// its answers. Every function is proved, nothing is assumed, and no public function has a `requires`.
+// Events as records of bytes, and their lines: all that the programs board and simulate do between reading a block and writing one. `block` is the
+// program board's loop. Its contract says that the calls are those of the records in turn, that a list of events (`Runs`) goes on by them,
+// and that the lines are those of its answers. `several::event` is one record of simulate's, which names one of several boards, and its line.
+// Every function is proved, nothing is assumed, and no public function has a `requires`.
 mod answer;
 mod event;
+pub mod several;
 mod text;
 
 use config::Config;

@@ -4,7 +4,7 @@ ghost use mathlib.Core.Path.{_≡_};
 ghost use lib.ListN.{length};
 ghost use Rattle.io.specs.Digits.{glyph};
 ghost use Rattle.lines.specs.Line.{decimalOf, hexOf};
-ghost use Rattle.lines.specs.inner.Text.{Appended};
+ghost use Rattle.lines.specs.Text.{Appended};
 
 // The bytes of a word.
 pub(crate) fn word(w: &[u8], out: &mut [u8], at: usize) -> usize

@@ -4,5 +4,6 @@ pub mod Crashing
 pub mod Formed
 pub mod Making
 pub mod Owned
+pub mod Refusing
 pub mod ToClient
 pub mod ToServer

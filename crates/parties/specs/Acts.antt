@@ -58,6 +58,13 @@ isRead (Answer.Spent c) = false
 isRead (Answer.Read c t length) = true
 isRead (Answer.No why) = false
 
+abbrev pub isRefusal : Answer → Bool
+isRefusal Answer.Nothing = false
+isRefusal (Answer.Written c t) = false
+isRefusal (Answer.Spent c) = false
+isRefusal (Answer.Read c t length) = false
+isRefusal (Answer.No why) = true
+
 -- what the parties do, or, refused with a number, the parties as they were, with nothing sent
 abbrev pub outcome : ℕ → (BoardParties → BoardActed) → BoardParties → BoardActed
 outcome number act p = cond (eqb number 0) (act p) (record { parties = p; sends = []; answer = refused number })

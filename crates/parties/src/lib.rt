@@ -11,6 +11,8 @@ pub mod questions;
 use config::Client;
 use config::Refusal;
 use tag::Tag;
+ghost use mathlib.Core.Path.{_≡_};
+ghost use Rattle.parties.specs.Acts.{isRefusal};
 
 // A server, and whether it is up. A crash keeps the state.
 pub struct Node {
@@ -42,6 +44,25 @@ pub enum Answer {
         length: u16,
     },
     No(Refusal),
+}
+
+impl Answer {
+    // Whether it is a refusal.
+    pub fn is_refusal(self) -> bool
+        ensures { λ r. ⌜ r ≡ isRefusal self ⌝ }
+    {
+        match self {
+            Answer::Nothing => false,
+            Answer::Written { client: _, tag: _ } => false,
+            Answer::Spent { client: _ } => false,
+            Answer::Read {
+                client: _,
+                tag: _,
+                length: _,
+            } => false,
+            Answer::No(_) => true,
+        }
+    }
 }
 
 // What an event leaves: its answer, the parties, and how many records stand at the front of the lent buffer for sends.

@@ -40,16 +40,26 @@ mod Endings
 mod Calls
 pub mod Room
 mod Theorem
+pub mod NetworkMoves
+pub mod Together
+pub mod NetworkRuns
+pub mod NetworkCalls
+pub mod NetworkRoom
+pub mod Alone
+pub mod Agreement
+pub mod OneBoard
 mod Refute
 mod Teeth
 pub mod Cut
 pub mod Boards
+pub mod NetworkAtomic
 pub mod Decoded
 mod ShortBoards
 mod Lengths
 mod Cleared
 mod Ties
 mod HostsExample
+mod NetworkExample
 pub mod Few
 pub mod Sound
 pub mod Formed

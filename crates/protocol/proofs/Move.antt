@@ -1,9 +1,10 @@
 -- Every event of a run keeps the invariant.
 use Prim.Native.Nat.{ℕ, _+_, _≤_}
-use mathlib.Core.Path.{_≡_, refl, sym, _∙_, ap, subst}
+use mathlib.Core.Path.{_≡_, refl, sym, _∙_, ap, subst, fun-ext}
 use mathlib.Core.Bool.{Bool, true, false, cond, _&&_, false≢true}
+use mathlib.Core.Logic.{⊎-elim}
 use mathlib.Core.Option.{Option, none, some}
-use mathlib.Core.List.{List, [], _∷_, _++_, append-nil, List·Memᴰ·not-nil}
+use mathlib.Core.List.{List, [], _∷_, _++_, append-nil, List·Memᴰ, List·Memᴰ·not-nil}
 use lib.Dec.{eqb, ltb}
 use lib.ListN.{length, getElem?, length-append}
 use borrow.Author.Tests.{eqb-true}
@@ -13,11 +14,11 @@ use Rattle.config.proofs.Questions.{within-low, within-high}
 use Rattle.record.specs.Kinds.{isForServer}
 use Rattle.record.specs.Message.{Message}
 use Rattle.protocol.specs.Server.{serverStep}
-use Rattle.protocol.specs.Client.{Phase, idle, asking, preWriting, finalisingWrite, finalisingRead, down, isIdle, isUp, beginClient, beginQuestions, clientStep, highestNumber}
+use Rattle.protocol.specs.Client.{Client, Phase, idle, asking, preWriting, finalisingWrite, finalisingRead, down, isIdle, isUp, beginClient, beginQuestions, clientStep, highestNumber}
 use Rattle.protocol.specs.Board.{Call, Event, refused, nothingEnded, isAccepted, names}
 use Rattle.protocol.specs.Parties as parties
 use Rattle.protocol.specs.Parties.{Parties, Acted, quiet, serverActs, clientActs, answerOf, begin, deliver, questionsToBegin}
-use Rattle.protocol.specs.Rig.{Rig, Code, beginWrite, beginRead, handOver, lose, double, crashServer, crashClient, codeOf, without, doubled, leaves, freshRig, deliverAt, move, questionsTo11, Execution, fresh, refuses, moves}
+use Rattle.protocol.specs.Rig.{Rig, Code, beginWrite, beginRead, handOver, lose, double, crashServer, crashClient, codeOf, without, doubled, leaves, freshRig, deliverAt, move, questionsTo11, Elsewhere, Execution, fresh, refuses, moves, elsewhere}
 use Rattle.protocol.proofs.Basics.{cond-elim, none≢some, some-injective}
 use Rattle.protocol.proofs.World.{Setting, Ghost, Knowledge, know, Idle, GoodMessage, GoodPhase, Good}
 use Rattle.protocol.proofs.Change.{later, flight-changed}
@@ -230,7 +231,35 @@ module _ (S : Setting) where
   moved-invariant r h a call crashClient e f b =
       turned a call crashClient e refl refl (r .inFlight) (parties.crashClient (r .parties) (call .party)) (client-crashed (a .good) (call .party))
 
+  -- what happens elsewhere leaves what is known of servers and clients
+  known-elsewhere : (r r′ : Rig Value Element) → Elsewhere r r′ → (g : Ghost S) → know S (r′ .parties) g ≡ know S (r .parties) g
+  unfolding know
+  known-elsewhere r r′ e g =
+      λ i. record { high = λ s. key (e .servers i s .highest); number = fun-ext number i; base = g .base; bytes = g .bytes }
+    where
+      number : (c : ℕ) → r′ .parties .clients c .operation ≡ r .parties .clients c .operation
+      number c = ⊎-elim (λ f. ap (λ (x : Client Value Element). x .operation) f) (λ f. ap (λ (x : Client Value Element). x .operation) f) (e .clients c)
+
+  -- so all that was good is; and a client that is down is
+  elsewhere-invariant : (r r′ : Rig Value Element) (h : List (Event Value)) → Elsewhere r r′ → Invariant r h → Invariant r′ h
+  elsewhere-invariant r r′ h e a =
+      let g = a .ghost in
+      let known = known-elsewhere r r′ e g in
+      record {
+        ghost = g;
+        good =
+            record {
+              messages = λ m i. rw known (a .good .messages m (subst (List·Memᴰ m) (e .inFlight) i));
+              servers = λ s. rw (known, e .servers) (a .good .servers s);
+              base = λ c s. rw (e .servers) (a .good .base c s);
+              clients = λ c. rw known (⊎-elim (λ f. rw f (a .good .clients c)) (λ f. rw f tt) (e .clients c));
+              log = rw known (a .good .log);
+            };
+        recorded = a .recorded;
+      }
+
   pub invariant : {r : Rig Value Element} {h : List (Event Value)} → Execution key encode decode cfg IsBoard start r h → Invariant r h
   invariant fresh = fresh-invariant
   invariant (refuses {r = r} {events = h} run call number) = refused-invariant r h (invariant run) call number
   invariant (moves {r = r} {events = h} run call w e f b) = moved-invariant r h (invariant run) call w e f b
+  invariant (elsewhere {r = r} {r′ = r′} {events = h} run e) = elsewhere-invariant r r′ h e (invariant run)

@@ -8,6 +8,7 @@ use mathlib.Core.List.{List, [], _∷_, _++_, map}
 use lib.Dec.{leb}
 use lib.ListN.{length, take, replicate}
 use Rattle.config.specs.declared.Config.{Config}
+use Rattle.config.specs.declared.Room.{Room}
 use Rattle.config.specs.Config.{boardLength}
 use Rattle.config.specs.Questions.{Question}
 use Rattle.tag.specs.declared.Tag.{Tag}
@@ -23,6 +24,8 @@ use Rattle.protocol.specs.Board as board
 use Rattle.protocol.specs.Parties as parties
 use Rattle.protocol.specs.Rig as rig
 use Rattle.protocol.specs.Hosts as hosts
+use Rattle.protocol.specs.Network as network
+use Rattle.protocol.specs.Network.{On}
 use Rattle.protocol.specs.Rig.{Code}
 
 -- a board has a length and bytes
@@ -124,6 +127,12 @@ BoardAnswer = board.Answer Board
 abbrev pub BoardEvent : Type 0
 BoardEvent = board.Event Board
 
+abbrev pub BoardNetwork : Type 0
+BoardNetwork = network.Network Board Element
+
+abbrev pub BoardNetworkTurn : Type 0
+BoardNetworkTurn = network.NetworkTurn Board Element
+
 -- ---- the definitions
 
 module _ (cfg : Config) where
@@ -195,3 +204,28 @@ module _ (cfg : Config) where
   -- what the single board now keeps and shows."
   abbrev pub BoardAtomic : Board → List BoardEvent → Type 0
   BoardAtomic = board.Atomic (order cfg)
+
+  -- several boards over one network
+  abbrev pub freshNetwork : Room → (ℕ → Board) → BoardNetwork
+  freshNetwork room = network.freshNetwork cfg room (encode cfg)
+
+  abbrev pub networkMove : Room → BoardNetwork → ℕ → BoardCall → Code → BoardNetworkTurn
+  networkMove = network.networkMove (order cfg) (encode cfg) (decode cfg) cfg
+
+  abbrev pub networkMoveOf : Room → BoardNetwork → ℕ → BoardCall → Option Code → BoardNetworkTurn
+  networkMoveOf = network.networkMoveOf (order cfg) (encode cfg) (decode cfg) cfg
+
+  abbrev pub networkFrom7 : Room → BoardNetwork → ℕ → BoardCall → Bool → Option Code → List Question
+  networkFrom7 = network.networkFrom7 (order cfg) (encode cfg) (decode cfg) cfg
+
+  abbrev pub networkAfter6 : Room → BoardNetwork → ℕ → BoardCall → Bool → Option Code → List Question
+  networkAfter6 = network.networkAfter6 (order cfg) (encode cfg) (decode cfg) cfg (fitsIn cfg)
+
+  abbrev pub networkEvent : Room → BoardNetwork → On BoardCall → BoardNetworkTurn
+  networkEvent = network.networkEvent (order cfg) (encode cfg) (decode cfg) cfg (fitsIn cfg)
+
+  abbrev pub networkRun : Room → BoardNetwork → List (On BoardCall) → List (On BoardEvent)
+  networkRun = network.networkRun (order cfg) (encode cfg) (decode cfg) cfg (fitsIn cfg)
+
+  abbrev pub BoardNetworkExecution : Room → (ℕ → Board) → BoardNetwork → List (On BoardEvent) → Type 0
+  BoardNetworkExecution = network.NetworkExecution (order cfg) (encode cfg) (decode cfg) cfg (IsBoard cfg)

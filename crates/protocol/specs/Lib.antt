@@ -8,6 +8,8 @@ pub mod Parties
 pub mod Rig
 pub mod Alike
 pub mod Hosts
+pub mod Network
+pub mod Agree
 pub mod Laws
 pub mod Boards
 pub mod Sound

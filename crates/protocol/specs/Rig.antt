@@ -2,6 +2,7 @@
 use Prim.Native.Nat.{ℕ, _+_}
 use mathlib.Core.Path.{_≡_}
 use mathlib.Core.Bool.{Bool, true, false, cond}
+use mathlib.Core.Logic.{_⊎_}
 use mathlib.Core.Option.{Option, none, some}
 use mathlib.Core.List.{List, [], _∷_, _++_}
 use lib.Dec.{eqb, leb, ltb}
@@ -12,6 +13,7 @@ use Rattle.tag.specs.declared.Tag.{Tag}
 use Rattle.record.specs.Message.{Message}
 unfoldable pub use Rattle.laws.specs.Lists.{without}
 use Rattle.protocol.specs.Number.{toList}
+use Rattle.protocol.specs.Client.{down}
 use Rattle.protocol.specs.Parties as parties
 use Rattle.protocol.specs.Parties.{Parties, Acted, freshParties, quiet, begin, deliver, questionsToBegin, questionsToCrashServer, questionsToCrashClient}
 use Rattle.protocol.specs.Board.{Call, Answer, Event, refused, nothingEnded}
@@ -61,6 +63,12 @@ module _ {Value : Type 0} where
   writeFits fits a (some double) = true
   writeFits fits a (some crashServer) = true
   writeFits fits a (some crashClient) = true
+
+-- The questions of an event, in order: "7. Is the event 1 to 7?"; those up to 11; "12. Is the record handed over well formed?", whose answer is handed
+-- in, since a model has no bytes (1 to 6 and 21 are of the configuration and of buffers, and of these it asks nothing either); and what is asked last.
+abbrev pub from7 : (Code → List Question) → Bool → (Code → List Question) → Option Code → List Question
+from7 to11 formed last none = ask 7 false ∷ []
+from7 to11 formed last (some w) = ask 7 true ∷ to11 w ++ ask 12 formed ∷ last w
 
 module _ {Value Element : Type 0} where
   -- "all parties up, clients idle, nothing in flight"
@@ -112,13 +120,9 @@ module _ {Value Element : Type 0} (key : Tag → ℕ) (encode : Value → ℕ �
   moveOf r a none = record { rig = r; answer = nothingEnded }
   moveOf r a (some w) = move r a w
 
-  -- The questions of an event, in order: "7. Is the event 1 to 7?"; 8 to 11; "12. Is the record handed over well formed?", whose answer is
-  -- handed in, since a model has no bytes (1 to 6 and 21 are of the configuration and of buffers, and of these it asks nothing either); and 13, where M is the
-  -- most that may be in flight.
+  -- 7 to 13, where M is the most that may be in flight
   unfoldable pub questions : ℕ → Rig Value Element → Call Value → Bool → Option Code → List Question
-  questions most r a formed none = ask 7 false ∷ []
-  questions most r a formed (some w) =
-      ask 7 true ∷ questionsTo11 cfg r a w ++ ask 12 formed ∷ ask 13 (hasRoom most (move r a w)) ∷ []
+  questions most r a formed w = from7 (questionsTo11 cfg r a) formed (λ x. ask 13 (hasRoom most (move r a x)) ∷ []) w
 
   -- "19, is the write's length at most V, placed after 6", and then those; `fits` says it of a board
   abbrev pub questionsAfter6 : (Value → Bool) → ℕ → Rig Value Element → Call Value → Bool → Option Code → List Question
@@ -136,8 +140,17 @@ module _ {Value Element : Type 0} (key : Tag → ℕ) (encode : Value → ℕ �
       let t = event fits most r a in
       record { call = a; answer = t .answer } ∷ run fits most (t .rig) later
 
+-- What happens on another board, or to a party of all boards, between this board's events: its servers keep what they have, its messages stay
+-- in flight, and each of its clients is as it was or down. Which servers are up may change in any way.
+pub record Elsewhere {Value Element : Type 0} (r r′ : Rig Value Element) : Type 0 where
+  pub servers : r′ .parties .servers ≡ r .parties .servers
+  pub inFlight : r′ .inFlight ≡ r .inFlight
+  pub clients : (c : ℕ) → (r′ .parties .clients c ≡ r .parties .clients c)
+      ⊎ (r′ .parties .clients c ≡ record { operation = r .parties .clients c .operation; phase = down })
+
 -- An execution: the rig that it comes to, and its events. Any event may be refused, for any reason, want of room among them, and then nothing changes; an
--- accepted one is the model's move, once the questions 7 to 11 are answered, and a board that it writes is a board.
+-- accepted one is the model's move, once the questions 7 to 11 are answered, and a board that it writes is a board. What happens elsewhere is
+-- no event of this board.
 pub data Execution {Value Element : Type 0} (key : Tag → ℕ) (encode : Value → ℕ → Element) (decode : List (ℕ × Element) → Value) (cfg : Config)
     (IsBoard : Value → Type 0) (start : Value) : Rig Value Element → List (Event Value) → Type 0 where
   fresh : Execution key encode decode cfg IsBoard start (freshRig cfg encode start) []
@@ -149,3 +162,5 @@ pub data Execution {Value Element : Type 0} (key : Tag → ℕ) (encode : Value 
       → (w ≡ beginWrite → IsBoard (a .board))
       → Execution key encode decode cfg IsBoard start (move key encode decode cfg r a w .rig)
       (events ++ (record { call = a; answer = move key encode decode cfg r a w .answer } ∷ []))
+  elsewhere : {r r′ : Rig Value Element} {events : List (Event Value)} → Execution key encode decode cfg IsBoard start r events
+      → Elsewhere r r′ → Execution key encode decode cfg IsBoard start r′ events

@@ -1,11 +1,12 @@
 pub mod Alike
 pub mod Always
 pub mod Atomic
+mod Down
 mod Entry
 pub mod Going
 pub mod InPlace
 mod Making
 pub mod Model
 pub mod Never
-mod Owned
+pub mod Owned
 pub mod Witness

@@ -3,6 +3,7 @@
 use Prim.Native.Nat.{ℕ, zero, suc, _-_}
 use mathlib.Core.Path.{_≡_, refl, sym, ap, ap₂, _∙_}
 use mathlib.Core.Bool.{Bool, true, false, false≢true}
+use mathlib.Core.Logic.{⊎-elim}
 use mathlib.Core.Option.{Option, none, some}
 use mathlib.Core.List.{List, [], _∷_, _++_, map, map-append, append-nil}
 use native.Mathlib.Omega.{arith}
@@ -24,10 +25,10 @@ use Rattle.protocol.specs.Number.{toList}
 use Rattle.protocol.specs.Parties as parties
 use Rattle.protocol.specs.Parties.{questionsToBegin, questionsToCrashClient, questionsToCrashServer, quiet}
 use Rattle.protocol.specs.Rig as protocol
-use Rattle.protocol.specs.Rig.{Code, beginWrite, beginRead, handOver, lose, double, crashServer, crashClient, codeOf, deliverAt, doubled, fresh, hasRoom, leaves, moves, positionQuestions, questionsTo11, refuses, unlessNo, without}
+use Rattle.protocol.specs.Rig.{Code, beginWrite, beginRead, handOver, lose, double, crashServer, crashClient, codeOf, deliverAt, doubled, Elsewhere, elsewhere, fresh, hasRoom, leaves, moves, positionQuestions, questionsTo11, refuses, unlessNo, without}
 use Rattle.protocol.specs.Sound.{Sound}
 use Rattle.protocol.proofs.Hosted.{begin-low}
-use Rattle.protocol.proofs.Formed.{ActedFits, BoardFits, PartiesFit, begin-fits, crash-client-fits, crash-server-fits, deliver-fits, fresh-fits, quiet-fits}
+use Rattle.protocol.proofs.Formed.{ActedFits, BoardFits, PartiesFit, PhaseFits, begin-fits, crash-client-fits, crash-server-fits, deliver-fits, fresh-fits, quiet-fits}
 use Rattle.protocol.proofs.Sound.{sound-append, sound-at, sound-doubled, sound-first, sound-none, sound-rest, sound-without}
 use Rattle.events.specs.declared.Rig.{Rig}
 use Rattle.events.specs.View.{Lent, flight, messagesOf, view}
@@ -74,6 +75,19 @@ module _ (cfg : Config) (valid : Valid cfg) (v : BoardRig) (fits : Fits cfg v) w
   move-fits a crashServer h board = leaves-fits _ _ (fits .inFlight) (crash-server-fits cfg (v .parties) (fits .parties) (a .party))
   move-fits a crashClient h board = leaves-fits _ _ (fits .inFlight) (crash-client-fits cfg (v .parties) (fits .parties) (a .party))
 
+-- what happens elsewhere keeps to them
+elsewhere-fits : (cfg : Config) (v v′ : BoardRig) → Elsewhere v v′ → Fits cfg v → Fits cfg v′
+unfolding PhaseFits
+elsewhere-fits cfg v v′ e fits =
+    record {
+      parties =
+          record {
+            servers = λ s. rw (e .servers) (fits .parties .servers s);
+            clients = λ c. ⊎-elim (λ f. rw f (fits .parties .clients c)) (λ f. rw f tt) (e .clients c);
+          };
+      inFlight = rw (e .inFlight) (fits .inFlight);
+    }
+
 -- along every execution of the protocol
 pub execution-fits : (cfg : Config) → Valid cfg → (start : Board) → IsBoard cfg start → {v : BoardRig} {events : List BoardEvent}
     → BoardExecution cfg start v events → Fits cfg v
@@ -82,6 +96,7 @@ execution-fits cfg valid start board fresh = record { parties = fresh-fits cfg s
 execution-fits cfg valid start board (refuses runs a number) = execution-fits cfg valid start board runs
 execution-fits cfg valid start board (moves {r = v} runs a w code h handed) =
     move-fits cfg valid v (execution-fits cfg valid start board runs) a w h handed
+execution-fits cfg valid start board (elsewhere {r = v} {r′ = v′} runs e) = elsewhere-fits cfg v v′ e (execution-fits cfg valid start board runs)
 
 -- ---- the records in flight are those of the messages in flight
 
@@ -110,7 +125,7 @@ module _ (cfg : Config) where
     left i = ap (without i) written ∙ sym (map-without Record i ms)
 
     -- after each move
-    move-written : (a : BoardCall) (w : Code) → firstNo (questionsTo11 cfg v a w) ≡ 0
+    pub move-written : (a : BoardCall) (w : Code) → firstNo (questionsTo11 cfg v a w) ≡ 0
         → recordsAfter cfg rs (a .position) (move cfg v a w .rig .inFlight) (some w) ≡ map Record (move cfg v a w .rig .inFlight)
     unfolding recordsAfter protocol.move leaves questionsTo11 positionQuestions quiet doubled parties.crashServer parties.crashClient
     move-written a beginWrite h = grown rs ms _ (length rs) written many
@@ -128,7 +143,7 @@ module _ (cfg : Config) where
     move-written a crashServer h = still rs ms written
     move-written a crashClient h = still rs ms written
 
-empty : {A : Type 0} (xs : List A) → length xs ≡ 0 → xs ≡ []
+pub empty : {A : Type 0} (xs : List A) → length xs ≡ 0 → xs ≡ []
 empty [] h = refl
 empty (x ∷ xs) h = absurd (omega (arith, h))
 
@@ -175,14 +190,14 @@ module _ (cfg : Config) (m : ℕ) where
 -- ---- so each is well formed
 
 -- the records of messages of the configuration are
-formed-at : {cfg : Config} → Valid cfg → (ms : List BoardMessage) → Sound cfg ms → (i : ℕ) → formed cfg (getElem? (map (recordOf cfg) ms) i) ≡ true
+pub formed-at : {cfg : Config} → Valid cfg → (ms : List BoardMessage) → Sound cfg ms → (i : ℕ) → formed cfg (getElem? (map (recordOf cfg) ms) i) ≡ true
 unfolding formed
 formed-at valid [] h i = refl
 formed-at {cfg} valid (x ∷ ms) h zero = written-well-formed cfg valid x (sound-first h)
 formed-at valid (x ∷ ms) h (suc i) = formed-at valid ms (sound-rest h) i
 
 -- question 12 asks of event 3 alone
-formed-for : (cfg : Config) (rs : List (List ℕ)) (i : ℕ) → formed cfg (getElem? rs i) ≡ true → (w : Option Code) → formedFor cfg rs i w ≡ true
+pub formed-for : (cfg : Config) (rs : List (List ℕ)) (i : ℕ) → formed cfg (getElem? rs i) ≡ true → (w : Option Code) → formedFor cfg rs i w ≡ true
 unfolding formedFor
 formed-for cfg rs i well none = refl
 formed-for cfg rs i well (some beginWrite) = refl
@@ -208,7 +223,7 @@ module _ (cfg : Config) (m : ℕ) (start : List ℕ) where
 
 -- so it is never the refusal: 8 to 11 are other questions
 module _ (cfg : Config) (m : ℕ) (v : BoardRig) (a : BoardCall) where
-  others : (w : Code) → lacks 12 (questionsTo11 cfg v a w) ≡ true
+  pub others : (w : Code) → lacks 12 (questionsTo11 cfg v a w) ≡ true
   unfolding lacks questionsTo11 questionsToBegin questionsToCrashClient questionsToCrashServer beginQuestions positionQuestions
   others beginWrite = refl
   others beginRead = refl
@@ -218,7 +233,7 @@ module _ (cfg : Config) (m : ℕ) (v : BoardRig) (a : BoardCall) where
   others crashServer = refl
   others crashClient = refl
 
-  last-two : (well room : Bool) → well ≡ true → firstNo (ask 12 well ∷ ask 13 room ∷ []) ≡ 12 → ⊥
+  pub last-two : (well room : Bool) → well ≡ true → firstNo (ask 12 well ∷ ask 13 room ∷ []) ≡ 12 → ⊥
   unfolding firstNo
   last-two true true h e = omega (arith, e)
   last-two true false h e = omega (arith, e)

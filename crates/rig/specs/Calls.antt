@@ -10,10 +10,15 @@ use Rattle.config.specs.Config.{boardLength, rigQuestions}
 use Rattle.config.specs.Questions.{Question, ask, firstNo}
 use Rattle.config.specs.Refusal.{verdictNumber}
 use Rattle.protocol.specs.Boards.{freshRig, startingBoard}
+use Rattle.protocol.specs.Board.{refused as no}
+use Rattle.parties.specs.Acts.{answerOf}
 use Rattle.parties.specs.Fresh.{freshNode, freshState}
+use Rattle.events.specs.declared.Call.{Call}
 use Rattle.events.specs.declared.Rig.{Rig}
+use Rattle.events.specs.declared.Turn.{Turn}
 use Rattle.events.specs.View.{Lent, view}
-use Rattle.events.specs.Questions.{rigWithin, sized}
+use Rattle.events.specs.Questions.{allSized, rigWithin, sized}
+use Rattle.events.specs.Calls.{EventPost, called}
 use Rattle.rig.specs.declared.Made.{Made}
 
 -- the rig that a refused making gives: nothing is in flight, and every place has a fresh party of number 1, with a starting board of one byte
@@ -39,3 +44,15 @@ pub record MakePost (cfg : Config) (m : ℕ) (start : List ℕ) (l : Lent) (r : 
   -- "The first "no" is returned; state and buffers hold their old content"
   pub held : (makeNo cfg m start l ≡ 0 → ⊥) → l′ ≡ l
   pub refused : (makeNo cfg m start l ≡ 0 → ⊥) → r .rig ≡ leastRig
+
+-- the first of questions 1 to 5, 21 and 6 of a rig that is answered no, or 0
+abbrev pub rigNo : Config → ℕ → Rig → ℕ
+rigNo cfg m r = firstNo (rigQuestions cfg m ++ ask 6 (rigWithin cfg m r) ∷ [])
+
+-- A crash alone.
+pub record CrashPost (cfg : Config) (m : ℕ) (r : Rig) (a : Call) (t : Turn) : Type 0 where
+  -- "The first "no" is returned; state and buffers hold their old content"
+  pub refuses : (rigNo cfg m r ≡ 0 → ⊥) → (read : List ℕ) → (answerOf (t .answer) read ≡ no (rigNo cfg m r)) × (t .rig ≡ r)
+  -- with any buffers of their lengths it is the rig's event, and the buffers stay
+  pub event : rigNo cfg m r ≡ 0 → (board read : List ℕ) (l : Lent) → allSized cfg m (called a board .board .bytes) read l ≡ true
+      → EventPost cfg m r (called a board) read l t read l

@@ -1,9 +1,10 @@
-// Standard input to standard output, for the programs board and simulate: blocks of records are read, run by `lines::block`, and their lines
-// written. Every function is proved to be safe and to end, but for reading and writing, whose C functions' contracts are assumed; no public
-// function has a `requires`. Of what is read and written no contract can say anything. What is proved besides: the buffers that a run leaves,
-// from a making that is not refused, are those that some list of events leaves (`Runs`), and the bytes behind those that a block took are kept
-// for the next. Which events these are, and that their lines are written, is tested.
+// Standard input to standard output, for the program board and, in `several`, for simulate: blocks of records are read and run, for board by
+// `lines::block`, and their lines written. Every function is proved to be safe and to end, but for reading and writing, whose C functions' contracts
+// are assumed; no public function has a `requires`. Of what is read and written no contract can say anything. What is proved besides, for board: the
+// buffers that a run leaves, from a making that is not refused, are those that some list of events leaves (`Runs`), and the bytes behind those that
+// a block took are kept for the next. Which events these are, and that their lines are written, is tested.
 mod input;
+pub mod several;
 
 use config::Config;
 use config::Verdict;
@@ -65,7 +66,7 @@ fn measured(cfg: Config, m: usize) -> Lengths
     }
 }
 
-// The line of a header, ranks or a starting board that is cut short.
+// The line of a head of which a part is cut short.
 pub fn short() {
     io::write_all(1, b"0 short\n");
 }

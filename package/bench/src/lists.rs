@@ -3,6 +3,7 @@
 
 use crate::model::{Config, Phase, Record, Rig};
 use crate::random::Random;
+use crate::sides::event;
 
 /// One step of one party, with the record that it takes.
 #[derive(Clone)]
@@ -64,7 +65,8 @@ fn list(config: &Config, random: &mut Random) -> List<Record> {
     let mut rig = Rig::make(*config, &start).expect("a configuration in range");
     let mut steps = vec![];
     for _ in 0..200 * config.n {
-        let idle: Vec<usize> = (0..config.c).filter(|c| rig.clients[*c].phase == Phase::Idle).collect();
+        let idle: Vec<usize> =
+            (0..config.c).filter(|c| rig.parties[0].clients[*c].phase == Phase::Idle).collect();
         if !idle.is_empty() && (rig.flight.is_empty() || random.chance(60)) {
             steps.extend(begin(&mut rig, random.pick(&idle), random));
         } else if !rig.flight.is_empty() {
@@ -85,15 +87,15 @@ fn begin(rig: &mut Rig, client: usize, random: &mut Random) -> Option<Step<Recor
         true => (1, Step::Write(client, board.clone(), length)),
         false => (2, Step::Read(client)),
     };
-    rig.event(code, party, 0, &board, length).ok().map(|_| step)
+    rig.event(event(code, party, 0, &board, length)).ok().map(|_| step)
 }
 
 /// Handing over is a step, if there is room for what it sends.
 fn message(rig: &mut Rig, code: u8, position: usize) -> Option<Step<Record>> {
-    let r = rig.flight[position];
+    let r = rig.flight[position].record;
     let step = match r.for_server() {
         true => Step::Server(r.server as usize - 1, r),
         false => Step::Client(r.client as usize - 1, r),
     };
-    rig.event(code, 0, position, &[], 0).ok().filter(|_| code == 3).map(|_| step)
+    rig.event(event(code, 0, position, &[], 0)).ok().filter(|_| code == 3).map(|_| step)
 }

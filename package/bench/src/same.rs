@@ -46,13 +46,13 @@ fn by_crate(parties: &mut Proved, step: &Step<Record>) -> Given {
 fn by_model(parties: &mut Modelled, step: &Step<model::Record>) -> Given {
     match step {
         Step::Server(s, r) => {
-            let answer = parties.rig.servers[*s].step(&parties.rig.config, r);
+            let answer = parties.rig.parties[0].servers[*s].step(&parties.rig.config, r);
             Ok((vec![record(&answer)], Ended::Nothing))
         }
-        Step::Client(c, r) if !parties.rig.clients[*c].awaits(r) => Err(14),
+        Step::Client(c, r) if !parties.rig.parties[0].clients[*c].awaits(r) => Err(14),
         _ => {
             let answer = parties.client(step);
-            Ok((parties.rig.flight.iter().map(record).collect(), ended(&answer)))
+            Ok((parties.rig.flight.iter().map(|message| record(&message.record)).collect(), ended(&answer)))
         }
     }
 }

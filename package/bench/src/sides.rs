@@ -1,7 +1,7 @@
 //! The parties of one list, by the crate and by the model.
 
 use crate::lists::Step;
-use crate::model::{self, Answer, Rig};
+use crate::model::{self, Answer, Event, Message, Rig};
 use coded_board::{Client, Config, Ended, Record, Server};
 use std::hint::black_box;
 
@@ -61,6 +61,11 @@ impl Party for Proved {
     }
 }
 
+/// An event of the only board.
+pub fn event(code: u8, party: u8, position: usize, bytes: &[u8], length: usize) -> Event<'_> {
+    Event { code, party, position, board: 1, bytes, length }
+}
+
 /// Those of the model, with its own types. A server's step is called as it is; a client takes its steps in a rig in
 /// which nothing else is in flight, as the model has no other way to them.
 pub struct Modelled {
@@ -72,11 +77,11 @@ impl Modelled {
     pub fn client(&mut self, step: &Step<model::Record>) -> Answer {
         self.rig.flight.clear();
         let done = match step {
-            Step::Write(c, board, length) => self.rig.event(1, *c as u8 + 1, 0, board, *length),
-            Step::Read(c) => self.rig.event(2, *c as u8 + 1, 0, &[], 0),
+            Step::Write(c, board, length) => self.rig.event(event(1, *c as u8 + 1, 0, board, *length)),
+            Step::Read(c) => self.rig.event(event(2, *c as u8 + 1, 0, &[], 0)),
             Step::Client(_, r) | Step::Server(_, r) => {
-                self.rig.flight.push(*r);
-                self.rig.event(3, 0, 0, &[], 0)
+                self.rig.flight.push(Message { board: 1, record: *r });
+                self.rig.event(event(3, 0, 0, &[], 0))
             }
         };
         done.expect("an event that is done")
@@ -92,7 +97,7 @@ impl Party for Modelled {
 
     fn step(&mut self, step: &Step<model::Record>, tally: &mut Tally) {
         if let Step::Server(s, r) = step {
-            black_box(self.rig.servers[*s].step(&self.rig.config, r));
+            black_box(self.rig.parties[0].servers[*s].step(&self.rig.config, r));
             tally.sent += 1;
             return;
         }

@@ -31,7 +31,7 @@ const AT: [[usize; 4]; 3] = [[3, 1, 0, 1], [5, 3, 2, 64], [16, 8, 7, 64]];
 fn config([n, k, d, e]: [usize; 4]) -> Config {
     let mut ranks = [0; 16];
     ranks[..4].copy_from_slice(&[1, 0, 2, 0]);
-    Config { n, k, d, e, c: 4, m: 512, ranks }
+    Config { n, k, d, e, c: 4, m: 512, ranks, boards: 1, shares: [0; 8] }
 }
 
 /// All lists, run once each by fresh parties of one kind.

@@ -9,6 +9,7 @@ use std::path::{Path, PathBuf};
 pub const USAGE: &str = "\
 picture board EVENTS LINES       events of the program board, and the lines that it printed
 picture simulate EVENTS LINES    the same of the program simulate
+  --board NUMBER                 with simulate: the board to draw, 1 if none is given
 picture host RECORD              the record of a host
   --start HEX                    with host: the starting board, `-` if it is empty
   --ranks RANK,RANK,..           with host: the ranks of clients 1, 2 and so on, 0 to 3
@@ -20,7 +21,7 @@ The picture goes to standard output. The status is 1 where no order fits or ther
 #[derive(Debug, PartialEq)]
 pub enum Source {
     Board { events: PathBuf, lines: PathBuf },
-    Simulate { events: PathBuf, lines: PathBuf },
+    Simulate { events: PathBuf, lines: PathBuf, board: u8 },
     Host { record: PathBuf, start: Option<Board>, ranks: Vec<u8> },
 }
 
@@ -39,6 +40,7 @@ pub enum Call {
 /// The options of a call.
 #[derive(Default)]
 struct Options {
+    board: Option<u8>,
     start: Option<Board>,
     ranks: Option<Vec<u8>>,
     title: Option<String>,
@@ -66,8 +68,13 @@ fn source(plain: Vec<OsString>, options: Options) -> Result<Source, String> {
     let of_host = options.start.is_some() || options.ranks.is_some();
     match (kind, <[PathBuf; 2]>::try_from(files)) {
         (Some("board" | "simulate"), _) if of_host => Err("--start and --ranks go with host".to_string()),
+        (Some("board" | "host"), _) if options.board.is_some() => {
+            Err("--board goes with simulate".to_string())
+        }
         (Some("board"), Ok([events, lines])) => Ok(Source::Board { events, lines }),
-        (Some("simulate"), Ok([events, lines])) => Ok(Source::Simulate { events, lines }),
+        (Some("simulate"), Ok([events, lines])) => {
+            Ok(Source::Simulate { events, lines, board: options.board.unwrap_or(1) })
+        }
         (Some("host"), Err(mut files)) if files.len() == 1 => {
             let (record, start) = (files.remove(0), options.start);
             Ok(Source::Host { record, start, ranks: options.ranks.unwrap_or_default() })
@@ -81,6 +88,10 @@ impl Options {
         let value = value.ok_or(format!("{name} needs a value"))?;
         let value = value.to_str().ok_or(format!("the value of {name} isn't text"))?;
         match name {
+            "--board" => {
+                self.board =
+                    Some(board(value).ok_or_else(|| format!("{} is no board's number", quoted(value)))?)
+            }
             "--start" => {
                 self.start = Some(hex::board(value).ok_or_else(|| format!("{} is no board", quoted(value)))?)
             }
@@ -92,6 +103,11 @@ impl Options {
         }
         Ok(())
     }
+}
+
+/// The number of a board, 1 to 8.
+fn board(value: &str) -> Option<u8> {
+    hex::number(value).filter(|number| (1..=8).contains(number)).map(|number| number as u8)
 }
 
 /// Ranks of at most 16 clients, 0 to 3, with commas between them.
@@ -128,7 +144,9 @@ mod tests {
     fn calls() {
         let (events, lines) = (PathBuf::from("e"), PathBuf::from("l"));
         assert_eq!(drawn("board e l").source, Source::Board { events: events.clone(), lines: lines.clone() });
-        assert_eq!(drawn("simulate e l").source, Source::Simulate { events, lines });
+        let simulate = |board| Source::Simulate { events: events.clone(), lines: lines.clone(), board };
+        assert_eq!(drawn("simulate e l").source, simulate(1));
+        assert_eq!(drawn("simulate e l --board 8").source, simulate(8));
         let record = PathBuf::from("r");
         let host = Source::Host { record: record.clone(), start: Some(vec![0, 171]), ranks: vec![0, 3] };
         assert_eq!(
@@ -150,6 +168,12 @@ mod tests {
             "host r s",
             "paint e l",
             "board e l --start 00",
+            "board e l --board 1",
+            "host r --board 1",
+            "simulate e l --board",
+            "simulate e l --board 0",
+            "simulate e l --board 9",
+            "simulate e l --board x",
             "simulate e l --ranks 0",
             "host r --start",
             "host r --start 0",

@@ -7,22 +7,24 @@ use crate::history::{Board, Call, Crash, History, Outcome, Party, Tag};
 use crate::model::{self, Answer, Config, Rig};
 use crate::quote::quoted;
 
-/// The history of a list with these lines.
-pub fn follow(list: &List, lines: &str) -> Result<History, String> {
+/// The history of a board of a list with these lines.
+pub fn follow(list: &List, lines: &str, board: u8) -> Result<History, String> {
     let mut rig = Rig::make(list.config, &list.start).map_err(|number| format!("no rig: no {number}"))?;
+    list.config.ask_board(board).map_err(|_| format!("the events have no board {board}"))?;
+    let start = list.start.chunks(list.config.v()).nth(usize::from(board) - 1);
     let mut history = History {
-        about: about(&list.config, list.events.len()),
-        start: Some(list.start.clone()),
+        about: about(&list.config, list.events.len(), board),
+        start: start.map(|start| start.to_vec()),
         ranks: list.config.ranks[..list.config.c].to_vec(),
         ..History::default()
     };
     let mut printed = lines.lines();
     for (place, event) in list.events.iter().enumerate() {
-        let answer = rig.event(event.code, event.party, event.position, &event.board, event.length);
+        let answer = rig.event(event.for_model());
         same(printed.next(), &line(place + 1, &answer))?;
-        if let Ok(answer) = answer {
-            let board = event.board.iter().take(event.length).copied().collect();
-            note(&mut history, place + 1, (event.code, event.party, board), answer)?;
+        if let Some(answer) = answer.ok().filter(|_| event.is_of(board)) {
+            let written = event.board.iter().take(event.length).copied().collect();
+            note(&mut history, place + 1, (event.code, event.party, written), answer)?;
         }
     }
     if list.partial {
@@ -34,9 +36,10 @@ pub fn follow(list: &List, lines: &str) -> Result<History, String> {
     }
 }
 
-fn about(config: &Config, events: usize) -> String {
-    let Config { n, k, d, e, c, .. } = config;
-    format!("N {n}, k {k}, D {d}, E {e}, C {c}; {events} events")
+fn about(config: &Config, events: usize, board: u8) -> String {
+    let Config { n, k, d, e, c, boards, .. } = config;
+    let of_boards = if *boards > 1 { format!(", board {board} of {boards}") } else { String::new() };
+    format!("N {n}, k {k}, D {d}, E {e}, C {c}{of_boards}; {events} events")
 }
 
 fn same(printed: Option<&str>, due: &str) -> Result<(), String> {
@@ -101,9 +104,7 @@ pub mod tests {
     /// The model's lines of a list.
     fn lines(list: &List) -> String {
         let mut rig = Rig::make(list.config, &list.start).ok().unwrap();
-        let run = |(i, e): (usize, &crate::events::Event)| {
-            line(i + 1, &rig.event(e.code, e.party, e.position, &e.board, e.length)) + "\n"
-        };
+        let run = |(i, e): (usize, &crate::events::Event)| line(i + 1, &rig.event(e.for_model())) + "\n";
         list.events.iter().enumerate().map(run).collect()
     }
 
@@ -125,7 +126,7 @@ pub mod tests {
 
     #[test]
     fn ten_events() {
-        let history = follow(&of_board(&records(&TEN, 0)), TEN_LINES).unwrap();
+        let history = follow(&of_board(&records(&TEN, 0)), TEN_LINES, 1).unwrap();
         let end = Some(End { time: 9, outcome: Outcome::Read(START, vec![0]) });
         assert_eq!(history.operations, [Operation { client: 1, call: Call::Read, begin: 1, end }]);
         assert_eq!(history.about, "N 3, k 1, D 0, E 1, C 2; 10 events");
@@ -163,7 +164,7 @@ pub mod tests {
             _ => format!("{count} ok\n"),
         };
         let printed: String = (1..=events.len()).map(due).collect();
-        let history = follow(&of_board(&records(&events, 0xab)), &printed).unwrap();
+        let history = follow(&of_board(&records(&events, 0xab)), &printed, 1).unwrap();
         let [read, write] = &history.operations[..] else { panic!("two operations") };
         let tag = Tag { number: 1, client: 2 };
         assert_eq!((read.client, read.begin), (1, 1));
@@ -176,7 +177,7 @@ pub mod tests {
     #[test]
     fn lines_of_other_events_are_told() {
         let list = of_board(&records(&TEN, 0));
-        let said = |lines: &str| follow(&list, lines).err().unwrap();
+        let said = |lines: &str| follow(&list, lines, 1).err().unwrap();
         assert_eq!(said(""), "the lines end before `1 ok`");
         assert_eq!(said(&TEN_LINES[..TEN_LINES.len() - 8]), "the lines end before `10 no 8`");
         assert_eq!(
@@ -190,16 +191,16 @@ pub mod tests {
     #[test]
     fn a_partial_record_has_its_line() {
         let bytes = [records(&TEN, 0), vec![7, 7]].concat();
-        assert!(follow(&of_board(&bytes), &(TEN_LINES.to_string() + "11 short\n")).is_ok());
-        assert!(follow(&of_board(&bytes), TEN_LINES).is_err());
+        assert!(follow(&of_board(&bytes), &(TEN_LINES.to_string() + "11 short\n"), 1).is_ok());
+        assert!(follow(&of_board(&bytes), TEN_LINES, 1).is_err());
     }
 
     /// One server and one client: a write of length 1 of V 2 and its read, then one of length 0 and its read.
     #[test]
     fn lengths_cut_boards() {
-        let head = [1, 1, 1, 2, 1, 8, 0, 2, 9, 9];
-        let write = |length| [[1, 1, 0, 0, 5, 6, length, 0], [3, 0, 0, 0, 0, 0, 0, 0]];
-        let read = [[2, 1, 0, 0, 0, 0, 0, 0], [3, 0, 0, 0, 0, 0, 0, 0]];
+        let head = [1, 1, 1, 2, 1, 8, 0, 2, 1, 3, 0, 9, 9];
+        let write = |length| [[1, 1, 0, 0, 1, 5, 6, length, 0], [3, 0, 0, 0, 1, 0, 0, 0, 0]];
+        let read = [[2, 1, 0, 0, 1, 0, 0, 0, 0], [3, 0, 0, 0, 1, 0, 0, 0, 0]];
         let hands = |count| vec![read[1]; count];
         let parts = [
             [write(1).to_vec(), hands(5)].concat(),
@@ -212,9 +213,34 @@ pub mod tests {
         let printed = lines(&list);
         assert!(printed.contains("7 written 1 1\n") && printed.contains("12 read 1 1 05\n"));
         assert!(printed.contains("24 read 2 1\n"));
-        let history = follow(&list, &printed).unwrap();
+        let history = follow(&list, &printed, 1).unwrap();
         let boards: Vec<Vec<u8>> = history.operations.iter().map(|o| o.board().unwrap().clone()).collect();
         assert_eq!(boards, [vec![5], vec![5], vec![], vec![]]);
         assert_eq!(history.ranks, [2]);
+    }
+
+    /// One server and one client, which writes on board 1 while it reads on board 2, and then crashes.
+    #[test]
+    fn each_board_has_its_history() {
+        let head = [1, 1, 0, 1, 1, 8, 0, 0, 2, 0, 0, 0, 0, 9, 8];
+        let on = |code, board| [code, 1, 0, 0, board, 5, 1, 0];
+        let hands = |board, count| vec![on(3, board); count];
+        let events = [vec![on(1, 1), on(2, 2)], hands(1, 5), hands(2, 4), hands(1, 1), vec![on(7, 0)]];
+        let list = of_simulate(&[&head[..], &events.concat().concat()].concat()).ok().unwrap();
+        let printed = lines(&list);
+        let of = |board| follow(&list, &printed, board).unwrap();
+        let (tag, crashes) = (Tag { number: 1, client: 1 }, [Crash { time: 13, party: Party::Client(1) }]);
+        let written = Some(End { time: 12, outcome: Outcome::Written(tag) });
+        let shown = Some(End { time: 11, outcome: Outcome::Read(START, vec![8]) });
+        let one = |call, begin, end| [Operation { client: 1, call, begin, end }];
+        assert_eq!(of(1).operations, one(Call::Write(vec![5]), 1, written));
+        assert_eq!(of(2).operations, one(Call::Read, 2, shown));
+        assert_eq!((of(1).start, of(2).start), (Some(vec![9]), Some(vec![8])));
+        assert!(of(1).crashes == crashes && of(2).crashes == crashes);
+        assert_eq!(of(2).about, "N 1, k 1, D 0, E 1, C 1, board 2 of 2; 13 events");
+        for board in [0, 3] {
+            let said = follow(&list, &printed, board).err().unwrap();
+            assert_eq!(said, format!("the events have no board {board}"));
+        }
     }
 }

@@ -55,10 +55,10 @@ fn run(words: Vec<OsString>) -> Result<(), String> {
 fn history_of(source: &Source) -> Result<History, String> {
     match source {
         Source::Board { events, lines } => {
-            follow::follow(&events::of_board(&args::bytes(events)?), &args::text(lines)?)
+            follow::follow(&events::of_board(&args::bytes(events)?), &args::text(lines)?, 1)
         }
-        Source::Simulate { events, lines } => {
-            follow::follow(&events::of_simulate(&args::bytes(events)?)?, &args::text(lines)?)
+        Source::Simulate { events, lines, board } => {
+            follow::follow(&events::of_simulate(&args::bytes(events)?)?, &args::text(lines)?, *board)
         }
         Source::Host { record, start, ranks } => {
             host::history(&args::text(record)?, start.clone(), ranks.clone())

@@ -61,6 +61,16 @@ fn figures_of_the_tests_from_outside() {
 }
 
 #[test]
+fn one_of_several_boards() {
+    let [events, lines] =
+        ["in", "out"].map(|end| project(&format!("tests/outside/figures/simulate_6.{end}")));
+    let of = |board: &str| drawn(&["simulate", &events, &lines, "--board", board]);
+    assert!(of("1").contains("board 1 of 2; 15 events"));
+    assert!(of("2").contains("board 2 of 2; 15 events") && of("2").contains(">server 3<"));
+    assert!(told(&["simulate", &events, &lines, "--board", "3"]).contains("the events have no board 3"));
+}
+
+#[test]
 fn the_example_is_the_picture_of_the_documents() {
     let [events, lines] =
         ["events", "lines"].map(|name| here().join("example").join(name).display().to_string());

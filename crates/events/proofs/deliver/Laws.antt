@@ -40,8 +40,8 @@ use Rattle.protocol.specs.Rig as rig
 use Rattle.protocol.specs.Rig.{codeOf, handOver, leaves, questionsTo11, writeFits}
 use Rattle.protocol.proofs.Basics.{cond-elim, some-injective}
 use Rattle.parties.specs.declared.Acted.{Acted}
-use Rattle.parties.specs.declared.Answer.{Answer}
-use Rattle.parties.specs.Acts.{ActPost, ClientPost, Parts, answerOf, delivers, parts, toClientQuestions}
+use Rattle.parties.specs.Acts.{ActPost, ClientPost, Parts, answerOf, delivers, isRefusal, parts, toClientQuestions}
+use Rattle.parties.proofs.Refusing.{told-refusal}
 use Rattle.events.specs.declared.Call.{Call}
 use Rattle.events.specs.declared.Change.{Change}
 use Rattle.events.specs.declared.Part.{Part}
@@ -49,7 +49,7 @@ use Rattle.events.specs.declared.Rig.{Rig}
 use Rattle.events.specs.View.{Lent, flight, lent, messagesOf, partiesOf, view}
 use Rattle.events.specs.Questions.{formed, formedFor, placeFor}
 use Rattle.events.specs.Calls.{EventPost, called, eventNo, recordsAfter, turned}
-use Rattle.events.specs.inner.Deliver.{HandOverPost, HandedPre, SettlePost, ToClientPost, ToServerPost, isRefusal}
+use Rattle.events.specs.inner.Deliver.{HandOverPost, HandedPre, SettlePost, ToClientPost, ToServerPost}
 use Rattle.events.specs.inner.Part.{acting, refusing}
 use Rattle.events.specs.inner.Turn.{Ready}
 use Rattle.events.proofs.Numbers.{ill-number, missing, position-there}
@@ -239,14 +239,6 @@ delivered cfg q x =
     cond-elim (λ (t : BoardActed). isAccepted (t .answer) ≡ true) (isForServer (x .kind)) _ _
     (λ _. cond-elim (λ (t : BoardActed). isAccepted (t .answer) ≡ true) (q .up (x .server)) _ _ (λ _. refl) (λ _. refl))
     (λ _. ended-accepted (x .client) _)
-
-told-refusal : (x : Answer) (read : List ℕ) → isAccepted (answerOf x read) ≡ not (isRefusal x)
-unfolding isAccepted
-told-refusal Answer.Nothing read = refl
-told-refusal (Answer.Written c t) read = refl
-told-refusal (Answer.Spent c) read = refl
-told-refusal (Answer.Read c t length) read = refl
-told-refusal (Answer.No why) read = refl
 
 not-of : (b c : Bool) → c ≡ not b → b ≡ not c
 not-of true c e = ap not (sym e)

@@ -12,21 +12,13 @@ use Rattle.record.specs.Record.{kindAt, kindOf}
 use Rattle.config.specs.Config.{storeLength}
 use Rattle.flight.specs.Flight.{recordAt, records}
 use Rattle.parties.specs.declared.Acted.{Acted}
-use Rattle.parties.specs.declared.Answer.{Answer}
+use Rattle.parties.specs.Acts.{isRefusal}
 use Rattle.events.specs.declared.Call.{Call}
 use Rattle.events.specs.declared.Change.{Change}
 use Rattle.events.specs.declared.Part.{Part}
 use Rattle.events.specs.View.{Lent, lent}
 use Rattle.events.specs.inner.Part.{acting}
 use Rattle.events.specs.inner.Turn.{PartPre, TurnPost}
-
--- what the parties have done is a refusal
-abbrev pub isRefusal : Answer → Bool
-isRefusal Answer.Nothing = false
-isRefusal (Answer.Written c t) = false
-isRefusal (Answer.Spent c) = false
-isRefusal (Answer.Read c t length) = false
-isRefusal (Answer.No why) = true
 
 -- the record at the position is handed over, in a kind that a server receives or not
 pub record HandedPre (p : Part) (a : Call) (handed messages : List ℕ) (toServer : Bool) : Type 0 where

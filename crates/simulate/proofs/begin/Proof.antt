@@ -37,8 +37,8 @@ short-requires c κs = search needs
 returns-2 : tie.Need-returns-2
 returns-2 c = search needs
 
-start-requires : tie.Need-start-requires
-start-requires c κs = search needs
+several-requires : tie.Need-several-requires
+several-requires c κs = search needs
 
 returns-3 : tie.Need-returns-3
 returns-3 c = search needs
@@ -55,5 +55,5 @@ begin-spec =
     read-full-requires
     short-requires
     returns-2
-    start-requires
+    several-requires
     returns-3)

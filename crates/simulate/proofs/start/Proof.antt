@@ -1,16 +1,25 @@
 -- `simulate::start` is safe and ends. Assumes nothing.
-use Prim.Native.Nat.{_*_}
-use mathlib.Core.Path.{sym}
+use Prim.Native.Nat.{_*_, _≤_}
+use mathlib.Core.Path.{_≡_, sym, _∙_}
 use native.Mathlib.Omega.{arith}
+use native.Mathlib.Nat.{mul-le-mul}
 use lib.Seq.{length-take-le}
+use Rattle.config.specs.declared.Config.{Config}
+use Rattle.config.specs.declared.Room.{Room}
+use Rattle.config.specs.Questions.{firstNo}
+use Rattle.config.specs.Room.{roomQuestions}
+use Rattle.config.proofs.Rooms.{boards-high, room-is, room-valid}
 use Rattle.config.proofs.Sizes.{board-small}
-use Rattle.config.proofs.Valid.{rig-valid}
 use borrow.Author.Needs.{needs}
 use Rattle.simulate.proofs.start.Statement.{statement}
 use Rattle.simulate.proofs.start.Tie as tie
 
-ask-rig-requires : tie.Need-ask-rig-requires
-ask-rig-requires c κs = search needs
+-- the starting boards fit
+starts-fit : (cfg : Config) (room : Room) → firstNo (roomQuestions cfg room) ≡ 0 → room .boards * (cfg .k * cfg .e) ≤ 8192
+starts-fit cfg room h = mul-le-mul (boards-high room (room-is cfg room h)) (board-small cfg (room-valid cfg room h))
+
+ask-room-requires : tie.Need-ask-room-requires
+ask-room-requires c κs = search needs
 
 refused-requires : tie.Need-refused-requires
 refused-requires c κs = search needs
@@ -18,30 +27,19 @@ refused-requires c κs = search needs
 returns : tie.Need-returns
 returns c = search needs
 
-buffer-requires : tie.Need-buffer-requires
-buffer-requires c κs = search needs
-
 mul-v : tie.Need-mul-v
-mul-v c =
-    let s = c .before .before .before .before in
-    let a = c .before .before .before .ask-rig in
-    let small = board-small (s .args .cfg) (rig-valid (s .args .cfg) (s .args .m) (a .ensures) (c .before .before .if1 .left)) in
-    record { fits = omega (arith, small) }
+mul-v c = let a = c .before .before .before .args in record { fits = omega (arith, board-small (a .cfg) (room-valid (a .cfg) (a .room) (sym (c .before .before .ask-room .ensures) ∙ c .before .if1 .left))) }
 
-array-borrow-prefix-board : tie.Need-array-borrow-prefix-board
-array-borrow-prefix-board c =
-    let s = c .before .before .before .before in
-    let a = c .before .before .before .ask-rig in
-    let small = board-small (s .args .cfg) (rig-valid (s .args .cfg) (s .args .m) (a .ensures) (c .before .before .if1 .left)) in
-    omega (arith, small)
+mul-long : tie.Need-mul-long
+mul-long c = let a = c .before .before .before .before .args in record { fits = omega (arith, starts-fit (a .cfg) (a .room) (sym (c .before .before .before .ask-room .ensures) ∙ c .before .before .if1 .left)) }
+
+array-borrow-prefix-boards : tie.Need-array-borrow-prefix-boards
+array-borrow-prefix-boards c = let a = c .before .before .before .before .args in starts-fit (a .cfg) (a .room) (sym (c .before .before .before .ask-room .ensures) ∙ c .before .before .if1 .left)
 
 slice-aggregate-play : tie.Need-slice-aggregate-play
 slice-aggregate-play c =
-    let s = c .before .before .before .before .before in
-    let a = c .before .before .before .before .ask-rig in
-    let small = board-small (s .args .cfg) (rig-valid (s .args .cfg) (s .args .m) (a .ensures) (c .before .before .before .if1 .left)) in
-    let r = c .before .before .buffer in
-    sym (length-take-le (s .args .cfg .k * s .args .cfg .e) (r .result) (omega (arith, small, r .ensures)))
+    let a = c .before .before .before .before .before .args in
+    sym (length-take-le (a .room .boards * (a .cfg .k * a .cfg .e)) _ (starts-fit (a .cfg) (a .room) (sym (c .before .before .before .before .ask-room .ensures) ∙ c .before .before .before .if1 .left)))
 
 play-requires : tie.Need-play-requires
 play-requires c κs = search needs
@@ -53,12 +51,12 @@ pub start-spec : {M : Type 1} → statement M
 start-spec =
     tie.close
     (tie.spec
-    ask-rig-requires
+    ask-room-requires
     refused-requires
     returns
-    buffer-requires
     mul-v
-    array-borrow-prefix-board
+    mul-long
+    array-borrow-prefix-boards
     slice-aggregate-play
     play-requires
     returns-2)

@@ -32,7 +32,7 @@ pub struct Met {
     /// With N at least 12 and k at least 8.
     pub read_wide: usize,
     /// By number.
-    pub refused: [usize; 22],
+    pub refused: [usize; 23],
 }
 
 pub struct Maker<'a> {
@@ -52,13 +52,26 @@ impl<'a> Maker<'a> {
         let start = random.bytes(config.board_length());
         let rig = Rig::fresh(config, m, &start).expect("a fresh rig");
         let (numbers, ranks) = config.bytes()[..5 + usize::from(config.c())].split_at(5);
-        let input = [numbers, &(m as u16).to_le_bytes(), ranks, &start].concat();
+        // One board, with some share.
+        let share = start.iter().map(|byte| usize::from(*byte)).sum::<usize>() * 7 % (m + 1);
+        let [m_bytes, share] = [m, share].map(|number| (number as u16).to_le_bytes());
+        let input = [numbers, &m_bytes, ranks, &[1], &share, &start].concat();
         let quick = vec![u32::MAX; config.c().into()];
         Maker { random, rig, mood, met, input, lines: vec![], quick }
     }
 
-    /// The next event: run, and put to the input.
+    /// The next event. Now and then it stands twice, first with a board that isn't there.
     fn put(&mut self, event: Event) -> Result<Ended, u8> {
+        let count = self.lines.len();
+        if count.is_multiple_of(40) && (1..=5).contains(&event.code) {
+            let on = [0, 2, 9, 255][count / 40 % 4];
+            _ = self.run(Event { on, ..event.clone() });
+        }
+        self.run(event)
+    }
+
+    /// Runs an event and puts it to the input.
+    fn run(&mut self, event: Event) -> Result<Ended, u8> {
         let answer = self.rig.event(&event);
         self.input.extend(event.bytes());
         self.lines.push(line(self.lines.len() + 1, &answer));
@@ -79,14 +92,15 @@ impl<'a> Maker<'a> {
         answer
     }
 
-    /// An event that uses neither board nor length.
+    /// An event that uses neither bytes nor length. A crash and an unknown event don't use the board's number either.
     fn short(&mut self, code: u8, party: u8, position: usize) -> Result<Ended, u8> {
         let v = self.rig.config.board_length();
         let (mut board, mut length) = (vec![0; v], 0);
         if self.mood.loose {
             (board, length) = (self.random.bytes(v), self.random.below(65536) as u16);
         }
-        self.put(Event { code, party, position: position as u16, board, length })
+        let on = if (1..=5).contains(&code) { 1 } else { board[0] };
+        self.put(Event { code, party, position: position as u16, on, board, length })
     }
 
     fn party(&mut self, code: u8, party: u8) {
@@ -102,7 +116,7 @@ impl<'a> Maker<'a> {
     pub fn write(&mut self, party: u8, length: usize) {
         let board = self.random.bytes(self.rig.config.board_length());
         let position = if self.mood.loose { self.random.below(600) as u16 } else { 0 };
-        _ = self.put(Event { code: 1, party, position, board, length: length as u16 });
+        _ = self.put(Event { code: 1, party, position, on: 1, board, length: length as u16 });
     }
 
     pub fn begin(&mut self, party: u8, write: bool) {
@@ -273,9 +287,20 @@ pub fn list<'a>(random: &'a mut Random, number: u64, met: &'a mut Met) -> Maker<
     };
     let n = usize::from(config.n());
     let m = if random.chance(300) { random.within(n, 6 * n) } else { 512 };
-    let mood = mood(random, kind);
+    of_kind(random, kind, met, &config, m)
+}
+
+/// A list of this kind.
+pub fn of_kind<'a>(
+    random: &'a mut Random,
+    kind: u64,
+    met: &'a mut Met,
+    config: &Config,
+    m: usize,
+) -> Maker<'a> {
+    let (n, mood) = (usize::from(config.n()), mood(random, kind));
     let events = random.within(40, 80 + 60 * n).min(400_000 / config.board_length());
-    let mut maker = Maker::new(random, met, mood, &config, m);
+    let mut maker = Maker::new(random, met, mood, config, m);
     if kind == 1 && maker.random.chance(300) {
         maker.fill();
     }
@@ -292,7 +317,7 @@ pub fn list<'a>(random: &'a mut Random, number: u64, met: &'a mut Met) -> Maker<
 }
 
 /// Few servers; D and C within these.
-fn small(random: &mut Random, d: [usize; 2], c: [usize; 2]) -> Config {
+pub fn small(random: &mut Random, d: [usize; 2], c: [usize; 2]) -> Config {
     let n = random.within(3, 6);
     let (k, e) = (random.within(1, n - 2), random.within(1, 2));
     let (d, c) = (random.within(d[0], d[1]), random.within(c[0], c[1]));

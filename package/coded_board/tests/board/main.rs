@@ -11,4 +11,5 @@ mod plain;
 mod random;
 mod rig;
 mod samples;
+mod side_by_side;
 mod simulate;

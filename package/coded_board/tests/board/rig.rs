@@ -1,5 +1,5 @@
-//! A rig over the crate: servers, clients, and at most M messages between them, in order of sending. It asks
-//! what document 01 has a rig ask, and leaves all else to the steps.
+//! A rig over the crate with one board: servers, clients, and at most M messages between them, in order of sending.
+//! It asks what the documents have a rig ask, and leaves all else to the steps.
 
 use coded_board::{Client, Config, Ended, Record, Refusal, Server};
 
@@ -8,6 +8,8 @@ pub struct Event {
     pub code: u8,
     pub party: u8,
     pub position: u16,
+    /// The board's number, which is 1 where there is such a board.
+    pub on: u8,
     pub board: Vec<u8>,
     pub length: u16,
 }
@@ -16,7 +18,7 @@ impl Event {
     /// As `simulate` is handed it.
     pub fn bytes(&self) -> Vec<u8> {
         let [low, high] = self.position.to_le_bytes();
-        [&[self.code, self.party, low, high], &self.board[..], &self.length.to_le_bytes()].concat()
+        [&[self.code, self.party, low, high, self.on], &self.board[..], &self.length.to_le_bytes()].concat()
     }
 }
 
@@ -53,6 +55,7 @@ impl Rig {
     pub fn event(&mut self, event: &Event) -> Result<Ended, u8> {
         let (position, length) = (event.position.into(), event.length.into());
         let ended = match event.code {
+            1..=5 if event.on != 1 => Err(22),
             1 if length > self.config.board_length() => self.too_long(event.party, length),
             1 => self.begin(event.party, |client| client.write(&event.board[..length])),
             2 => self.begin(event.party, Client::read),

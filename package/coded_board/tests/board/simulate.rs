@@ -18,7 +18,7 @@ fn program() -> PathBuf {
 }
 
 /// What `simulate` prints of an input.
-fn printed(input: &[u8]) -> String {
+pub fn printed(input: &[u8]) -> String {
     let program = program();
     let mut child =
         Command::new(&program).stdin(Stdio::piped()).stdout(Stdio::piped()).spawn().unwrap_or_else(|why| {
@@ -34,7 +34,7 @@ fn printed(input: &[u8]) -> String {
 }
 
 /// The first line that differs.
-fn differs(printed: &str, due: &[String]) -> Option<String> {
+pub fn differs(printed: &str, due: &[String]) -> Option<String> {
     let mut lines = printed.lines();
     for due in due {
         let line = lines.next().unwrap_or("nothing");
@@ -67,7 +67,7 @@ fn lines_are_those_of_simulate() {
 fn enough(met: &Met, unseen: &Unseen) {
     assert!(met.written >= 5000 && met.read >= 5000, "{met:?}");
     assert!(met.read_empty >= 100 && met.read_part >= 500 && met.read_wide >= 50, "{met:?}");
-    for number in [7, 8, 9, 10, 13, 19] {
+    for number in [7, 8, 9, 10, 13, 19, 22] {
         assert!(met.refused[number] >= 100, "{number}: {met:?}");
     }
     assert!(
@@ -81,7 +81,7 @@ fn enough(met: &Met, unseen: &Unseen) {
 #[test]
 fn makings_are_refused_as_simulate_does() {
     let random = &mut Random::new(SEED, LISTS);
-    let mut refused = [0; 22];
+    let mut refused = [0; 23];
     for _ in 0..400 {
         let any = [
             random.within(1, 16),
@@ -97,7 +97,8 @@ fn makings_are_refused_as_simulate_does() {
         let most = random.pick(&[3, 3, 4, 255]);
         let ranks: Vec<u8> = (0..16).map(|_| random.within(0, most) as u8).collect();
         let [n, k, d, e, c] = head;
-        let input = [&head[..], &[1, 0], &ranks[..usize::from(c).min(16)], &[0; 1024]].concat();
+        let one_board = [1, 0, 0];
+        let input = [&head[..], &[1, 0], &ranks[..usize::from(c).min(16)], &one_board, &[0; 1024]].concat();
         let line = printed(&input).lines().next().unwrap_or("").to_string();
         match Config::new(n, k, d, e, c, &ranks) {
             Ok(_) => assert!(!line.starts_with("0 "), "{head:?} {ranks:?}: {line}"),
@@ -130,7 +131,7 @@ fn the_ten_events_of_document_01() {
     let lines: Vec<String> = (1..)
         .zip(events)
         .map(|(count, (code, party, position))| {
-            line(count, &rig.event(&Event { code, party, position, board: vec![0], length: 0 }))
+            line(count, &rig.event(&Event { code, party, position, on: 1, board: vec![0], length: 0 }))
         })
         .collect();
     let due = "1 ok,2 ok,3 ok,4 ok,5 ok,6 ok,7 ok,8 ok,9 read 0 0 00,10 no 8";

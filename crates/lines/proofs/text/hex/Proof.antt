@@ -9,7 +9,7 @@ use lib.ListN.{length, take}
 use borrow.Author.Needs.{needs}
 use native.Mathlib.Omega.{arith}
 use Rattle.lines.specs.Line.{hexOf}
-use Rattle.lines.specs.inner.Text.{Appended}
+use Rattle.lines.specs.Text.{Appended}
 use Rattle.lines.proofs.text.hex.Statement.{statement}
 use Rattle.lines.proofs.text.hex.Tie as tie
 

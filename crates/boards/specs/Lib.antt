@@ -1,0 +1,5 @@
+pub mod Calls
+pub mod Questions
+pub mod Runs
+pub mod View
+pub mod inner

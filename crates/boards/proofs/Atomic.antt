@@ -7,8 +7,7 @@ use mathlib.Core.Option.{Option, none, some}
 use mathlib.Core.List.{List, [], _∷_, _++_}
 use native.Mathlib.Omega.{arith}
 use native.Mathlib.Decide.{ℕ-discrete}
-use borrow.Author.Tests.{eq-eqb, leb-true, ne-eqb}
-use lib.ListN.{length}
+use borrow.Author.Tests.{eq-eqb, ne-eqb}
 use Rattle.laws.proofs.Bytes.{bytes-part}
 use Rattle.laws.specs.Parts.{part}
 use Rattle.laws.proofs.Parts.{part-length}
@@ -19,13 +18,12 @@ use Rattle.config.specs.Questions.{firstNo, within}
 use Rattle.config.specs.Room.{roomWithin}
 use Rattle.config.proofs.Questions.{within-high, within-low}
 use Rattle.config.proofs.Rooms.{room-is, room-valid}
-use Rattle.protocol.specs.Boards.{Board, BoardAnswer, BoardAtomic, BoardCall, BoardEvent, BoardNetwork, BoardNetworkExecution, BoardNetworkTurn, Filled, IsBoard, networkFrom7, networkMoveOf, writeFits}
+use Rattle.protocol.specs.Boards.{Board, BoardAnswer, BoardAtomic, BoardCall, BoardEvent, BoardNetwork, BoardNetworkExecution, BoardNetworkTurn, IsBoard, networkFrom7, networkMoveOf}
 use Rattle.protocol.specs.Endings.{EndsOne}
 use Rattle.protocol.specs.Network as network
 use Rattle.protocol.specs.Network.{On, boardExists, eventsOf, fresh, moves, refuses, unlessRefused}
-use Rattle.protocol.specs.Rig as protocol
 use Rattle.protocol.specs.Rig.{Code, beginWrite, codeOf}
-use Rattle.protocol.proofs.Cut.{cut-all}
+use Rattle.protocol.proofs.Cut.{start-board, write-board}
 use Rattle.protocol.proofs.NetworkAtomic.{boards-atomic, boards-end-one}
 use Rattle.parties.specs.Acts.{answerOf}
 use Rattle.boards.specs.declared.Rig.{Rig}
@@ -63,17 +61,6 @@ module _ (cfg : Config) (room : Room) (start : List ℕ) where
       | no some-no ↦ rw (ne-eqb number 0 some-no) (refuses seen a number)
     ]
 
-  -- the board of a write that no question refuses: "19, is the write's length at most V"
-  is-board : (a : BoardCall) (w : Option Code) → writeFits cfg a w ≡ true → length (a .board .bytes) ≡ boardLength cfg → Filled (a .board)
-      → w ≡ some beginWrite → IsBoard cfg (a .board)
-  unfolding protocol.writeFits
-  is-board a w fits whole filled is =
-      record {
-        whole = whole;
-        fits = leb-true (a .board .length) (boardLength cfg) (sym (ap (writeFits cfg a) is) ∙ fits);
-        filled = filled;
-      }
-
   -- a list of events of the code is an execution of the protocol's network, with the same events
   pub execution : {r : Rig} {l : Lent} {events : List (On BoardEvent)} → Runs cfg room start r l events
       → BoardNetworkExecution cfg room (startOf cfg start) (view cfg room r l) events
@@ -84,7 +71,7 @@ module _ (cfg : Config) (room : Room) (start : List ℕ) where
       (subst (λ x. BoardNetworkExecution cfg room starts (outcome cfg room r a read l .network) (events ++ (eventOf a x ∷ []))) (sym (p .answer))
       (turned (execution runs) a (networkMoveOf cfg room (view cfg room r l) (a .board) (a .it) code) (eventNo cfg room r a read l)
       (λ e. accepted (execution runs) a (formedAt cfg r a l) code refl (event-exists cfg room r a read l e) (event-later cfg room r a read l e)
-      (is-board (a .it) code (event-fits cfg room r a read l e) (event-board cfg room r a read l e) b))))
+      (write-board cfg (a .it) code (event-fits cfg room r a read l e) (event-board cfg room r a read l e) b))))
 
   -- what the making showed holds for the whole list
   pub origin : {r : Rig} {l : Lent} {events : List (On BoardEvent)} → Runs cfg room start r l events
@@ -95,17 +82,9 @@ module _ (cfg : Config) (room : Room) (start : List ℕ) where
         room-valid cfg room all,
         room-is cfg room all,
         λ b exists.
-            let whole = part-length (boardLength cfg) (b - 1) (room .boards) start
-            (omega (arith, within-low 1 (room .boards) b exists, within-high 1 (room .boards) b exists)) (make-long cfg room start l none-no) in
-            record {
-              whole = whole;
-              fits = omega arith;
-              filled =
-                  record {
-                    bytes = bytes-part (boardLength cfg) ((b - 1) * boardLength cfg) start bytes;
-                    zeros = cut-all (boardLength cfg) (part (boardLength cfg) (b - 1) start) (omega (arith, whole));
-                  };
-            },
+            start-board cfg (part (boardLength cfg) (b - 1) start) (bytes-part (boardLength cfg) ((b - 1) * boardLength cfg) start bytes)
+            (part-length (boardLength cfg) (b - 1) (room .boards) start
+            (omega (arith, within-low 1 (room .boards) b exists, within-high 1 (room .boards) b exists)) (make-long cfg room start l none-no)),
       )
   origin (event runs a b read read′ p) = origin runs
 

@@ -5,10 +5,11 @@ use mathlib.Core.Bool.{Bool, true, false, not, _&&_}
 use mathlib.Core.Option.{Option, none, some}
 use mathlib.Core.List.{List}
 use native.Mathlib.Omega.{arith}
-use lib.ListN.{getElem?}
+use lib.ListN.{length, getD, getElem?}
 use Rattle.laws.specs.Below.{allBelow}
 use Rattle.laws.proofs.Below.{below-all, below-at}
 use Rattle.laws.proofs.Bools.{and-left, and-right}
+use Rattle.laws.proofs.Lists.{at-getD}
 use Rattle.config.specs.declared.Config.{Config}
 use Rattle.config.specs.Questions.{within}
 use Rattle.config.proofs.Questions.{within-high, within-low, within-true}
@@ -34,6 +35,11 @@ same-is false false h = refl
 pub same-yes : (a b : Bool) → a ≡ b → same a b ≡ true
 same-yes true b e = sym e
 same-yes false b e = ap not (sym e)
+
+-- it is asked of what stands in a place
+pub same-read : {A : Type 0} (f : Option A → Bool) (xs ys : List A) (i : ℕ) (a b : A) → i < length xs → i < length ys
+    → same (f (some (getD xs i a))) (f (some (getD ys i b))) ≡ same (f (getElem? xs i)) (f (getElem? ys i))
+same-read f xs ys i a b l m = ap₂ (λ x y. same (f x) (f y)) (sym (at-getD xs i a l)) (sym (at-getD ys i b m))
 
 -- a client that is up is seen up
 phase-up : (cfg : Config) (p : Phase) (board : Board) (received : clientView.Slots) → protocol.isUp (phaseOf cfg p board received) ≡ isUp p

@@ -205,7 +205,7 @@ fn ask(
     if room.m < rig.count {
         return 6;
     }
-    if !questions::flight(cfg, room, rig.count, owners) {
+    if !questions::flight(room, rig.count, owners) {
         return 6;
     }
     if !questions::parties(cfg, room, rig) {

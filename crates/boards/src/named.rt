@@ -8,7 +8,7 @@ use config::Config;
 use config::RECORD;
 use config::Room;
 use flight::owners;
-ghost use Prim.Native.Nat.{_-_, _≤_, _<_};
+ghost use Prim.Native.Nat.{_-_, _<_};
 ghost use mathlib.Core.Path.{_≡_};
 ghost use lib.ListN.{length, take};
 ghost use Rattle.config.specs.Room.{keptFree};
@@ -16,7 +16,7 @@ ghost use Rattle.events.specs.View.{lent as oneLent};
 ghost use Rattle.boards.specs.Calls.{EventPost, called};
 ghost use Rattle.boards.specs.View.{lent};
 ghost use Rattle.boards.specs.inner.Named.{LeavePost, LeavePre, LentPost, LentPre, NamedPre, SettlePost, SettlePre, atLeastOne, removes as takesAway, taken};
-ghost use Rattle.boards.specs.inner.Questions.{Accepted};
+ghost use Rattle.boards.specs.inner.Questions.{RoomAccepted};
 
 // Whether the message that an event names leaves: those of events 3 and 4 do.
 fn removes(code: u8) -> bool
@@ -109,8 +109,8 @@ fn lend(
 }
 
 // How many messages may be in flight after an event of a board: M less the places kept free for the others.
-fn limit(cfg: Config, room: Room, b: u8, count: usize, owners: &[u8]) -> usize
-    requires { ⌜ Accepted cfg room ⌝ }
+fn limit(room: Room, b: u8, count: usize, owners: &[u8]) -> usize
+    requires { ⌜ RoomAccepted room ⌝ }
     ensures { λ r. ⌜ r ≡ room .m - keptFree room b (take count (now (owners .entry))) ⌝ }
 {
     room.m - room::kept_free(room, b, count, owners)
@@ -159,7 +159,7 @@ pub(crate) fn event(
     let b = call.board;
     let i = b as usize - 1;
     let place = owners::place_of(rig.count, b, call.position, owners);
-    let most = limit(cfg, room, b, rig.count, owners);
+    let most = limit(room, b, rig.count, owners);
     let count = in_flight(most, call.code, rig.count);
     let its = events::Call {
         code: call.code,

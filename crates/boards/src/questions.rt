@@ -19,7 +19,7 @@ ghost use Rattle.config.specs.Room.{fitsRoom, ownersWithin};
 ghost use Rattle.events.specs.Questions.{rigWithin as oneWithin};
 ghost use Rattle.boards.specs.Questions.{clientsAlike, isUp, partiesWithin, same as alike, sameSizes, serversAlike, upAlike};
 ghost use Rattle.boards.specs.View.{rigWith};
-ghost use Rattle.boards.specs.inner.Questions.{Accepted};
+ghost use Rattle.boards.specs.inner.Questions.{Accepted, RoomAccepted};
 
 // Whether each length is that of another.
 pub(crate) fn sized(x: Sizes, y: Sizes) -> bool
@@ -139,8 +139,8 @@ pub(crate) fn parties(cfg: Config, room: Room, rig: Rig) -> bool
 }
 
 // Whether each message's board is one that there is, and the messages are not past the room for them.
-pub(crate) fn flight(cfg: Config, room: Room, count: usize, owners: &[u8]) -> bool
-    requires { ⌜ (Accepted cfg room) × (count ≤ room .m) × (count ≤ length (now owners)) ⌝ }
+pub(crate) fn flight(room: Room, count: usize, owners: &[u8]) -> bool
+    requires { ⌜ (RoomAccepted room) × (count ≤ room .m) × (count ≤ length (now owners)) ⌝ }
     ensures { λ r. ⌜ r ≡ (ownersWithin room (take count (now (owners .entry))) && fitsRoom room (take count (now (owners .entry)))) ⌝ }
 {
     if !owners::within(count, room.boards, owners) {

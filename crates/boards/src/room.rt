@@ -1,10 +1,8 @@
 // The messages in flight and the shares of the boards.
 use config::Room;
 use flight::owners;
-ghost use mathlib.Core.Bool.{cond};
 ghost use mathlib.Core.Path.{_≡_};
 ghost use Prim.Native.Nat.{_+_, _-_, _≤_, _<_};
-ghost use lib.Dec.{eqb};
 ghost use lib.ListN.{take};
 ghost use Rattle.config.specs.Room.{keptFree, lacking, mostBoards, sharesSum};
 

@@ -1,7 +1,6 @@
 pub mod Below
 pub mod Bools
 pub mod Bytes
-pub mod EachPlace
 pub mod Lists
 pub mod Owners
 pub mod OwnersScan

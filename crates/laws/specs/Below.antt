@@ -1,7 +1,6 @@
 -- What is so of each place below a number, and the sum over these places.
 use Prim.Native.Nat.{ℕ, zero, suc, _+_}
-use mathlib.Core.Bool.{Bool, true, cond, _&&_}
-use lib.Dec.{leb}
+use mathlib.Core.Bool.{Bool, true, _&&_}
 
 unfoldable pub allBelow : ℕ → (ℕ → Bool) → Bool
 allBelow zero f = true
@@ -10,7 +9,3 @@ allBelow (suc n) f = allBelow n f && f n
 unfoldable pub sumBelow : ℕ → (ℕ → ℕ) → ℕ
 sumBelow zero f = 0
 sumBelow (suc n) f = sumBelow n f + f n
-
--- from n on there is nothing to ask
-abbrev pub unless : ℕ → ℕ → Bool → Bool
-unless n i b = cond (leb n i) true b

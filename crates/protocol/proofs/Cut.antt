@@ -1,12 +1,19 @@
--- Bytes with zeros after so many of them. Assumes nothing.
+-- Bytes with zeros after so many of them, and the boards made of them. Assumes nothing.
 use Prim.Native.Nat.{ℕ, zero, suc, _-_, _≤_, _<_}
 use mathlib.Core.Path.{_≡_, refl, sym, ap, ap₂, _∙_}
+use mathlib.Core.Bool.{true}
+use mathlib.Core.Option.{Option, some}
 use mathlib.Core.List.{List, [], _∷_, _++_, append-nil}
 use native.Mathlib.Omega.{arith}
+use borrow.Author.Tests.{leb-true}
 use lib.ListN.{length, getD, take, set, replicate, length-append, length-replicate, length-take, length-set}
 use lib.Seq.{take-all}
 use Rattle.laws.specs.Bytes.{Bytes}
-use Rattle.protocol.specs.Boards.{Board, Filled, boardOf, cut}
+use Rattle.config.specs.declared.Config.{Config}
+use Rattle.config.specs.Config.{boardLength}
+use Rattle.protocol.specs.Rig as rig
+use Rattle.protocol.specs.Rig.{Code, beginWrite}
+use Rattle.protocol.specs.Boards.{Board, BoardCall, Filled, IsBoard, boardOf, cut, startingBoard, writeFits}
 
 pub length-cut : (n : ℕ) (bs : List ℕ) → length (cut n bs) ≡ length bs
 unfolding cut
@@ -83,3 +90,17 @@ filled n bs h = record { bytes = cut-bytes n bs h; zeros = cut-again n bs }
 -- and a board with zeros past its length is that of its length and its bytes
 pub filled-is : (v : Board) → Filled v → boardOf (v .length) (v .bytes) ≡ v
 filled-is v f = λ i. record { length = v .length; bytes = f .zeros i }
+
+-- ---- boards of a configuration
+
+-- a starting board of V bytes is one
+pub start-board : (cfg : Config) (bs : List ℕ) → Bytes bs → length bs ≡ boardLength cfg → IsBoard cfg (startingBoard cfg bs)
+start-board cfg bs bytes whole =
+    record { whole = whole; fits = omega arith; filled = record { bytes = bytes; zeros = cut-all (boardLength cfg) bs (omega (arith, whole)) } }
+
+-- and the board of a write that no question refuses: "19, is the write's length at most V"
+pub write-board : (cfg : Config) (a : BoardCall) (w : Option Code) → writeFits cfg a w ≡ true → length (a .board .bytes) ≡ boardLength cfg → Filled (a .board)
+    → w ≡ some beginWrite → IsBoard cfg (a .board)
+unfolding rig.writeFits
+write-board cfg a w fits whole filled is =
+    record { whole = whole; fits = leb-true (a .board .length) (boardLength cfg) (sym (ap (writeFits cfg a) is) ∙ fits); filled = filled }

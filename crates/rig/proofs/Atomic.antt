@@ -2,22 +2,20 @@
 -- contracts of specs/Calls.antt; what fits is said by the single board, and nothing that the rig keeps. Assumes nothing.
 use Prim.Native.Nat.{ℕ}
 use mathlib.Core.Path.{_≡_, refl, sym, ap, subst, _∙_}
-use mathlib.Core.Bool.{Bool, true}
+use mathlib.Core.Bool.{Bool}
 use mathlib.Core.Option.{Option, none, some}
 use mathlib.Core.List.{List, [], _∷_, _++_}
-use native.Mathlib.Omega.{arith}
 use native.Mathlib.Decide.{ℕ-discrete}
-use borrow.Author.Tests.{eq-eqb, leb-true, ne-eqb}
-use lib.ListN.{length}
+use borrow.Author.Tests.{eq-eqb, ne-eqb}
 use Rattle.config.specs.declared.Config.{Config}
-use Rattle.config.specs.Config.{Valid, boardLength}
+use Rattle.config.specs.Config.{Valid}
 use Rattle.config.specs.Questions.{firstNo}
-use Rattle.protocol.specs.Boards.{Board, BoardAnswer, BoardAtomic, BoardCall, BoardEvent, BoardExecution, BoardRig, BoardTurn, Filled, IsBoard, moveOf, questions, startingBoard, writeFits}
+use Rattle.protocol.specs.Boards.{Board, BoardAnswer, BoardAtomic, BoardCall, BoardEvent, BoardExecution, BoardRig, BoardTurn, IsBoard, moveOf, questions, startingBoard}
 use Rattle.protocol.specs.Endings.{EndsOne}
 use Rattle.protocol.specs.Rig as protocol
 use Rattle.protocol.specs.Rig.{Code, beginWrite, codeOf, fresh, moves, refuses, unlessNo}
 use Rattle.protocol.proofs.Boards as boards
-use Rattle.protocol.proofs.Cut.{cut-all}
+use Rattle.protocol.proofs.Cut.{start-board, write-board}
 use Rattle.parties.specs.Acts.{answerOf}
 use Rattle.events.specs.declared.Rig.{Rig}
 use Rattle.events.specs.View.{Lent, flight, view}
@@ -55,17 +53,6 @@ module _ (cfg : Config) (m : ℕ) (start : List ℕ) where
       | no n ↦ rw (ne-eqb number 0 n) (refuses seen a number)
     ]
 
-  -- the board of a write that no question refuses: "19, is the write's length at most V"
-  is-board : (a : BoardCall) (w : Option Code) → writeFits cfg a w ≡ true → length (a .board .bytes) ≡ boardLength cfg → Filled (a .board)
-      → w ≡ some beginWrite → IsBoard cfg (a .board)
-  unfolding protocol.writeFits
-  is-board a w fits whole filled is =
-      record {
-        whole = whole;
-        fits = leb-true (a .board .length) (boardLength cfg) (sym (ap (writeFits cfg a) is) ∙ fits);
-        filled = filled;
-      }
-
   -- a list of events of the code is an execution of the protocol, with the same events
   pub execution : {r : Rig} {l : Lent} {events : List BoardEvent} → Runs cfg m start r l events → BoardExecution cfg origin-board (view cfg r l) events
   execution (made b p e) = subst (λ v. BoardExecution cfg origin-board v []) (sym (p .seen (sym (p .number) ∙ e))) fresh
@@ -75,15 +62,13 @@ module _ (cfg : Config) (m : ℕ) (start : List ℕ) where
       (turned (execution runs) a (moveOf cfg (view cfg r l) a (codeOf (a .code))) (eventNo cfg m r a read l)
       (λ e. accepted (execution runs) a (formedFor cfg (flight r l) (a .position) (codeOf (a .code))) (codeOf (a .code)) refl
       (event-later cfg m r a read l e)
-      (is-board a (codeOf (a .code)) (event-fits cfg m r a read l e) (event-board cfg m r a read l e) b))))
+      (write-board cfg a (codeOf (a .code)) (event-fits cfg m r a read l e) (event-board cfg m r a read l e) b))))
 
   -- what the making showed holds for the whole list
   pub origin : {r : Rig} {l : Lent} {events : List BoardEvent} → Runs cfg m start r l events → Valid cfg × IsBoard cfg origin-board
   origin (made {l = l} b p e) =
-      let whole = make-board cfg m start l (sym (p .number) ∙ e) in (
-        make-valid cfg m start l (sym (p .number) ∙ e),
-        record { whole = whole; fits = omega arith; filled = record { bytes = b; zeros = cut-all (boardLength cfg) start (omega (arith, whole)) } },
-      )
+      let none-no = sym (p .number) ∙ e in
+      (make-valid cfg m start l none-no, start-board cfg start b (make-board cfg m start l none-no))
   origin (event runs a b read read′ p) = origin runs
 
   -- The history of every list of events has an order that fits; in it, ended writes stand in rising tag order.

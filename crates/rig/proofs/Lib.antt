@@ -8,5 +8,5 @@ pub mod InPlace
 mod Making
 pub mod Model
 pub mod Never
-pub mod Owned
+mod Owned
 pub mod Witness

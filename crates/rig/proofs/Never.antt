@@ -20,7 +20,7 @@ use Rattle.config.proofs.Questions.{lacks, skip, yes-next}
 use Rattle.record.specs.Record.{highestNumber, recordOf}
 use Rattle.record.proofs.Laws.{written-well-formed}
 use Rattle.protocol.specs.Boards.{Board, BoardActed, BoardCall, BoardEvent, BoardExecution, BoardMessage, BoardRig, IsBoard, decode, encode, move, moveOf, order, questions, startingBoard}
-use Rattle.protocol.specs.Client.{beginQuestions, isIdle, isUp}
+use Rattle.protocol.specs.Client.{beginQuestions}
 use Rattle.protocol.specs.Number.{toList}
 use Rattle.protocol.specs.Parties as parties
 use Rattle.protocol.specs.Parties.{questionsToBegin, questionsToCrashClient, questionsToCrashServer, quiet}

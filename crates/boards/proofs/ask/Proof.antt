@@ -16,7 +16,7 @@ use Rattle.config.specs.declared.Config.{Config}
 use Rattle.config.specs.declared.Room.{Room}
 use Rattle.config.specs.Config.{boardLength}
 use Rattle.config.specs.Room.{fitsRoom, ownersWithin}
-use Rattle.config.proofs.Rooms.{boards-low, room-is}
+use Rattle.config.proofs.Rooms.{boards-low, room-is, room-most}
 use Rattle.events.specs.Questions as one
 use Rattle.boards.specs.declared.OneBoard.{OneBoard}
 use Rattle.boards.specs.declared.Rig.{Rig}
@@ -102,7 +102,7 @@ flight-requires c κs =
     let long = allLong (a .cfg) (a .room) (a .board) (a .read) (a .sizes) in
     let yes = all-yes (a .cfg) (a .room) (a .call) (b .before .ask-lengths .result) long (b .before .ask-lengths .ensures) (b .if1 .left) in
     let few : a .rig .count ≤ a .room .m = omega (arith, c .if2 .left) in
-    (yes .0, few, omega (arith, few, s .pre, owners-long (a .cfg) (a .room) (a .board) (a .read) (a .sizes) (yes .2)))
+    ((room-is (a .cfg) (a .room) (yes .0), room-most (a .cfg) (a .room) (yes .0) .1), few, omega (arith, few, s .pre, owners-long (a .cfg) (a .room) (a .board) (a .read) (a .sizes) (yes .2)))
 
 returns-3 : tie.Need-returns-3
 returns-3 c =

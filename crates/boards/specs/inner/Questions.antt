@@ -1,6 +1,6 @@
 -- Questions of a rig of several boards, as its inner functions put them.
-use Prim.Native.Nat.{ℕ, _*_}
-use mathlib.Core.Bool.{Bool, _&&_}
+use Prim.Native.Nat.{ℕ, _*_, _≤_}
+use mathlib.Core.Bool.{Bool, true, _&&_}
 use mathlib.Core.Path.{_≡_}
 use mathlib.Core.List.{List, [], _∷_, _++_}
 use lib.Dec.{eqb}
@@ -8,7 +8,7 @@ use Rattle.config.specs.declared.Config.{Config}
 use Rattle.config.specs.declared.Room.{Room}
 use Rattle.config.specs.Config.{boardLength}
 use Rattle.config.specs.Questions.{ask, firstNo}
-use Rattle.config.specs.Room.{roomQuestions}
+use Rattle.config.specs.Room.{roomQuestions, roomWithin}
 use Rattle.protocol.specs.Network.{boardExists}
 use Rattle.protocol.specs.Rig.{codeOf}
 use Rattle.boards.specs.declared.Call.{Call}
@@ -19,6 +19,10 @@ use Rattle.boards.specs.Questions.{rigWithin, sizedBy}
 -- questions 1 to 5, 21 and 22 are answered yes
 abbrev pub Accepted : Config → Room → Type 0
 Accepted cfg room = firstNo (roomQuestions cfg room) ≡ 0
+
+-- what they tell of the room alone
+abbrev pub RoomAccepted : Room → Type 0
+RoomAccepted room = (roomWithin room ≡ true) × (room .m ≤ 512)
 
 -- questions of a making, by the lengths of what is handed in
 abbrev pub startNo : Config → Room → ℕ → Sizes → ℕ

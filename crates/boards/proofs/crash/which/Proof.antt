@@ -1,4 +1,4 @@
-use mathlib.Core.Path.{_≡_, refl, sym}
+use mathlib.Core.Path.{_≡_, sym}
 use mathlib.Core.Logic.{⊎-elim}
 use Rattle.boards.proofs.crash.which.Statement.{statement}
 use Rattle.boards.proofs.crash.which.Tie as tie

@@ -5,6 +5,7 @@ use denote.Ref.{now}
 use borrow.Author.Needs.{needs}
 use mathlib.Core.Path.{_∙_}
 use Rattle.config.proofs.Questions.{within-low}
+use Rattle.config.proofs.Rooms.{room-is, room-most}
 use Rattle.boards.specs.View.{lent}
 use Rattle.boards.proofs.NamedCode.{event-done, lend-pre, place-low, settles}
 use Rattle.boards.proofs.OneOf.{read-at}
@@ -22,7 +23,9 @@ place-of-requires : tie.Need-place-of-requires
 place-of-requires c κs = search needs
 
 limit-requires : tie.Need-limit-requires
-limit-requires c κs = c .before .before .before .before .before .before .before .before .before .before .pre .accepted
+limit-requires c κs =
+    let s = c .before .before .before .before .before .before .before .before .before .before in
+    (room-is (s .args .cfg) (s .args .room) (s .pre .accepted), room-most (s .args .cfg) (s .args .room) (s .pre .accepted) .1)
 
 in-flight-requires : tie.Need-in-flight-requires
 in-flight-requires c κs = search needs

@@ -1,7 +1,7 @@
 use Prim.Native.Nat.{ℕ}
-use mathlib.Core.Bool.{Bool, true, false, _&&_}
+use mathlib.Core.Bool.{Bool, true, false}
 use mathlib.Core.List.{[], _∷_, _++_}
-use mathlib.Core.Path.{_≡_, refl, sym, ap, ap₂, _∙_}
+use mathlib.Core.Path.{_≡_, refl, sym, ap, _∙_}
 use native.Mathlib.Omega.{arith}
 use borrow.Author.Needs.{needs}
 use borrow.Author.Tests.{not-true, not-false}
@@ -11,7 +11,7 @@ use Rattle.config.specs.Questions.{ask, firstNo}
 use Rattle.config.proofs.Questions.{last-all, last-yes, rigQuestions-numbered}
 use Rattle.config.proofs.Valid.{rig-valid}
 use Rattle.events.specs.Questions.{rigWithin}
-use Rattle.boards.specs.Questions.{clientsAlike, upAlike}
+use Rattle.boards.specs.Questions.{upAlike}
 use Rattle.boards.specs.View.{rigWith}
 use Rattle.boards.proofs.questions.board.Statement.{statement}
 use Rattle.boards.proofs.questions.board.Tie as tie

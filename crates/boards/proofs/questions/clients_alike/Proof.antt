@@ -1,19 +1,18 @@
 -- The clients of the places passed are up on both boards or down on both. Assumes nothing.
 use Prim.Native.Nat.{ℕ, _-_, _≤_, _<_}
 use mathlib.Core.Path.{_≡_, refl, sym, ap, ap₂, _∙_}
-use mathlib.Core.Bool.{Bool, true, false}
-use mathlib.Core.List.{List}
+use mathlib.Core.Bool.{Bool, true}
 use native.Mathlib.Omega.{arith}
 use borrow.Author.Needs.{needs}
 use borrow.Author.Tests.{not-true, not-false}
 use lib.ListN.{length, getD, getElem?}
 use Rattle.laws.specs.Below.{allBelow}
 use Rattle.laws.proofs.Below.{below-next, below-no}
-use Rattle.laws.proofs.Lists.{at-getD}
 use Rattle.client.specs.declared.State as client
 use Rattle.boards.specs.declared.OneBoard.{OneBoard}
 use Rattle.boards.specs.Questions.{clientUp, isUp, same}
 use Rattle.boards.proofs.Owned.{client-places}
+use Rattle.boards.proofs.UpAlike.{same-read}
 use Rattle.boards.proofs.questions.clients_alike.Statement.{statement}
 use Rattle.boards.proofs.questions.clients_alike.Tie as tie
 
@@ -24,7 +23,7 @@ alikeAt x y i = same (clientUp (getElem? (x .clients) i)) (clientUp (getElem? (y
 alike-read : (x y : OneBoard) (i : ℕ) (a b : client.State) → i < 16 → length (x .clients) ≡ 16 → length (y .clients) ≡ 16
     → same (isUp (getD (x .clients) i a .phase)) (isUp (getD (y .clients) i b .phase)) ≡ alikeAt x y i
 unfolding clientUp
-alike-read x y i a b low h k = rw (at-getD (x .clients) i a (omega (arith, low, h)), at-getD (y .clients) i b (omega (arith, low, k)))
+alike-read x y i a b low h k = same-read clientUp (x .clients) (y .clients) i a b (omega (arith, low, h)) (omega (arith, low, k))
 
 abbrev Inv-loop : tie.InvT-loop
 Inv-loop cfg x y i₀ i = (i ≤ cfg .c) × (allBelow i (alikeAt x y) ≡ true)

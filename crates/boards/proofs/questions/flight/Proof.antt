@@ -9,7 +9,7 @@ use lib.Dec.{leb}
 use lib.ListN.{take}
 use lib.Seq.{length-take-le}
 use Rattle.config.specs.Room.{fitsRoom, keptFree, ownersWithin}
-use Rattle.config.proofs.Rooms.{boards-high, room-is, room-most, room-total, shares-high}
+use Rattle.config.proofs.Rooms.{boards-high, room-total, shares-high}
 use Rattle.boards.proofs.Kept.{kept-most}
 use Rattle.boards.proofs.questions.flight.Statement.{statement}
 use Rattle.boards.proofs.questions.flight.Tie as tie
@@ -26,10 +26,7 @@ returns c =
 kept-free-requires : tie.Need-kept-free-requires
 kept-free-requires c κs =
     let s = c .before .before .before in
-    let is = room-is (s .args .cfg) (s .args .room) (s .pre .0) in (
-      boards-high (s .args .room) is,
-      omega (arith, shares-high (s .args .room) is, room-most (s .args .cfg) (s .args .room) (s .pre .0) .1),
-    )
+    (boards-high (s .args .room) (s .pre .0 .0), omega (arith, shares-high (s .args .room) (s .pre .0 .0), s .pre .0 .1))
 
 add-result : tie.Need-add-result
 add-result c =
@@ -39,8 +36,8 @@ add-result c =
       arith,
       c .kept-free .ensures,
       kept-most room 0 (take (s .args .count) (now (s .args .owners))),
-      shares-high room (room-is (s .args .cfg) room (s .pre .0)),
-      room-most (s .args .cfg) room (s .pre .0) .1,
+      shares-high room (s .pre .0 .0),
+      s .pre .0 .1,
       s .pre .1,
     )
 
@@ -53,7 +50,7 @@ returns-2 c =
     let inside = sym (c .before .before .before .within .ensures) ∙ not-false _ (c .before .before .if1 .left) in
     ap (λ n. leb (a .count + n) (a .room .m)) (c .before .kept-free .ensures)
     ∙ ap (λ n. leb (n + keptFree (a .room) 0 os) (a .room .m)) (sym (length-take-le (a .count) (now (a .owners)) (s .pre .2)))
-    ∙ sym (room-total (a .room) os (room-is (a .cfg) (a .room) (s .pre .0)) inside)
+    ∙ sym (room-total (a .room) os (s .pre .0 .0) inside)
     ∙ ap (λ b. b && fitsRoom (a .room) os) (sym inside)
 
 pub flight-spec : {M : Type 1} → statement M

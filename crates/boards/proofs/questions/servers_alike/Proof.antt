@@ -1,20 +1,19 @@
 -- The servers of the places passed are up on both boards or down on both. Assumes nothing.
 use Prim.Native.Nat.{ℕ, _-_, _≤_, _<_}
 use mathlib.Core.Path.{_≡_, refl, sym, ap, _∙_}
-use mathlib.Core.Bool.{Bool, true, false}
-use mathlib.Core.List.{List}
+use mathlib.Core.Bool.{Bool, true}
 use native.Mathlib.Omega.{arith}
 use borrow.Author.Needs.{needs}
 use borrow.Author.Tests.{not-true, not-false}
 use lib.ListN.{length, getD, getElem?}
 use Rattle.laws.specs.Below.{allBelow}
 use Rattle.laws.proofs.Below.{below-next, below-no}
-use Rattle.laws.proofs.Lists.{at-getD}
 use Rattle.parties.specs.declared.Node.{Node}
 use Rattle.events.specs.View.{upSeen}
 use Rattle.boards.specs.declared.OneBoard.{OneBoard}
 use Rattle.boards.specs.Questions.{same}
 use Rattle.boards.proofs.Owned.{server-places}
+use Rattle.boards.proofs.UpAlike.{same-read}
 use Rattle.boards.proofs.questions.servers_alike.Statement.{statement}
 use Rattle.boards.proofs.questions.servers_alike.Tie as tie
 
@@ -25,7 +24,7 @@ alikeAt x y i = same (upSeen (getElem? (x .servers) i)) (upSeen (getElem? (y .se
 alike-read : (x y : OneBoard) (i : ℕ) (a b : Node) → i < 16 → length (x .servers) ≡ 16 → length (y .servers) ≡ 16
     → same (getD (x .servers) i a .up) (getD (y .servers) i b .up) ≡ alikeAt x y i
 unfolding upSeen
-alike-read x y i a b low h k = rw (at-getD (x .servers) i a (omega (arith, low, h)), at-getD (y .servers) i b (omega (arith, low, k)))
+alike-read x y i a b low h k = same-read upSeen (x .servers) (y .servers) i a b (omega (arith, low, h)) (omega (arith, low, k))
 
 abbrev Inv-loop : tie.InvT-loop
 Inv-loop cfg x y i₀ i = (i ≤ cfg .n) × (allBelow i (alikeAt x y) ≡ true)

@@ -4,7 +4,7 @@ use native.Mathlib.Omega.{arith}
 use borrow.Author.Needs.{needs}
 use Rattle.parties.specs.Within.{clientInPlace}
 use Rattle.parties.proofs.questions.Laws.{place-told}
-use Rattle.laws.proofs.EachPlace.{is-asked, not-asked}
+use Rattle.rig.proofs.within.Laws.{is-asked, not-asked}
 use Rattle.rig.proofs.within.client.Statement.{statement}
 use Rattle.rig.proofs.within.client.Tie as tie
 

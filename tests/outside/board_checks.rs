@@ -1,7 +1,7 @@
 //! Checks of several boards: question 22, the room, question 6, one board's lines, histories, pairs of lists.
 
 use crate::common::Checks;
-use crate::history::{History, history};
+use crate::history::{History, history, of_board};
 use crate::list::{List, head, ranked, shared};
 use crate::lists;
 use crate::maker::Seen;
@@ -160,16 +160,17 @@ fn head_bytes() -> Checks {
     ]
 }
 
-/// Client 1 writes 5 on board 1 and reads on board 2, at once; client 2 then reads on board 1. A crash names a board
-/// in vain.
+/// Client 1 writes 5 on board 1 and reads on board 2, at once; client 2 then reads on board 1. A crash and restarts
+/// name a board in vain.
 fn histories() -> Checks {
     let mut list = List::new(true, of(&[0, 0]), vec![3, 4]);
     let events =
-        [(1, 1, 1, 0), (2, 1, 2, 0), (7, 2, 1, 0), (3, 0, 2, 1), (3, 0, 1, 1), (2, 2, 1, 0), (3, 0, 1, 2)];
-    for (code, party, board, named) in events {
+        [(1, 1, 1, 0), (2, 1, 2, 0), (6, 2, 1, 0), (3, 0, 2, 1), (3, 0, 1, 1), (2, 2, 1, 0), (3, 0, 1, 2)];
+    for (code, party, board, named) in events.into_iter().chain([(8, 2, 1, 0), (8, 2, 2, 0)]) {
         list.put(&Event { code, party, position: 0, board, bytes: &[5], length: 1 }, named);
     }
-    let lines = "1 ok\n2 ok\n3 ok\n4 read 0 0 04\n5 written 1 1\n6 ok\n7 read 1 1 05\n";
+    let lines = "1 ok\n2 ok\n3 ok\n4 read 0 0 04\n5 written 1 1\n6 ok\n7 read 1 1 05\n8 ok\n9 no 9\n";
+    let places = |board| of_board(&list, lines, board).map(|(place, ..)| place).collect::<Vec<_>>();
     let of = |board| {
         let History { start, operations } = history(&list, lines, board).ok()?;
         let operations = operations.iter().map(|o| (o.write, o.board.1[0], o.begin, o.end));
@@ -178,6 +179,7 @@ fn histories() -> Checks {
     vec![
         ("a history of board 1", of(1) == Some((3, vec![(true, 5, 0, Some(4)), (false, 5, 5, Some(6))]))),
         ("a history of board 2", of(2) == Some((4, vec![(false, 4, 1, Some(3))]))),
+        ("no crash and no restart in a history", places(1) == [0, 4, 5, 6] && places(2) == [1, 3]),
     ]
 }
 

@@ -9,6 +9,7 @@ use crate::model::*;
 use crate::programs;
 use crate::random::Random;
 use crate::rank_checks;
+use crate::restart_checks;
 
 /// All checks; the number that failed.
 pub fn all() -> usize {
@@ -37,6 +38,7 @@ pub fn all() -> usize {
         small_histories(),
         rank_checks::all(),
         board_checks::all(),
+        restart_checks::all(),
     ];
     tell("model and search", &sections.concat())
 }
@@ -238,7 +240,7 @@ fn rig() -> Checks {
         ("handed to a crashed server", gone == OK && left == 2),
         ("crashed clients", answered == OK && clients == [OK, Err(9), Err(9)]),
         ("handed to a crashed client", gone_too == OK && crashed.flight.len() == 1),
-        ("7", [0, 8, 255].iter().all(|code| event(&mut crashed, *code, 0, 0) == Err(7))),
+        ("7", [0, 9, 255].iter().all(|code| event(&mut crashed, *code, 0, 0) == Err(7))),
     ]
 }
 
@@ -343,7 +345,7 @@ fn asked_lengths() -> Checks {
     let crashed = long(&mut rig, 7);
     let down = [begin(&mut rig, 1, 3), begin(&mut rig, 1, 4)];
     let unknown = [begin(&mut rig, 4, 3), begin(&mut rig, 4, 4), begin(&mut rig, 0, 65535)];
-    let other = [4, 5, 3, 4, 6].map(|code| long(&mut rig, code));
+    let other = [4, 5, 3, 4, 6, 8].map(|code| long(&mut rig, code));
     vec![
         ("lengths 0 and V", accepted.iter().all(|answer| *answer == Ok(Answer::Nothing))),
         ("19 before 13", full == [Err(13), Err(19)]),
@@ -351,7 +353,7 @@ fn asked_lengths() -> Checks {
         ("19 before 9", crashed.is_ok() && down == [Err(9), Err(19)]),
         ("19 before 8", unknown == [Err(8), Err(19), Err(19)]),
         ("a length that isn't a write's", other.iter().all(|answer| *answer == Ok(Answer::Nothing))),
-        ("7, whatever the length", [0, 8, 255].iter().all(|code| long(&mut rig, *code) == Err(7))),
+        ("7, whatever the length", [0, 9, 255].iter().all(|code| long(&mut rig, *code) == Err(7))),
     ]
 }
 

@@ -93,8 +93,8 @@ impl<'a> Runs<'a> {
         }
     }
 
-    /// A second list with the same events for one board and the same crashes. Where that board meets no 13 in either,
-    /// it has the same answers in both.
+    /// A second list with the same events for one board and the same crashes and restarts. Where that board meets no 13
+    /// in either, it has the same answers in both.
     fn paired(&mut self, list: &List, printed: &str, name: &str, seen: &mut Seen) {
         let board = self.random.within(1, list.config.boards) as u8;
         let name = format!("{name}, the same for board {board}");
@@ -162,6 +162,10 @@ impl<'a> Runs<'a> {
         for (config, events) in configs {
             let list = lists::long(seed, config, config != PROGRAM, events, seen);
             self.one(&list, &format!("seed {seed} long list"));
+        }
+        for (config, events) in [(PROGRAM, 20_000), (few, 20_000), (eight, 40_000)] {
+            let list = lists::long_restarting(seed, config, config != PROGRAM, events, seen);
+            self.one(&list, &format!("seed {seed} long list with restarts"));
         }
         for shares in [&[0][..], &[64; 8], &[0; 8]] {
             self.one(&lists::full(seed, shares, seen), &format!("seed {seed} full list"));

@@ -2,14 +2,16 @@
 
 use crate::directed_boards;
 use crate::directed_ranks;
+use crate::directed_restarts;
 use crate::list::{List, head};
 use crate::model::{CLEARED, Config, PRE_WRITE, QUERY, READ_FINALISE, WRITE_FINALISE};
 use crate::programs::PROGRAM;
 use crate::script::{Directed, Script};
 
-/// Kind 9, makings, ranks and boards.
+/// Kind 9, makings, ranks, boards and restarts.
 pub fn all() -> Vec<Directed> {
-    [cleared(), makings(), directed_ranks::all(), directed_boards::all()].into_iter().flatten().collect()
+    let others = [directed_ranks::all(), directed_boards::all(), directed_restarts::all()];
+    [cleared(), makings()].into_iter().chain(others).flatten().collect()
 }
 
 /// Kind 9 and what a reader does with it, where N is 3, k 1, D 0 and E 1, so q is 2, and the starting board is 0.

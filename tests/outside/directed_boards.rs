@@ -68,8 +68,8 @@ fn not_there() -> Script {
         write(&mut s, 1, board, 2, "no 22");
         write(&mut s, 9, board, 1, "no 22");
         (2..=5).for_each(|code| named(&mut s, [code, 9, 9, board], "no 22"));
-        [0, 8, 255].iter().for_each(|code| named(&mut s, [*code, 9, 9, board], "no 7"));
-        [6, 7].iter().for_each(|code| named(&mut s, [*code, 9, 9, board], "no 8"));
+        [0, 9, 255].iter().for_each(|code| named(&mut s, [*code, 9, 9, board], "no 7"));
+        [6, 7, 8].iter().for_each(|code| named(&mut s, [*code, 9, 9, board], "no 8"));
     }
     write(&mut s, 1, 2, 2, "no 19");
     write(&mut s, 9, 2, 2, "no 19");
@@ -81,6 +81,8 @@ fn not_there() -> Script {
     named(&mut s, [7, 2, 0, 255], "no 9");
     named(&mut s, [6, 1, 0, 3], "ok");
     named(&mut s, [6, 1, 0, 2], "no 9");
+    named(&mut s, [8, 2, 0, 3], "no 9");
+    named(&mut s, [8, 1, 0, 255], "ok");
     named(&mut s, [2, 2, 0, 3], "no 22");
     named(&mut s, [2, 2, 0, 2], "no 9");
     s.on = 2;

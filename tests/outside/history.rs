@@ -73,7 +73,7 @@ pub fn history(list: &List, lines: &str, board: u8) -> Result<History, String> {
     Ok(History { start, operations: kept.map(|(_, o)| o).collect() })
 }
 
-/// The events that name a board, with their places in the list and their lines. A crash names none.
+/// The events that name a board, with their places in the list and their lines. A crash or a restart names none.
 pub fn of_board<'a>(
     list: &'a List,
     lines: &'a str,

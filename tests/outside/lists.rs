@@ -63,7 +63,8 @@ fn drawn(random: &mut Random, kind: u64) -> (Config, Mood) {
         SHARED => sharing(random, &config),
         _ => any_mood(random, &config),
     };
-    (config, mood)
+    let restarts = random.chance(400);
+    (config, if restarts { restarting(random, &config, mood) } else { mood })
 }
 
 /// No faults.
@@ -75,8 +76,10 @@ fn calm(random: &mut Random, config: &Config) -> Mood {
         double: random.pick(&[0, 10]),
         crash_server: 0,
         crash_client: 0,
+        restart: 0,
         junk: 10,
         crashes: config.n - config.q(),
+        wait: 0,
         writers: config.d.max(1),
         alone: random.chance(200),
         order: random.pick(&[Order::Any, Order::Any, Order::Any, Order::First, Order::Last]),
@@ -97,6 +100,7 @@ fn any_mood(random: &mut Random, config: &Config) -> Mood {
         double: random.below(60),
         crash_server: random.below(8),
         crash_client: random.below(8),
+        restart: random.below(20),
         junk: 20,
         writers: 16,
         ..calm
@@ -106,6 +110,7 @@ fn any_mood(random: &mut Random, config: &Config) -> Mood {
         double: random.below(300),
         crash_server: random.below(60),
         crash_client: random.below(40),
+        restart: random.below(60),
         junk: 150,
         crashes: config.n,
         settle: random.chance(500),
@@ -113,6 +118,18 @@ fn any_mood(random: &mut Random, config: &Config) -> Mood {
     };
     let filling = Mood { double: random.below(500), lose: 5, begin: 100, fill: true, ..mixed };
     random.pick(&[calm, calm, mixed, mixed, heavy, filling])
+}
+
+/// The same with servers that crash and are started again, now and then more at once than a quorum can do without.
+fn restarting(random: &mut Random, config: &Config, mood: Mood) -> Mood {
+    let spare = config.n - config.q();
+    Mood {
+        crash_server: random.pick(&[5, 20, 60]),
+        restart: random.pick(&[5, 20, 100]),
+        crashes: random.pick(&[spare, spare + 1, config.n]),
+        wait: random.pick(&[500, 950, 1000]),
+        ..mood
+    }
 }
 
 /// Out for histories without an order.
@@ -364,7 +381,18 @@ fn busy(random: &mut Random, config: &Config) -> Mood {
 pub fn long(seed: u64, config: Config, general: bool, events: usize, seen: &mut Seen) -> List {
     let random = &mut Random::new(seed, u64::MAX);
     let mood = busy(random, &config);
-    let mut maker = Maker::new(random, seen, mood, config, general);
+    so_many(Maker::new(random, seen, mood, config, general), events)
+}
+
+/// The same with servers that crash and are started again. No message goes to one that is down.
+pub fn long_restarting(seed: u64, config: Config, general: bool, events: usize, seen: &mut Seen) -> List {
+    let random = &mut Random::new(seed, u64::MAX - 3);
+    let busy = busy(random, &config);
+    let mood = Mood { crash_server: 20, restart: 40, crashes: config.n, wait: 1000, ..busy };
+    so_many(Maker::new(random, seen, mood, config, general), events)
+}
+
+fn so_many(mut maker: Maker, events: usize) -> List {
     (0..events).for_each(|_| maker.any());
     maker.list
 }

@@ -8,6 +8,7 @@ mod compare;
 mod directed;
 mod directed_boards;
 mod directed_ranks;
+mod directed_restarts;
 mod history;
 mod list;
 mod lists;
@@ -18,6 +19,8 @@ mod printed;
 mod programs;
 mod random;
 mod rank_checks;
+mod restart_checks;
+mod restarts;
 mod script;
 mod search;
 mod sharing;
@@ -54,21 +57,22 @@ fn usage() -> ! {
     exit(2)
 }
 
-/// Copies the sources with one line of one of them changed, as the edit says.
+/// Copies the sources with one of them changed, as the edit says: each old text by the new one after it.
 fn edit(edit: &str, sources: &str, directory: &str) -> usize {
     let text = std::fs::read_to_string(edit).expect("the edit");
-    let field = |name: &str| {
-        let line = text.lines().find_map(|line| line.strip_prefix(name)).expect("a field of the edit");
-        line.strip_prefix(": ").expect("a field's text").trim()
+    let fields = |name: &str| -> Vec<&str> {
+        let lines = text.lines().filter_map(|line| line.strip_prefix(name));
+        lines.map(|line| line.strip_prefix(": ").expect("a field's text").trim()).collect()
     };
+    let (file, changes) = (fields("file")[0], fields("old").into_iter().zip(fields("new")));
     std::fs::create_dir_all(directory).expect("the directory");
     for entry in std::fs::read_dir(sources).expect("the sources") {
         let path = entry.expect("a source").path();
         if path.extension().is_some_and(|e| e == "rs") {
             let mut source = std::fs::read_to_string(&path).expect("a source");
-            if path.ends_with(field("file")) {
-                assert_eq!(source.matches(field("old")).count(), 1, "{edit}: old text stands once");
-                source = source.replace(field("old"), field("new"));
+            for (old, new) in changes.clone().filter(|_| path.ends_with(file)) {
+                assert_eq!(source.matches(old).count(), 1, "{edit}: old text stands once");
+                source = source.replace(old, new);
             }
             std::fs::write(Path::new(directory).join(path.file_name().unwrap()), source).expect("a copy");
         }

@@ -7,6 +7,7 @@ use crate::model::{
     Tag,
 };
 use crate::random::Random;
+use crate::restarts::{Restarting, Restarts};
 use crate::sharing::{Before, Shared, Sharing};
 use crate::ties::{Ties, mixed, plain};
 use std::collections::HashSet;
@@ -36,6 +37,7 @@ pub struct Seen {
     pub cleared: Cleared,
     pub ties: Ties,
     pub boards: Shared,
+    pub restarts: Restarts,
 }
 
 /// What they have met of kind 9.
@@ -87,7 +89,8 @@ impl Seen {
             ("not awaited (14)", self.not_awaited),
             ("512 in flight", (self.most_in_flight == 512) as usize),
         ];
-        [never(&counts), self.cleared.missing(), self.ties.missing(), self.boards.missing()].concat()
+        let others = [self.ties.missing(), self.boards.missing(), self.restarts.missing()].concat();
+        [never(&counts), self.cleared.missing(), others].concat()
     }
 }
 
@@ -127,9 +130,13 @@ pub struct Mood {
     pub double: usize,
     pub crash_server: usize,
     pub crash_client: usize,
+    /// Of a server that is down.
+    pub restart: usize,
     pub junk: usize,
-    /// Servers crashed, at most.
+    /// Servers down at once, at most.
     pub crashes: usize,
+    /// Chances of 1000 that messages to servers that are down wait for them; where all do, one is started again.
+    pub wait: usize,
     /// Writes open at once, at most.
     pub writers: usize,
     /// One operation at a time, but for reads that have asked again twice.
@@ -147,7 +154,7 @@ pub struct Mood {
     pub settle: bool,
     /// Chances of 1000 that an event is of the same board as the one before; else its board is drawn.
     pub stay: usize,
-    /// No crash, not even one that is refused.
+    /// No crash and no restart, not even one that is refused.
     pub no_crash: bool,
 }
 
@@ -183,6 +190,7 @@ pub struct Maker<'a> {
     /// Those of boards 1, 2 and so on.
     parts: Vec<Part>,
     sharing: Sharing,
+    restarting: Restarting,
     /// Clients differ in rank.
     mixed: bool,
 }
@@ -207,8 +215,8 @@ impl<'a> Maker<'a> {
         let littered = random.chance(500);
         let parts = (0..config.boards).map(|_| Part::of(config.c)).collect();
         seen.boards.note_list(&config);
-        let (sharing, mixed) = (Sharing::default(), mixed(&config));
-        Maker { random, seen, mood, rig, list, on: 1, littered, parts, sharing, mixed }
+        let (sharing, restarting, mixed) = (Sharing::default(), Restarting::default(), mixed(&config));
+        Maker { random, seen, mood, rig, list, on: 1, littered, parts, sharing, restarting, mixed }
     }
 
     /// The parties as the board has them.
@@ -243,6 +251,8 @@ impl<'a> Maker<'a> {
         self.sharing.note_crash(&mut self.seen.boards, &self.rig, &event);
         let answer = self.rig.event(event);
         self.sharing.note(&mut self.seen.boards, &before, &self.rig, &event, &answer);
+        let restarts = self.seen.restarts.by(self.list.general);
+        self.restarting.note(restarts, &self.rig, &event, &answer);
         if let (Some(r), Some(client)) = (handed, client) {
             self.note_handed_over(&r, &client, &answer);
         }
@@ -282,6 +292,8 @@ impl<'a> Maker<'a> {
             self.seen.handed_to_crashed += 1;
             self.sharing.note_gone(&mut self.seen.boards, r, self.on);
         }
+        let restarts = self.seen.restarts.by(self.list.general);
+        self.restarting.note_handed_over(restarts, &self.rig, (self.on, r), client, answer);
         self.seen.not_awaited += (up && !r.for_server() && !client.awaits(r)) as usize;
         match r.kind {
             READ_FINALISE if up => {
@@ -377,7 +389,7 @@ impl<'a> Maker<'a> {
         (0..self.rig.config.v()).map(|_| self.unused(256) as u8).collect()
     }
 
-    /// The board's number in an event of this code; a crash and an unknown event don't use it.
+    /// The board's number in an event of this code; a crash, a restart and an unknown event don't use it.
     fn number(&mut self, code: u8) -> u8 {
         if (1..=5).contains(&code) || !self.list.general { self.on } else { self.unused(256) as u8 }
     }
@@ -499,12 +511,23 @@ impl<'a> Maker<'a> {
         }
     }
 
-    /// Hands over, loses or doubles a message, one that is ready if there is any.
+    /// Whether a message isn't to a server that is down.
+    fn reaches(&self, r: &Record) -> bool {
+        !r.for_server() || self.here().servers[r.server as usize - 1].up
+    }
+
+    /// Hands over, loses or doubles a message, one that is ready if there is any. Where all wait for servers that are
+    /// down, one of these is started again.
     fn message(&mut self, code: u8) {
-        let flight = self.flight();
-        let mut from: Vec<usize> = (0..flight.len()).filter(|p| self.ready(&flight[*p])).collect();
+        let (flight, wait) = (self.flight(), self.random.chance(self.mood.wait));
+        let all: Vec<usize> = (0..flight.len()).filter(|p| !wait || self.reaches(&flight[*p])).collect();
+        if all.is_empty() {
+            self.one_of(8, &self.servers(false));
+            return;
+        }
+        let mut from: Vec<usize> = all.iter().copied().filter(|p| self.ready(&flight[*p])).collect();
         if from.is_empty() || self.random.chance(20) {
-            from = (0..flight.len()).collect();
+            from = all;
         }
         let position = match self.mood.order {
             Order::First => from[0],
@@ -541,22 +564,26 @@ impl<'a> Maker<'a> {
         }
     }
 
-    /// Codes, parties and positions that aren't there, and parties that are down or busy.
+    /// Codes, parties and positions that aren't there, and parties that are down or busy, or up at a restart. A restart
+    /// of a crashed client's number may be one of a server.
     fn no_such(&mut self) {
         let Config { n, c, .. } = self.rig.config;
         let (flight, all) = (self.rig.count(self.on), self.rig.flight.len());
         let outside = |most: usize| [0, most as u8 + 1, most as u8 + 16, 255];
         let no_crash = self.mood.no_crash;
         let begin_or_crash = self.random.pick(if no_crash { &[1, 2] } else { &[1, 2, 7] });
-        let made = match self.random.below(6) {
+        let made = match self.random.below(9) {
             0 => self.one_of(begin_or_crash, &outside(c)),
             1 if !no_crash => self.one_of(6, &outside(n)),
             2 => self.one_of(begin_or_crash.min(2), &self.clients(|client| client.phase != Phase::Idle)),
             3 if !no_crash => self.one_of(7, &self.clients(|client| client.phase == Phase::Down)),
             4 if !no_crash => self.one_of(6, &self.servers(false)),
+            5 if !no_crash => self.one_of(8, &outside(n)),
+            6 if !no_crash => self.one_of(8, &self.servers(true)),
+            7 if !no_crash => self.one_of(8, &self.clients(|client| client.phase == Phase::Down)),
             _ => false,
         };
-        let code = self.random.pick(&[0, 3, 4, 5, 8, 128, 255]);
+        let code = self.random.pick(&[0, 3, 4, 5, 9, 128, 255]);
         let last = all.max(flight + 1) - 1;
         let position = self.random.pick(&[flight, flight + 1, flight + 256, last, 512, 32768, 65535]);
         if !made {
@@ -572,6 +599,14 @@ impl<'a> Maker<'a> {
         self.any_here();
     }
 
+    /// A server crashes or is started again, as the mood has it.
+    fn crash_or_restart(&mut self) -> bool {
+        let (mood, up) = (self.mood, self.servers(true));
+        let may_crash = up.len() + mood.crashes > self.rig.config.n;
+        may_crash && self.random.chance(mood.crash_server) && self.one_of(6, &up)
+            || self.random.chance(mood.restart) && self.one_of(8, &self.servers(false))
+    }
+
     /// Any event of the board.
     pub fn any_here(&mut self) {
         let mood = self.mood;
@@ -581,9 +616,7 @@ impl<'a> Maker<'a> {
         if self.random.chance(mood.junk) {
             return self.junk();
         }
-        let up = self.servers(true);
-        if up.len() + mood.crashes > self.rig.config.n && self.random.chance(mood.crash_server) {
-            self.one_of(6, &up);
+        if self.crash_or_restart() {
             return;
         }
         let up = self.clients(|client| client.phase != Phase::Down);
@@ -647,9 +680,12 @@ impl<'a> Maker<'a> {
     }
 
     /// Everything is handed over, then each client that is idle reads; where there are several boards, two of them on
-    /// each.
+    /// each. In half of the draws all servers are started again first.
     pub fn settle(&mut self) {
         self.mood.adverse = false;
+        if self.random.chance(500) {
+            while self.one_of(8, &self.servers(false)) {}
+        }
         let Config { c, boards, .. } = self.rig.config;
         for board in 1..=boards as u8 {
             self.on = board;
@@ -681,7 +717,7 @@ impl<'a> Maker<'a> {
     /// A record of any bytes, small ones mostly.
     pub fn noise(&mut self) {
         let mut byte =
-            || if self.random.chance(950) { self.random.below(9) as u8 } else { self.random.byte() };
+            || if self.random.chance(950) { self.random.below(10) as u8 } else { self.random.byte() };
         let (code, party, low) = (byte(), byte(), byte());
         let high = if self.random.chance(950) { 0 } else { self.random.byte() };
         let position = u16::from_le_bytes([low, high]) as usize;

@@ -1,5 +1,5 @@
-//! An independent model of document 01 and of requests L1, L2, L5 and L6 of document 02, from their text alone: field,
-//! code, tags, server, client, rig.
+//! An independent model of document 01 and of requests L1, L2, L5, L6 and L7 of document 02, from their text alone:
+//! field, code, tags, server, client, rig.
 //! A refusal is `Err` with the number of the first question answered no.
 
 use std::collections::BTreeMap;
@@ -552,7 +552,7 @@ impl Rig {
         self.of(board).count()
     }
 
-    /// 22 comes before all else that is asked of an event. A crash and an unknown event name no board.
+    /// 22 comes before all else that is asked of an event. A crash, a restart and an unknown event name no board.
     pub fn event(&mut self, event: Event) -> Result<Answer, u8> {
         let Event { code, party, position, board, bytes, length } = event;
         if (1..=5).contains(&code) {
@@ -566,6 +566,7 @@ impl Rig {
             5 => self.double(board, position),
             6 => self.crash_server(party),
             7 => self.crash_client(party),
+            8 => self.restart_server(party),
             _ => Err(7),
         }
     }
@@ -673,12 +674,26 @@ impl Rig {
         Ok(Answer::Nothing)
     }
 
+    /// Question 8 of a server: its place.
+    fn server(&self, party: u8) -> Result<usize, u8> {
+        ask((1..=self.config.n).contains(&(party as usize)), 8)?;
+        Ok(party as usize - 1)
+    }
+
     /// On all boards.
     fn crash_server(&mut self, party: u8) -> Result<Answer, u8> {
-        ask((1..=self.config.n).contains(&(party as usize)), 8)?;
-        let place = party as usize - 1;
+        let place = self.server(party)?;
         ask(self.parties[0].servers[place].up, 9)?;
         self.parties.iter_mut().for_each(|parties| parties.servers[place].up = false);
+        Ok(Answer::Nothing)
+    }
+
+    /// On all boards, with store, highest finalised tag and floor as they stood at the crash.
+    fn restart_server(&mut self, party: u8) -> Result<Answer, u8> {
+        let place = self.server(party)?;
+        let down = !self.parties[0].servers[place].up;
+        ask(down, 9)?;
+        self.parties.iter_mut().for_each(|parties| parties.servers[place].up = true);
         Ok(Answer::Nothing)
     }
 

@@ -56,6 +56,14 @@ impl Script {
         self.event([2, client, 0, 0], "ok");
     }
 
+    pub fn crash(&mut self, servers: &[u8]) {
+        servers.iter().for_each(|server| self.event([6, *server, 0, 0], "ok"));
+    }
+
+    pub fn restart(&mut self, servers: &[u8]) {
+        servers.iter().for_each(|server| self.event([8, *server, 0, 0], "ok"));
+    }
+
     /// Where the newest such message is; past all if there is none.
     fn newest(&self, kind: u8, client: u8, server: u8) -> u8 {
         let flight = || self.rig.of(self.on);

@@ -10,6 +10,7 @@ mod maker;
 mod model;
 mod programs;
 mod random;
+mod restarts;
 mod search;
 mod sharing;
 mod ties;

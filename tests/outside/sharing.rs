@@ -36,11 +36,14 @@ struct NoBoard {
     before_9: usize,
     before_10: usize,
     no_position: usize,
-    /// Events that name none: 7, a crash, a crash that gets 8, one that gets 9.
+    /// Events that name none: 7, a crash, a crash that gets 8, one that gets 9, and the same of restarts.
     unknown: usize,
     crash: usize,
     crash_8: usize,
     crash_9: usize,
+    restart: usize,
+    restart_8: usize,
+    restart_9: usize,
 }
 
 /// 13 on one of several boards.
@@ -76,7 +79,7 @@ struct Both {
 pub struct Sharing {
     /// The board whose event was the last one and got 13.
     full: Option<u8>,
-    /// The boards on which messages to a crashed server, or client, were gone.
+    /// The boards on which messages to a crashed server, or client, were gone since its crash.
     gone: HashMap<(bool, u8), HashSet<u8>>,
     /// The boards on which a crashed client got 9.
     refused: HashMap<u8, HashSet<u8>>,
@@ -168,6 +171,9 @@ impl NoBoard {
             ("a crash with a board that isn't there", self.crash),
             ("8 of a crash with a board that isn't there", self.crash_8),
             ("9 of a crash with a board that isn't there", self.crash_9),
+            ("a restart with a board that isn't there", self.restart),
+            ("8 of a restart with a board that isn't there", self.restart_8),
+            ("9 of a restart with a board that isn't there", self.restart_9),
         ])
     }
 
@@ -190,6 +196,9 @@ impl NoBoard {
             (6 | 7, Ok(_)) => self.crash += 1,
             (6 | 7, Err(8)) => self.crash_8 += 1,
             (6 | 7, Err(9)) => self.crash_9 += 1,
+            (8, Ok(_)) => self.restart += 1,
+            (8, Err(8)) => self.restart_8 += 1,
+            (8, Err(9)) => self.restart_9 += 1,
             (_, Err(7)) => self.unknown += 1,
             _ => unreachable!("{event:?}: {answer:?}"),
         }
@@ -278,6 +287,9 @@ impl Sharing {
         answer: &Result<Answer, u8>,
     ) {
         let board = event.board;
+        if event.code == 8 && answer.is_ok() {
+            self.gone.remove(&(true, event.party));
+        }
         if rig.config.ask_board(board).is_err() {
             self.full = None;
             return met.refused.note(rig, event, answer);
@@ -319,6 +331,6 @@ impl Sharing {
 }
 
 /// Adds a board; 1 if it is the second one.
-fn second(boards: &mut HashSet<u8>, board: u8) -> usize {
+pub fn second(boards: &mut HashSet<u8>, board: u8) -> usize {
     (boards.insert(board) && boards.len() == 2) as usize
 }

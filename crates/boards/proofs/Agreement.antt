@@ -1,11 +1,11 @@
 -- "Two lists, from rigs made alike, with the same events for one board and the same crashes, in the same order, in which that board meets no 13,
--- give that board the same answers": what a board answers along a list is what it answers by itself to its own calls and the crashes, with the
--- lengths of what is handed in and lent. Assumes nothing.
+-- give that board the same answers", and the same restarts; and the crashes' and the restarts' answers are the same too. What is answered along a list to a
+-- board's calls, the crashes and the restarts is what it answers to them by itself, with the lengths of what is handed in and lent. Assumes nothing.
 use Prim.Native.Nat.{ℕ}
 use mathlib.Core.Path.{_≡_, refl, sym, ap, ap₂, subst, _∙_}
 use mathlib.Core.Bool.{Bool, true, false, cond, _&&_, false≢true}
 use mathlib.Core.Option.{Option}
-use mathlib.Core.List.{List, [], _∷_, _++_, append-assoc, map, map-append}
+use mathlib.Core.List.{List, [], _∷_, _++_, map, map-append}
 use lib.Dec.{eqb}
 use lib.ListN.{length}
 use borrow.Author.Tests.{eqb-true}
@@ -13,12 +13,13 @@ use Rattle.config.specs.declared.Config.{Config}
 use Rattle.config.specs.declared.Room.{Room}
 use Rattle.config.specs.Config.{boardLength}
 use Rattle.config.specs.Questions.{within}
-use Rattle.protocol.specs.Agree.{No13, alone, answersOf, concerns, isCrash}
+use Rattle.protocol.specs.Agree.{No13, alone, answersFor, answersOf, callIn, callsFor, concerns, isOnEveryBoard}
 use Rattle.protocol.specs.Board.{refused}
 use Rattle.protocol.specs.Boards.{BoardAnswer, BoardCall, BoardEvent, BoardNetwork, BoardNetworkTurn, BoardRig, BoardTurn, decode, encode, fitsIn, freshRig, networkEvent, order}
 use Rattle.protocol.specs.Network.{On, boardExists, eventsOf, isOf, namesBoard, rigOf}
 use Rattle.protocol.specs.Rig.{Code, codeOf}
-use Rattle.protocol.proofs.Alone.{Agrees, crash-event, crash-names, other-event, own-event}
+use Rattle.protocol.proofs.Agreement.{own-among, ownAmong}
+use Rattle.protocol.proofs.Alone.{Agrees, every-event, every-names, other-event, own-event}
 use Rattle.protocol.proofs.NetworkRuns.{events-append, fresh-rig}
 use Rattle.parties.specs.Acts.{answerOf}
 use Rattle.boards.specs.declared.Rig.{Rig}
@@ -47,10 +48,10 @@ module _ (cfg : Config) where
   leftBy v [] = v
   leftBy v (x ∷ xs) = leftBy (turnBy v x .rig) xs
 
-  -- and what it answers: a crash's answer is of no board
+  -- and what it answers
   unfoldable pub answersBy : BoardRig → List (BoardCall × ℕ) → List BoardAnswer
   answersBy v [] = []
-  answersBy v (x ∷ xs) = cond (namesBoard (codeOf (x .0 .code))) (turnBy v x .answer ∷ []) [] ++ answersBy (turnBy v x .rig) xs
+  answersBy v (x ∷ xs) = turnBy v x .answer ∷ answersBy (turnBy v x .rig) xs
 
   -- of calls and then others
   left-more : (v : BoardRig) (xs ys : List (BoardCall × ℕ)) → leftBy v (xs ++ ys) ≡ leftBy (leftBy v xs) ys
@@ -61,9 +62,7 @@ module _ (cfg : Config) where
   answers-more : (v : BoardRig) (xs ys : List (BoardCall × ℕ)) → answersBy v (xs ++ ys) ≡ answersBy v xs ++ answersBy (leftBy v xs) ys
   unfolding leftBy answersBy
   answers-more v [] ys = refl
-  answers-more v (x ∷ xs) ys =
-      let first = cond (namesBoard (codeOf (x .0 .code))) (turnBy v x .answer ∷ []) [] in
-      ap (λ rest. first ++ rest) (answers-more (turnBy v x .rig) xs ys) ∙ sym (append-assoc first _ _)
+  answers-more v (x ∷ xs) ys = ap (λ rest. turnBy v x .answer ∷ rest) (answers-more (turnBy v x .rig) xs ys)
 
 -- none of two lists of answers is 13
 no-13-first : (xs ys : List BoardAnswer) → No13 (xs ++ ys) → No13 xs
@@ -120,12 +119,12 @@ module _ (cfg : Config) (room : Room) (start : List ℕ) (b : ℕ) (exists : wit
         there : within 1 (room .boards) (a .board) ≡ true
         there = subst (λ z. within 1 (room .boards) z ≡ true) (sym mine) exists
 
-    -- a crash
-    crash-agrees : isCrash code ≡ true → Agrees b out (turnBy cfg (rigOf b n) handed)
+    -- a crash or a restart
+    every-agrees : isOnEveryBoard code ≡ true → Agrees b out (turnBy cfg (rigOf b n) handed)
     unfolding boardExists
-    crash-agrees crash =
-        agrees (rw (crash-names code crash))
-        (λ _. crash-event (order cfg) (encode cfg) (decode cfg) cfg (fitsIn cfg) room n (always-ready cfg room start runs) b exists a crash)
+    every-agrees everywhere =
+        agrees (rw (every-names code everywhere))
+        (λ _. every-event (order cfg) (encode cfg) (decode cfg) cfg (fitsIn cfg) room n (always-ready cfg room start runs) b exists a everywhere)
 
     -- another call leaves the board as it is
     stays : concerns b a ≡ false → rigOf b (out .network) ≡ rigOf b n
@@ -137,31 +136,30 @@ module _ (cfg : Config) (room : Room) (start : List ℕ) (b : ℕ) (exists : wit
             ∙ other-event (order cfg) (encode cfg) (decode cfg) cfg (fitsIn cfg) room n (always-ready cfg room start runs .together .lengths) b a not
         by false e = ap (λ (x : BoardNetworkTurn). rigOf b (x .network)) (as-refused cfg room start runs a read e)
 
-    -- what it leaves of the board, and answers if it names it, is what the board does by itself
+    -- what it leaves of the board, and answers if it concerns it, is what the board does by itself
     abbrev answered : Bool → List BoardAnswer
-    answered mine = cond mine (out .answer ∷ []) []
+    answered t = cond t (out .answer ∷ []) []
 
     abbrev concerned : Bool → List (BoardCall × ℕ)
     concerned t = cond t (handed ∷ []) []
 
-    abbrev Same : Bool → Bool → Type 0
-    Same mine t =
-        (rigOf b (out .network) ≡ leftBy cfg (rigOf b n) (concerned t)) × (answered mine ≡ answersBy cfg (rigOf b n) (concerned t))
+    abbrev Same : Bool → Type 0
+    Same t = (rigOf b (out .network) ≡ leftBy cfg (rigOf b n) (concerned t)) × (answered t ≡ answersBy cfg (rigOf b n) (concerned t))
 
-    step : (crash named mine : Bool) → isCrash code ≡ crash → namesBoard code ≡ named → eqb (a .board) b ≡ mine → No13 (answered (named && mine))
-        → Same (named && mine) (cond crash true (named && mine))
+    step : (everywhere named mine : Bool) → isOnEveryBoard code ≡ everywhere → namesBoard code ≡ named → eqb (a .board) b ≡ mine → No13 (answered (named && mine))
+        → Same (cond everywhere true (named && mine))
     unfolding leftBy answersBy No13 concerns
-    step true true mine c d e not = absurd (false≢true (sym (crash-names code c) ∙ d))
-    step true false mine c d e not = (crash-agrees c .rig, rw d)
+    step true true mine c d e not = absurd (false≢true (sym (every-names code c) ∙ d))
+    step true false mine c d e not = (every-agrees c .rig, ap (λ x. x ∷ []) (every-agrees c .answer))
     step false true true c d e not =
         let same = own-agrees d (eqb-true (a .board) b e) (not .0) in
-        (same .rig, rw d (ap (λ x. x ∷ []) (same .answer)))
+        (same .rig, ap (λ x. x ∷ []) (same .answer))
     step false true false c d e not = (stays (rw (c, d, e)), refl)
     step false false mine c d e not = (stays (rw (c, d)), refl)
 
-    step-is : No13 (answered (namesBoard code && eqb (a .board) b)) → Same (namesBoard code && eqb (a .board) b) (concerns b a)
+    step-is : No13 (answered (namesBoard code && eqb (a .board) b)) → Same (concerns b a)
     unfolding concerns
-    step-is = step (isCrash code) (namesBoard code) (eqb (a .board) b) refl refl refl
+    step-is = step (isOnEveryBoard code) (namesBoard code) (eqb (a .board) b) refl refl refl
 
   abbrev begun : BoardRig
   begun = freshRig cfg (startOf cfg start b)
@@ -179,14 +177,31 @@ module _ (cfg : Config) (room : Room) (start : List ℕ) (b : ℕ) (exists : wit
       by true = refl
       by false = refl
 
+  -- with those of the crashes and restarts
+  one-more-for : (events : List (On BoardEvent)) (x : On BoardEvent)
+      → answersFor b (events ++ (x ∷ [])) ≡ answersFor b events ++ cond (concerns b (callIn x)) (x .it .answer ∷ []) []
+  unfolding answersFor
+  one-more-for [] x = refl
+  one-more-for (y ∷ events) x =
+      by (one-more-for events x) (concerns b (callIn y))
+    where
+      last : List BoardAnswer
+      last = cond (concerns b (callIn x)) (x .it .answer ∷ []) []
+
+      by : answersFor b (events ++ (x ∷ [])) ≡ answersFor b events ++ last → (t : Bool)
+          → cond t (y .it .answer ∷ answersFor b (events ++ (x ∷ []))) (answersFor b (events ++ (x ∷ [])))
+          ≡ cond t (y .it .answer ∷ answersFor b events) (answersFor b events) ++ last
+      by rest true = ap (λ ys. y .it .answer ∷ ys) rest
+      by rest false = rest
+
   -- Along a list in which it meets no 13, a board comes to what it comes to by itself, and answers what it answers by itself.
   pub by-itself : {r : Rig} {l : Lent} {events : List (On BoardEvent)} (runs : Runs cfg room start r l events) → No13 (answersOf b events)
       → (rigOf b (view cfg room r l) ≡ leftBy cfg (freshRig cfg (startOf cfg start b)) (handedFor b runs))
-      × (answersOf b events ≡ answersBy cfg (freshRig cfg (startOf cfg start b)) (handedFor b runs))
+      × (answersFor b events ≡ answersBy cfg (freshRig cfg (startOf cfg start b)) (handedFor b runs))
   unfolding handedFor
   by-itself (made bytes p e) not = (
     unfold leftBy in ap (rigOf b) (p .seen (sym (p .number) ∙ e)) ∙ fresh-rig cfg room (encode cfg) (startOf cfg start) b exists,
-    unfold answersOf eventsOf answersBy in refl,
+    unfold answersFor answersBy in refl,
   )
   by-itself (event {r = r} {l = l} {events = events} {t = t} runs a filled read read′ p) not =
       let mine = namesBoard (codeOf (a .it .code)) && eqb (a .board) b in
@@ -198,15 +213,53 @@ module _ (cfg : Config) (room : Room) (start : List ℕ) (b : ℕ) (exists : wit
       let before = by-itself runs (no-13-first (answersOf b events) (answered runs a read mine) none) in
       let here = step-is runs a read (no-13-rest (answersOf b events) (answered runs a read mine) none) in (
         ap (rigOf b) (p .seen) ∙ here .0 ∙ ap (λ v. leftBy cfg v now) (before .0) ∙ sym (left-more cfg begun (handedFor b runs) now),
-        all ∙ ap₂ _++_ (before .1) (here .1 ∙ ap (λ v. answersBy cfg v now) (before .0)) ∙ sym (answers-more cfg begun (handedFor b runs) now),
+        one-more-for events x
+            ∙ ap (λ z. answersFor b events ++ cond (concerns b a) (z ∷ []) []) (p .answer)
+            ∙ ap₂ _++_ (before .1) (here .1 ∙ ap (λ v. answersBy cfg v now) (before .0))
+            ∙ sym (answers-more cfg begun (handedFor b runs) now),
       )
 
+-- the calls of what was handed in are those of the events
+calls-append : (b : ℕ) (xs ys : List (On BoardCall)) → callsFor b (xs ++ ys) ≡ callsFor b xs ++ callsFor b ys
+unfolding callsFor
+calls-append b [] ys = refl
+calls-append b (x ∷ xs) ys = by (calls-append b xs ys) (concerns b x)
+  where
+    by : callsFor b (xs ++ ys) ≡ callsFor b xs ++ callsFor b ys → (t : Bool)
+        → cond t (x .it ∷ callsFor b (xs ++ ys)) (callsFor b (xs ++ ys)) ≡ cond t (x .it ∷ callsFor b xs) (callsFor b xs) ++ callsFor b ys
+    by rest true = ap (λ zs. x .it ∷ zs) rest
+    by rest false = rest
+
+handed-calls : {cfg : Config} {room : Room} {start : List ℕ} {r : Rig} {l : Lent} {events : List (On BoardEvent)} (b : ℕ) (runs : Runs cfg room start r l events)
+    → map (λ x. x .0) (handedFor b runs) ≡ callsFor b (map callIn events)
+unfolding handedFor callsFor
+handed-calls b (made bytes p e) = refl
+handed-calls b (event {events = events} {t = t} runs a filled read read′ p) =
+    let x : On BoardEvent = record { board = a .board; it = record { call = a .it; answer = answerOf (t .answer) read′ } } in
+    map-append (λ (y : BoardCall × ℕ). y .0) (handedFor b runs) (cond (concerns b a) ((a .it, length read) ∷ []) [])
+    ∙ ap₂ _++_ (handed-calls b runs) (by (concerns b a))
+    ∙ sym (ap (callsFor b) (map-append callIn events (x ∷ [])) ∙ calls-append b (map callIn events) (a ∷ []))
+  where
+    by : (t : Bool) → map (λ (y : BoardCall × ℕ). y .0) (cond t ((a .it, length read) ∷ []) []) ≡ cond t (a .it ∷ []) []
+    by true = refl
+    by false = refl
+
 -- The theorem. The boards, their shares and the other starting boards of the two rigs may differ; refusals are among the answers.
-pub agree : (cfg : Config) (b : ℕ) {room room′ : Room} {start start′ : List ℕ} {r r′ : Rig} {l l′ : Lent} {events events′ : List (On BoardEvent)}
-    → (runs : Runs cfg room start r l events) (runs′ : Runs cfg room′ start′ r′ l′ events′)
-    → within 1 (room .boards) b ≡ true → within 1 (room′ .boards) b ≡ true → startOf cfg start b ≡ startOf cfg start′ b
-    → handedFor b runs ≡ handedFor b runs′ → No13 (answersOf b events) → No13 (answersOf b events′) → answersOf b events ≡ answersOf b events′
-agree cfg b {room} {room′} {start} {start′} runs runs′ exists exists′ starts handed not not′ =
-    by-itself cfg room start b exists runs not .1
-    ∙ ap₂ (λ v hs. answersBy cfg (freshRig cfg v) hs) starts handed
-    ∙ sym (by-itself cfg room′ start′ b exists′ runs′ not′ .1)
+module _ (cfg : Config) (b : ℕ) {room room′ : Room} {start start′ : List ℕ} {r r′ : Rig} {l l′ : Lent} {events events′ : List (On BoardEvent)}
+    (runs : Runs cfg room start r l events) (runs′ : Runs cfg room′ start′ r′ l′ events′)
+    (exists : within 1 (room .boards) b ≡ true) (exists′ : within 1 (room′ .boards) b ≡ true) (starts : startOf cfg start b ≡ startOf cfg start′ b)
+    (handed : handedFor b runs ≡ handedFor b runs′) (not : No13 (answersOf b events)) (not′ : No13 (answersOf b events′))
+  where
+    -- with the answers of the crashes and restarts
+    pub agree-all : answersFor b events ≡ answersFor b events′
+    agree-all =
+        by-itself cfg room start b exists runs not .1
+        ∙ ap₂ (λ v hs. answersBy cfg (freshRig cfg v) hs) starts handed
+        ∙ sym (by-itself cfg room′ start′ b exists′ runs′ not′ .1)
+
+    -- the board's own
+    pub agree : answersOf b events ≡ answersOf b events′
+    agree =
+        own-among b events
+        ∙ ap₂ ownAmong (sym (handed-calls b runs) ∙ ap (map (λ x. x .0)) handed ∙ handed-calls b runs′) agree-all
+        ∙ sym (own-among b events′)

@@ -22,8 +22,8 @@ use Rattle.protocol.specs.Boards.{BoardCall, BoardEvent, BoardNetwork, networkA
 use Rattle.protocol.specs.Client.{beginQuestions}
 use Rattle.protocol.specs.Network as network
 use Rattle.protocol.specs.Network.{On, boardExists, networkTo11}
-use Rattle.protocol.specs.Parties.{questionsToBegin, questionsToCrashClient, questionsToCrashServer}
-use Rattle.protocol.specs.Rig.{Code, beginWrite, beginRead, handOver, lose, double, crashServer, crashClient, codeOf, positionQuestions, questionsTo11}
+use Rattle.protocol.specs.Parties.{questionsToBegin, questionsToCrashClient, questionsToCrashServer, questionsToRestartServer}
+use Rattle.protocol.specs.Rig.{Code, beginWrite, beginRead, handOver, lose, double, crashServer, crashClient, restartServer, codeOf, positionQuestions, questionsTo11}
 use Rattle.protocol.proofs.Basics.{cond-elim}
 use Rattle.protocol.proofs.NetworkRoom.{Ready}
 use Rattle.boards.specs.declared.Rig.{Rig}
@@ -95,7 +95,7 @@ ranged (ask number holds ∷ qs) = within 7 19 number && ranged qs
 
 after-ranged : (cfg : Config) (room : Room) (n : BoardNetwork) (b : ℕ) (a : BoardCall) (formed : Bool) (w : Option Code)
     → ranged (networkAfter6 cfg room n b a formed w) ≡ true
-unfolding ranged network.networkFrom7 networkTo11 questionsTo11 questionsToBegin questionsToCrashClient questionsToCrashServer beginQuestions positionQuestions
+unfolding ranged network.networkFrom7 networkTo11 questionsTo11 questionsToBegin questionsToCrashClient questionsToCrashServer questionsToRestartServer beginQuestions positionQuestions
 after-ranged cfg room n b a formed none = refl
 after-ranged cfg room n b a formed (some beginWrite) = refl
 after-ranged cfg room n b a formed (some beginRead) = refl
@@ -104,6 +104,7 @@ after-ranged cfg room n b a formed (some lose) = refl
 after-ranged cfg room n b a formed (some double) = refl
 after-ranged cfg room n b a formed (some crashServer) = refl
 after-ranged cfg room n b a formed (some crashClient) = refl
+after-ranged cfg room n b a formed (some restartServer) = refl
 
 -- another number is not their refusal
 apart : (k : ℕ) → 1 ≤ k → within 7 19 k ≡ false → (qs : List Question) → ranged qs ≡ true → firstNo qs ≡ k → ⊥

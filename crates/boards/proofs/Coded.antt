@@ -16,7 +16,7 @@ use Rattle.protocol.specs.Network.{namesBoard}
 use Rattle.protocol.specs.Parties as parties
 use Rattle.protocol.specs.Parties.{answerOf, clientActs, quiet, serverActs}
 use Rattle.protocol.specs.Rig as rig
-use Rattle.protocol.specs.Rig.{Code, beginWrite, beginRead, handOver, lose, double, crashServer, crashClient, codeOf, deliverAt, leaves}
+use Rattle.protocol.specs.Rig.{Code, beginWrite, beginRead, handOver, lose, double, crashServer, crashClient, restartServer, codeOf, deliverAt, leaves}
 use Rattle.protocol.proofs.Basics.{cond-elim}
 use Rattle.boards.specs.inner.Named.{removes}
 use Rattle.boards.proofs.Codes.{past}
@@ -30,6 +30,7 @@ begins lose = false
 begins double = false
 begins crashServer = false
 begins crashClient = false
+begins restartServer = false
 
 -- the message that it names leaves the list
 abbrev pub takesAway : Code → Bool
@@ -40,6 +41,7 @@ takesAway lose = true
 takesAway double = false
 takesAway crashServer = false
 takesAway crashClient = false
+takesAway restartServer = false
 
 -- an event that names a board, by its code
 pub record Coded (c : ℕ) : Type 0 where
@@ -87,7 +89,7 @@ module _ (cfg : Config) where
   delivered-accepted p (some m) = deliver-accepted p m
 
   pub move-accepted : (r : BoardRig) (a : BoardCall) (w : Code) → isAccepted (move cfg r a w .answer) ≡ true
-  unfolding rig.move leaves parties.begin clientActs quiet parties.crashServer parties.crashClient isAccepted
+  unfolding rig.move leaves parties.begin clientActs quiet parties.crashServer parties.crashClient parties.restartServer isAccepted
   move-accepted r a beginWrite = ended-accepted _ _
   move-accepted r a beginRead = ended-accepted _ _
   move-accepted r a handOver = delivered-accepted _ _
@@ -95,3 +97,4 @@ module _ (cfg : Config) where
   move-accepted r a double = refl
   move-accepted r a crashServer = refl
   move-accepted r a crashClient = refl
+  move-accepted r a restartServer = refl

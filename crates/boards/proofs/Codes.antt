@@ -24,8 +24,8 @@ below-codes c h = rw (lt-leb 1 c h)
 pub above-codes : (c : ℕ) → 5 < c → within 1 5 c ≡ false
 above-codes c h = rw (le-leb 1 c (omega (arith, h)), lt-leb c 5 h)
 
--- there is no event of a code past 7
-pub no-code : (c : ℕ) → 7 < c → codeOf c ≡ none
+-- there is no event of a code past 8
+pub no-code : (c : ℕ) → 8 < c → codeOf c ≡ none
 unfolding codeOf
 no-code c h =
     rw (
@@ -36,14 +36,15 @@ no-code c h =
       ne-eqb c 5 (λ e. omega (arith, h, e)),
       ne-eqb c 6 (λ e. omega (arith, h, e)),
       ne-eqb c 7 (λ e. omega (arith, h, e)),
+      ne-eqb c 8 (λ e. omega (arith, h, e)),
     )
 
 pub names-code : (c : ℕ) → namesBoard (codeOf c) ≡ within 1 5 c
 unfolding codeOf namesBoard
 names-code c =
     past P 0 c (omega arith) refl (λ h. past P 1 c h refl (λ h. past P 2 c h refl (λ h. past P 3 c h refl (λ h. past P 4 c h refl (λ h.
-    past P 5 c h refl (λ h. past P 6 c h refl (λ h. past P 7 c h refl (λ h.
-    ap namesBoard (no-code c (omega (arith, h))) ∙ sym (above-codes c (omega (arith, h)))))))))))
+    past P 5 c h refl (λ h. past P 6 c h refl (λ h. past P 7 c h refl (λ h. past P 8 c h refl (λ h.
+    ap namesBoard (no-code c (omega (arith, h))) ∙ sym (above-codes c (omega (arith, h))))))))))))
   where
     P : ℕ → Type 0
     P k = namesBoard (codeOf k) ≡ within 1 5 k

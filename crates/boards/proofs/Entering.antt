@@ -4,9 +4,7 @@ use mathlib.Core.Path.{_≡_, refl, sym, ap, subst, _∙_}
 use mathlib.Core.Bool.{Bool, true, _&&_}
 use mathlib.Core.Option.{Option, none}
 use mathlib.Core.List.{List, [], _∷_, _++_, append-assoc}
-use mathlib.Core.Logic.{_⊎_, inl, inr}
 use native.Mathlib.Omega.{arith}
-use native.Mathlib.Decide.{ℕ-discrete}
 use lib.Dec.{eqb}
 use lib.ListN.{length}
 use Rattle.laws.proofs.Bools.{and-left, and-right}
@@ -118,13 +116,6 @@ module _ (cfg : Config) (room : Room) (r : Rig) (a : Call) (board read : List �
             sized = long-yes;
             rig = rig-yes;
           }
-
--- above 5 and at most 7 are the crashes
-pub crash-code : (c : ℕ) → 5 < c → c ≤ 7 → (c ≡ 6) ⊎ (c ≡ 7)
-crash-code c low high = elim (ℕ-discrete c 6) as (λ _. (c ≡ 6) ⊎ (c ≡ 7)) [
-  | yes e ↦ inl e
-  | no ne ↦ inr (omega (arith, low, high, ne))
-]
 
 -- 0 is no event
 pub code-zero : (c : ℕ) → c < 1 → codeOf c ≡ none

@@ -5,9 +5,8 @@ pub mod Atomic
 pub mod Bounds
 mod Coded
 pub mod Codes
-mod Down
-mod DownEvent
 mod Due
+mod EachBoard
 mod EachSize
 mod Entering
 pub mod Going
@@ -22,9 +21,11 @@ mod NamedEvent
 mod NamedTurn
 pub mod Never
 pub mod OnBoard
+mod OnEveryBoard
 pub mod OneOf
 mod Owned
 pub mod Refusing
+pub mod Restart
 pub mod Shown
 pub mod UpAlike
 pub mod Whole

@@ -23,9 +23,9 @@ use Rattle.protocol.specs.Client.{beginClient, sendEach}
 use Rattle.protocol.specs.Network.{amongAll, askedBoard, namesBoard, networkFrom7, networkTo11, placed, rigOf}
 use Rattle.protocol.specs.Parties.{begin, clientActs, questionsToBegin}
 use Rattle.protocol.specs.Rig as protocol
-use Rattle.protocol.specs.Rig.{Code, beginWrite, beginRead, handOver, lose, double, crashServer, crashClient, codeOf, leaves, positionQuestions, questionsTo11, writeFits}
+use Rattle.protocol.specs.Rig.{Code, beginWrite, beginRead, handOver, lose, double, crashServer, crashClient, restartServer, codeOf, leaves, positionQuestions, questionsTo11, writeFits}
 use Rattle.protocol.proofs.Basics.{length-toEach}
-use Rattle.protocol.proofs.NetworkCalls.{numbered-to-11}
+use Rattle.protocol.proofs.Room.{numbered-to-11}
 use Rattle.events.specs.declared.Rig as one
 use Rattle.events.specs.Calls as oneCalls
 use Rattle.events.specs.Questions as oneQuestions
@@ -56,6 +56,7 @@ begin-adds cfg v c lose h = absurd (false≢true h)
 begin-adds cfg v c double h = absurd (false≢true h)
 begin-adds cfg v c crashServer h = absurd (false≢true h)
 begin-adds cfg v c crashClient h = absurd (false≢true h)
+begin-adds cfg v c restartServer h = absurd (false≢true h)
 
 -- what a begin is asked hangs on the parties alone
 begin-asks : (cfg : Config) (v z : BoardRig) (c d : BoardCall) (w : Code) → begins w ≡ true → v .parties ≡ z .parties → c .party ≡ d .party
@@ -68,6 +69,7 @@ begin-asks cfg v z c d lose h p e = absurd (false≢true h)
 begin-asks cfg v z c d double h p e = absurd (false≢true h)
 begin-asks cfg v z c d crashServer h p e = absurd (false≢true h)
 begin-asks cfg v z c d crashClient h p e = absurd (false≢true h)
+begin-asks cfg v z c d restartServer h p e = absurd (false≢true h)
 
 -- and of the record handed over nothing is
 begin-formed : (cfg : Config) (rs : List (List ℕ)) (p : ℕ) (w : Code) → begins w ≡ true → oneQuestions.formedFor cfg rs p (some w) ≡ true
@@ -79,6 +81,7 @@ begin-formed cfg rs p lose h = absurd (false≢true h)
 begin-formed cfg rs p double h = absurd (false≢true h)
 begin-formed cfg rs p crashServer h = absurd (false≢true h)
 begin-formed cfg rs p crashClient h = absurd (false≢true h)
+begin-formed cfg rs p restartServer h = absurd (false≢true h)
 
 -- 19 is asked of the board that a call brings
 fits-board : (fits : Board → Bool) (c d : BoardCall) (o : Option Code) → c .board ≡ d .board → writeFits fits c o ≡ writeFits fits d o
@@ -91,6 +94,7 @@ fits-board fits c d (some lose) e = refl
 fits-board fits c d (some double) e = refl
 fits-board fits c d (some crashServer) e = refl
 fits-board fits c d (some crashClient) e = refl
+fits-board fits c d (some restartServer) e = refl
 
 -- of an event that names a board and does not begin, the position is asked
 pub position-low : (cfg : Config) (v : BoardRig) (c : BoardCall) (w : Code) → namesBoard (some w) ≡ true → begins w ≡ false → firstNo (questionsTo11 cfg v c w) ≡ 0
@@ -103,6 +107,7 @@ position-low cfg v c lose h f e = ltb-true (c .position) (length (v .inFlight)) 
 position-low cfg v c double h f e = ltb-true (c .position) (length (v .inFlight)) (yes-next 8 _ [] (omega arith) e .0)
 position-low cfg v c crashServer h f e = absurd (false≢true h)
 position-low cfg v c crashClient h f e = absurd (false≢true h)
+position-low cfg v c restartServer h f e = absurd (false≢true h)
 
 numbered-11 : (cfg : Config) (n : BoardNetwork) (b : ℕ) (a : BoardCall) (w : Code) → numbered (networkTo11 cfg n b a w) ≡ true
 unfolding networkTo11

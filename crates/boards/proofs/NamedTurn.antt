@@ -25,10 +25,10 @@ use Rattle.flight.specs.Flight.{records}
 use Rattle.protocol.specs.Board.{isAccepted, refused}
 use Rattle.protocol.specs.Boards.{BoardNetwork, BoardNetworkTurn, BoardTurn, decode, encode, moveOf, networkMove, networkMoveOf, order}
 use Rattle.protocol.specs.Network as network
-use Rattle.protocol.specs.Network.{amongAll, boardMove, networkTo11, ownersAfter, ownersKept, placed, turnedOn, unlessRefused}
+use Rattle.protocol.specs.Network.{amongAll, boardMove, namesBoard, networkTo11, ownersAfter, ownersKept, placed, turnedOn, unlessRefused}
 use Rattle.protocol.specs.Number.{upd}
 use Rattle.protocol.specs.Rig as protocol
-use Rattle.protocol.specs.Rig.{Code, beginWrite, beginRead, handOver, lose, double, crashServer, crashClient, codeOf, unlessNo}
+use Rattle.protocol.specs.Rig.{Code, beginWrite, beginRead, handOver, lose, double, crashServer, crashClient, restartServer, codeOf, unlessNo}
 use Rattle.protocol.proofs.Basics.{upd-other, upd-same}
 use Rattle.protocol.proofs.NetworkMoves.{named-move, owners-stay-within}
 use Rattle.protocol.proofs.Together.{SameUp, Together, move-together}
@@ -68,6 +68,7 @@ away-later lose h = refl
 away-later double h = refl
 away-later crashServer h = refl
 away-later crashClient h = refl
+away-later restartServer h = refl
 
 -- the boards of the messages that stay
 kept-is : (w : Code) (p : ℕ) (os : List ℕ) → cond (takesAway w) (without p os) os ≡ ownersKept p os w
@@ -79,6 +80,7 @@ kept-is lose p os = refl
 kept-is double p os = refl
 kept-is crashServer p os = refl
 kept-is crashClient p os = refl
+kept-is restartServer p os = refl
 
 -- are so many
 kept-long : (w : Code) (p : ℕ) (os : List ℕ) → (takesAway w ≡ true → p < length os) → length (ownersKept p os w) ≡ cond (takesAway w) (length os - 1) (length os)
@@ -90,6 +92,7 @@ kept-long lose p os h = length-without p os (h refl)
 kept-long double p os h = refl
 kept-long crashServer p os h = refl
 kept-long crashClient p os h = refl
+kept-long restartServer p os h = refl
 
 module _ (cfg : Config) (room : Room) (r : Rig) (a : Call) (board read : List ℕ) (l : Lent) (pre : NamedPre cfg room r a board read l)
     {t : OneTurn} {read′ : List ℕ} {l₁ : oneView.Lent} (post : LentPost cfg (ev.most cfg room r a board read l pre) (a .board - 1) (ev.x cfg room r a board read l pre) (on.its cfg room r a board read l pre) board read (bare l) t read′ l₁)
@@ -477,6 +480,7 @@ module _ (cfg : Config) (room : Room) (r : Rig) (a : Call) (board read : List �
               within = λ _. rig-within;
               lengths = lengths-left;
               held = λ ne. absurd (ne e);
+              buffersStay = λ none-named. absurd (false≢true (sym none-named ∙ ap namesBoard (ev.k cfg room r a board read l pre .is) ∙ ev.k cfg room r a board read l pre .named));
             }
           where
             turned-answer : turnedOn b place n w T .answer ≡ T .answer

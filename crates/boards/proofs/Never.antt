@@ -21,9 +21,9 @@ use Rattle.record.specs.Record.{ofConfig, recordOf}
 use Rattle.protocol.specs.Boards.{BoardCall, BoardEvent, BoardMessage, BoardNetwork, IsBoard, decode, encode, networkAfter6, networkFrom7, networkMove, networkMoveOf, order, writeFits}
 use Rattle.protocol.specs.Network as network
 use Rattle.protocol.specs.Network.{On, amongAll, askedBoard, boardMove, namesBoard, networkTo11, placed, rigOf, turnedOn, unlessRefused}
-use Rattle.protocol.specs.Rig.{Code, codeOf, crashClient, crashServer}
+use Rattle.protocol.specs.Rig.{Code, codeOf, crashClient, crashServer, restartServer}
 use Rattle.protocol.specs.Sound.{Sound}
-use Rattle.protocol.proofs.NetworkMoves.{crash-elim, crash-flight, named-move}
+use Rattle.protocol.proofs.NetworkMoves.{named-move, every-elim, every-flight}
 use Rattle.protocol.proofs.NetworkRuns.{board-runs}
 use Rattle.protocol.proofs.Sound.{sound-append, sound-first, sound-none, sound-one, sound-rest}
 use Rattle.events.specs.Calls.{recordsAfter}
@@ -100,13 +100,14 @@ module _ (cfg : Config) (room : Room) where
           ∙ move-written cfg (amongAll b n) rs written (placed b n a) w (ap firstNo (to-11-same cfg room n same b a w named) ∙ h)
           ∙ sym (ap (map (recordOf cfg)) is)
 
-      -- after a crash
-      crash-written : (w : Code) → namesBoard (some w) ≡ false → recordsAfter cfg rs place (after w) (some w) ≡ map (recordOf cfg) (after w)
+      -- after a crash or a restart
+      every-written : (w : Code) → namesBoard (some w) ≡ false → recordsAfter cfg rs place (after w) (some w) ≡ map (recordOf cfg) (after w)
       unfolding recordsAfter
-      crash-written =
-          crash-elim (λ w. recordsAfter cfg rs place (after w) (some w) ≡ map (recordOf cfg) (after w))
-          (written ∙ sym (ap (map (recordOf cfg)) (crash-flight (order cfg) (encode cfg) (decode cfg) cfg room n b a crashServer (unfold namesBoard in refl))))
-          (written ∙ sym (ap (map (recordOf cfg)) (crash-flight (order cfg) (encode cfg) (decode cfg) cfg room n b a crashClient (unfold namesBoard in refl))))
+      every-written =
+          every-elim (λ w. recordsAfter cfg rs place (after w) (some w) ≡ map (recordOf cfg) (after w))
+          (written ∙ sym (ap (map (recordOf cfg)) (every-flight (order cfg) (encode cfg) (decode cfg) cfg room n b a crashServer (unfold namesBoard in refl))))
+          (written ∙ sym (ap (map (recordOf cfg)) (every-flight (order cfg) (encode cfg) (decode cfg) cfg room n b a crashClient (unfold namesBoard in refl))))
+          (written ∙ sym (ap (map (recordOf cfg)) (every-flight (order cfg) (encode cfg) (decode cfg) cfg room n b a restartServer (unfold namesBoard in refl))))
 
       -- after an event that is not refused
       event-written : (well : Bool) (w : Option Code) → firstNo (networkFrom7 cfg room n b a well w) ≡ 0
@@ -117,7 +118,7 @@ module _ (cfg : Config) (room : Room) where
         where
           by : (named : Bool) → namesBoard (some w) ≡ named → recordsAfter cfg rs place (after w) (some w) ≡ map (recordOf cfg) (after w)
           by true e = named-written w e (to-11 cfg room n b a well w z)
-          by false e = crash-written w e
+          by false e = every-written w e
 
   module _ (start : List ℕ) where
     -- along every list of events

@@ -27,7 +27,7 @@ use Rattle.flight.specs.Flight.{records}
 use Rattle.protocol.specs.Boards.{BoardCall, BoardNetwork, BoardRig, BoardTurn, decode, encode, fitsIn, move, networkAfter6, networkMove, order, questionsAfter6}
 use Rattle.protocol.specs.Network.{amongAll, askedBoard, boardExists, boardMove, namesBoard, networkFrom7, networkTo11, placed, rigOf, turnedOn}
 use Rattle.protocol.specs.Rig as protocol
-use Rattle.protocol.specs.Rig.{Code, beginWrite, beginRead, handOver, lose, double, crashServer, crashClient, codeOf, positionQuestions, questionsTo11, writeFits}
+use Rattle.protocol.specs.Rig.{Code, beginWrite, beginRead, handOver, lose, double, crashServer, crashClient, restartServer, codeOf, positionQuestions, questionsTo11, writeFits}
 use Rattle.protocol.proofs.NetworkMoves.{counts-stay, lengths-stay, named-move, owners-stay-within}
 use Rattle.events.specs.declared.Call.{Call as OneCall}
 use Rattle.events.specs.declared.Rig as one
@@ -86,6 +86,7 @@ module _ (cfg : Config) (room : Room) (n : BoardNetwork) (same : length (n .owne
   to-11-same double named = at-place
   to-11-same crashServer named = absurd (false≢true named)
   to-11-same crashClient named = absurd (false≢true named)
+  to-11-same restartServer named = absurd (false≢true named)
 
   module _ (w : Code) (named : namesBoard (some w) ≡ true) where
     -- the board's event among the messages of all

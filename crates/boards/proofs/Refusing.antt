@@ -33,4 +33,5 @@ module _ (cfg : Config) (room : Room) (r : Rig) (a : On BoardCall) (read : List 
         within = λ e. absurd (ne e);
         lengths = ap (sized cfg room) lent;
         held = λ _. (rig, lent);
+        buffersStay = λ _. lent;
       }

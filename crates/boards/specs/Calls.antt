@@ -14,7 +14,7 @@ use Rattle.config.specs.Questions.{Question, ask, firstNo}
 use Rattle.config.specs.Refusal.{verdictNumber}
 use Rattle.config.specs.Room.{mostBoards, roomQuestions}
 use Rattle.protocol.specs.Boards.{Board, BoardCall, BoardNetworkTurn, boardOf, freshNetwork, networkMoveOf, startingBoard}
-use Rattle.protocol.specs.Network.{On, unlessRefused}
+use Rattle.protocol.specs.Network.{On, namesBoard, unlessRefused}
 use Rattle.protocol.specs.Rig.{codeOf}
 use Rattle.parties.specs.Acts.{answerOf, isRead}
 use Rattle.events.specs.Calls.{recordsAfter}
@@ -85,3 +85,5 @@ pub record EventPost (cfg : Config) (room : Room) (r : Rig) (a : On BoardCall) (
   pub lengths : sized cfg room l′ ≡ sized cfg room l
   -- "The first "no" is returned; state and buffers hold their old content"
   pub held : (eventNo cfg room r a read l ≡ 0 → ⊥) → (t .rig ≡ r) × (l′ ≡ l)
+  -- an event that names no board, a crash or a restart among them, touches no buffer: what the parties keep there is left byte for byte, on every board
+  pub buffersStay : namesBoard (codeOf (a .it .code)) ≡ false → l′ ≡ l

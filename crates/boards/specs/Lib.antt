@@ -1,4 +1,5 @@
 pub mod Calls
+pub mod OneEvent
 pub mod Questions
 pub mod Runs
 pub mod View

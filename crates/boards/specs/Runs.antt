@@ -30,8 +30,8 @@ pub data Runs (cfg : Config) (room : Room) (start : List ℕ) : Rig → Lent →
       → (a : On BoardCall) → Filled (a .it .board) → (read read′ : List ℕ) → EventPost cfg room r a read l t read′ l′
       → Runs cfg room start (t .rig) l′ (events ++ (record { board = a .board; it = record { call = a .it; answer = answerOf (t .answer) read′ } } ∷ []))
 
--- "the same events for one board and the same crashes, in the same order": of a list the calls that name board b and the crashes, each with the
--- length of the buffer lent for a read. How many bytes are handed in is in the call, and of them those that count: past the length it has zeros.
+-- "the same events for one board and the same crashes, in the same order", and the same restarts: of a list the calls that name board b, the crashes
+-- and the restarts, each with the length of the buffer lent for a read. How many bytes are handed in is in the call, and of them those that count: past the length it has zeros.
 unfoldable pub handedFor : {cfg : Config} {room : Room} {start : List ℕ} {r : Rig} {l : Lent} {events : List (On BoardEvent)} → ℕ
     → Runs cfg room start r l events → List (BoardCall × ℕ)
 handedFor b (made bytes p e) = []

@@ -1,4 +1,4 @@
-pub mod Crash
+pub mod CrashOrRestart
 pub mod Fresh
 pub mod Named
 pub mod Outcome

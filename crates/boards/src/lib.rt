@@ -3,7 +3,7 @@
 // and the servers' stores, the boards that clients keep to write and the elements that they have received, joined board by board, and of
 // each board as a rig of one board has them. An event is that of a rig of one board, on the parties of the board that it names. Every
 // function is proved, nothing is assumed, and no public function has a `requires`.
-mod crash;
+mod crash_or_restart;
 mod fresh;
 mod named;
 mod outcome;
@@ -39,8 +39,8 @@ pub struct Rig {
 }
 
 // An event as it is called: its code, the party's number, a message's position among those of the board that is named, this board's number, and
-// the length of the board handed in, each of any value. A crash and an unknown event don't look at the board's number, and the length is that of
-// a write.
+// the length of the board handed in, each of any value. A crash, a restart and an unknown event don't look at the board's number, and the length
+// is that of a write.
 pub struct Call {
     pub code: u8,
     pub party: u8,
@@ -144,7 +144,7 @@ pub fn make(
     }
 }
 
-// Whether the board that an event names exists; a crash and an unknown event name none.
+// Whether the board that an event names exists; a crash, a restart and an unknown event name none.
 fn exists(room: Room, call: Call) -> bool
     ensures { λ r. ⌜ r ≡ boardExists room (call .board) (codeOf (call .code)) ⌝ }
 {
@@ -245,11 +245,11 @@ pub fn event(
     if call.code < 1 {
         return outcome::unturned(rig, Refusal::Event);
     }
-    if 7 < call.code {
+    if 8 < call.code {
         return outcome::unturned(rig, Refusal::Event);
     }
     if 5 < call.code {
-        return crash::all(cfg, room, rig, call);
+        return crash_or_restart::all(cfg, room, rig, call);
     }
     named::event(
         cfg,

@@ -7,7 +7,7 @@ use native.Mathlib.Omega.{arith}
 use borrow.Author.Tests.{ne-eqb}
 use lib.Dec.{eqb}
 use Rattle.config.specs.declared.Refusal.{Refusal}
-use Rattle.config.specs.declared.Refusal.the-variants.{Servers, Threshold, Depth, Width, Clients, Shape, Event, Missing, Down, Busy, Exhausted, IllFormed, Full, NotAwaited, Misdirected, NotRising, Elements, Length, Seed, Rank, Boards, Contradiction, Saved, Sources, Right, Errors, Uncorrectable}
+use Rattle.config.specs.declared.Refusal.the-variants.{Servers, Threshold, Depth, Width, Clients, Shape, Event, Missing, UpOrDown, Busy, Exhausted, IllFormed, Full, NotAwaited, Misdirected, NotRising, Elements, Length, Seed, Rank, Boards, Contradiction, Saved, Sources, Right, Errors, Uncorrectable}
 use Rattle.config.specs.declared.Verdict.{Verdict}
 use Rattle.config.specs.Questions.{Question, firstNo, isQuestion, lastQuestion, numbered}
 use Rattle.config.specs.Refusal.{clamped, passing15, refusalNumber, verdictNumber}
@@ -22,7 +22,7 @@ refusal-question Clients = refl
 refusal-question Shape = refl
 refusal-question Event = refl
 refusal-question Missing = refl
-refusal-question Down = refl
+refusal-question UpOrDown = refl
 refusal-question Busy = refl
 refusal-question Exhausted = refl
 refusal-question IllFormed = refl

@@ -3,7 +3,7 @@ use Prim.Native.Nat.{ℕ, min, max}
 use mathlib.Core.Bool.{cond}
 use lib.Dec.{eqb}
 use Rattle.config.specs.declared.Refusal.{Refusal}
-use Rattle.config.specs.declared.Refusal.the-variants.{Servers, Threshold, Depth, Width, Clients, Shape, Event, Missing, Down, Busy, Exhausted, IllFormed, Full, NotAwaited, Misdirected, NotRising, Elements, Length, Seed, Rank, Boards, Contradiction, Saved, Sources, Right, Errors, Uncorrectable}
+use Rattle.config.specs.declared.Refusal.the-variants.{Servers, Threshold, Depth, Width, Clients, Shape, Event, Missing, UpOrDown, Busy, Exhausted, IllFormed, Full, NotAwaited, Misdirected, NotRising, Elements, Length, Seed, Rank, Boards, Contradiction, Saved, Sources, Right, Errors, Uncorrectable}
 use Rattle.config.specs.declared.Verdict.{Verdict}
 use Rattle.config.specs.Questions.{lastQuestion}
 
@@ -17,7 +17,7 @@ refusalNumber Clients = 5
 refusalNumber Shape = 6
 refusalNumber Event = 7
 refusalNumber Missing = 8
-refusalNumber Down = 9
+refusalNumber UpOrDown = 9
 refusalNumber Busy = 10
 refusalNumber Exhausted = 11
 refusalNumber IllFormed = 12

@@ -348,8 +348,8 @@ pub enum Refusal {
     Event,
     // 8: no such client, server or position.
     Missing,
-    // 9: the party is down.
-    Down,
+    // 9: the party is down or, of a restart, the server is up.
+    UpOrDown,
     // 10: the client is in an operation.
     Busy,
     // 11: its operation numbers are used up.
@@ -399,7 +399,7 @@ const REFUSALS: [Refusal; 29] = [
     Refusal::Shape,
     Refusal::Event,
     Refusal::Missing,
-    Refusal::Down,
+    Refusal::UpOrDown,
     Refusal::Busy,
     Refusal::Exhausted,
     Refusal::IllFormed,
@@ -435,7 +435,7 @@ impl Refusal {
             Refusal::Shape => 6,
             Refusal::Event => 7,
             Refusal::Missing => 8,
-            Refusal::Down => 9,
+            Refusal::UpOrDown => 9,
             Refusal::Busy => 10,
             Refusal::Exhausted => 11,
             Refusal::IllFormed => 12,

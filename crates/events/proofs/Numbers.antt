@@ -15,7 +15,7 @@ use Rattle.flight.proofs.Laws.{length-records}
 use Rattle.protocol.specs.Boards.{BoardCall, BoardRig, move, questions, writeFits}
 use Rattle.protocol.specs.Rig as rig
 use Rattle.protocol.specs.Rig.{Code, codeOf, hasRoom, positionQuestions, questionsTo11}
-use Rattle.protocol.proofs.Room.{numbers}
+use Rattle.protocol.proofs.Room.{numbered-to-11}
 use Rattle.events.specs.declared.Call.{Call}
 use Rattle.events.specs.declared.Part.{Part}
 use Rattle.events.specs.declared.Rig.{Rig}
@@ -65,7 +65,7 @@ module _ (cfg : Config) (m : ℕ) (r : Rig) (a : BoardCall) (read : List ℕ) (l
       rest : (f h : Bool) → well ≡ f → room ≡ h → eventNo cfg m r a read l ≡ cond f (cond h 0 13) 12
       unfolding firstNo
       rest f h e k =
-          all ∙ firstNo-pass to11 (ask 12 well ∷ ask 13 room ∷ []) (numbers cfg v a w) pass ∙ ap₂ (λ x y. cond x (cond y 0 13) 12) e k
+          all ∙ firstNo-pass to11 (ask 12 well ∷ ask 13 room ∷ []) (numbered-to-11 cfg v a w) pass ∙ ap₂ (λ x y. cond x (cond y 0 13) 12) e k
 
       pub ill-number : formedFor cfg (flight r l) (a .position) (some w) ≡ false → eventNo cfg m r a read l ≡ 12
       ill-number e = rest false room e refl

@@ -13,13 +13,14 @@ use Rattle.config.specs.Questions.{ask, firstNo}
 use Rattle.record.specs.Record.{recordOf}
 use Rattle.client.specs.declared.State as client
 use Rattle.protocol.specs.Boards.{BoardCall, BoardMessage, BoardTurn, boardOf, moveOf}
-use Rattle.protocol.specs.Rig.{Code, beginWrite, beginRead, handOver, lose, double, crashServer, crashClient, codeOf, unlessNo}
+use Rattle.protocol.specs.Network.{namesBoard}
+use Rattle.protocol.specs.Rig.{Code, beginWrite, beginRead, handOver, lose, double, crashServer, crashClient, restartServer, codeOf, unlessNo}
 use Rattle.protocol.specs.Board.{refused}
 use Rattle.parties.specs.declared.Node.{Node}
 use Rattle.parties.specs.Acts.{answerOf, isRead}
 use Rattle.events.specs.declared.Call.{Call}
 use Rattle.events.specs.declared.Change.{Change}
-use Rattle.events.specs.declared.Crashed.{Crashed}
+use Rattle.events.specs.declared.CrashOrRestart.{CrashOrRestart}
 use Rattle.events.specs.declared.Part.{Part}
 use Rattle.events.specs.declared.Places.{Places}
 use Rattle.events.specs.declared.Rig.{Rig}
@@ -50,6 +51,7 @@ recordsAfter cfg rs i ms (some lose) = without i rs
 recordsAfter cfg rs i ms (some double) = rs ++ toList (getElem? rs i)
 recordsAfter cfg rs i ms (some crashServer) = rs
 recordsAfter cfg rs i ms (some crashClient) = rs
+recordsAfter cfg rs i ms (some restartServer) = rs
 
 -- An event, with the lent buffers as they were and as they are left.
 pub record EventPost (cfg : Config) (m : ℕ) (r : Rig) (a : BoardCall) (read : List ℕ) (l : Lent) (t : Turn) (read′ : List ℕ) (l′ : Lent) : Type 0 where
@@ -67,6 +69,8 @@ pub record EventPost (cfg : Config) (m : ℕ) (r : Rig) (a : BoardCall) (read : 
   pub lengths : sized cfg m l′ ≡ sized cfg m l
   -- "The first "no" is returned; state and buffers hold their old content"
   pub held : (eventNo cfg m r a read l ≡ 0 → ⊥) → (t .rig ≡ r) × (l′ ≡ l)
+  -- an event that names no board, a crash or a restart among them, touches no buffer: what the parties keep there is left byte for byte
+  pub buffersStay : namesBoard (codeOf (a .code)) ≡ false → l′ ≡ l
 
 -- the rig with a part put in its places
 abbrev pub withPart : Rig → Part → Rig
@@ -108,33 +112,34 @@ pub record ChangePost (cfg : Config) (m : ℕ) (p : Part) (a : Call) (board read
   pub event : partNo cfg m p a board read l ≡ 0 → (r : Rig) → PartOf r p → rigWithin cfg m r ≡ true
       → EventPost cfg m r (called a board) read l (turned r x) read′ l′
 
--- "6 crash a server, 7 crash a client"
-abbrev pub crashCode : Crashed → ℕ
-crashCode Crashed.Server = 6
-crashCode Crashed.Client = 7
+-- "6 crash a server, 7 crash a client", and 8, which "starts a crashed server again"
+abbrev pub codeIn : CrashOrRestart → ℕ
+codeIn CrashOrRestart.CrashServer = 6
+codeIn CrashOrRestart.CrashClient = 7
+codeIn CrashOrRestart.RestartServer = 8
 
--- the crash of a party, as an event is called
-abbrev pub crashCall : Crashed → ℕ → Call
-crashCall k party = record { code = crashCode k; party = party; position = 0; length = 0 }
+-- that event of a party, as it is called
+abbrev pub callOf : CrashOrRestart → ℕ → Call
+callOf k party = record { code = codeIn k; party = party; position = 0; length = 0 }
 
--- 6 of a part, for a crash alone: how many are in flight, its places, which are to be those that the crash names, and what its parties keep. Which
--- places a crash names does not hang on the messages.
-abbrev pub crashWithin : Config → ℕ → Part → Call → Bool
-crashWithin cfg m p a = leb (p .count) m && hasPlaces p (placesOf cfg (p .count) a []) && partWithin cfg p
+-- 6 of a part, for a crash or a restart alone: how many are in flight, its places, which are to be those that the event names, and what its parties
+-- keep. Which places it names does not hang on the messages.
+abbrev pub aloneWithin : Config → ℕ → Part → Call → Bool
+aloneWithin cfg m p a = leb (p .count) m && hasPlaces p (placesOf cfg (p .count) a []) && partWithin cfg p
 
 -- the first of questions 1 to 5, 21 and 6 that is answered no, or 0
-abbrev pub crashNo : Config → ℕ → Part → Call → ℕ
-crashNo cfg m p a = firstNo (rigQuestions cfg m ++ ask 6 (crashWithin cfg m p a) ∷ [])
+abbrev pub aloneNo : Config → ℕ → Part → Call → ℕ
+aloneNo cfg m p a = firstNo (rigQuestions cfg m ++ ask 6 (aloneWithin cfg m p a) ∷ [])
 
--- Events 6 and 7 alone, by the part of a rig that they name.
-pub record CrashesPost (cfg : Config) (m : ℕ) (p : Part) (a : Call) (x : Change) : Type 0 where
+-- Events 6, 7 and 8 alone, by the part of a rig that they name.
+pub record AloneChangePost (cfg : Config) (m : ℕ) (p : Part) (a : Call) (x : Change) : Type 0 where
   -- its places stay
   pub server : x .part .server ≡ p .server
   pub client : x .part .client ≡ p .client
   -- "The first "no" is returned; state and buffers hold their old content"
-  pub refuses : (crashNo cfg m p a ≡ 0 → ⊥) → (read : List ℕ) → (answerOf (x .answer) read ≡ refused (crashNo cfg m p a)) × (x .part ≡ p)
+  pub refuses : (aloneNo cfg m p a ≡ 0 → ⊥) → (read : List ℕ) → (answerOf (x .answer) read ≡ refused (aloneNo cfg m p a)) × (x .part ≡ p)
   -- of every rig that the part is of and whose parties pass question 6, with any buffers of their lengths: what is left, put into the part's
   -- places, is what the rig's event leaves, with its answer; the buffers stay
-  pub event : crashNo cfg m p a ≡ 0 → (board read : List ℕ) (l : Lent) (r : Rig) → PartOf r p → rigWithin cfg m r ≡ true
+  pub event : aloneNo cfg m p a ≡ 0 → (board read : List ℕ) (l : Lent) (r : Rig) → PartOf r p → rigWithin cfg m r ≡ true
       → allSized cfg m (called a board .board .bytes) read l ≡ true
       → EventPost cfg m r (called a board) read l (turned r x) read l

@@ -12,7 +12,7 @@ use Rattle.config.specs.Questions.{Question, ask, within}
 use Rattle.flight.specs.Flight.{stands}
 use Rattle.record.specs.Record.{wellFormed}
 use Rattle.protocol.specs.Boards.{BoardCall, questions, questionsAfter6}
-use Rattle.protocol.specs.Rig.{Code, codeOf, beginWrite, beginRead, handOver, lose, double, crashServer, crashClient}
+use Rattle.protocol.specs.Rig.{Code, codeOf, beginWrite, beginRead, handOver, lose, double, crashServer, crashClient, restartServer}
 use Rattle.parties.specs.Within.{clientInPlace, serverInPlace}
 use Rattle.events.specs.declared.Call.{Call}
 use Rattle.events.specs.declared.Part.{Part}
@@ -71,6 +71,7 @@ formedFor cfg rs i (some lose) = true
 formedFor cfg rs i (some double) = true
 formedFor cfg rs i (some crashServer) = true
 formedFor cfg rs i (some crashClient) = true
+formedFor cfg rs i (some restartServer) = true
 
 -- the place of party number p, of 1 to n; the first where there is none
 abbrev pub placeFor : ℕ → ℕ → ℕ

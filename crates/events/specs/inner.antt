@@ -1,5 +1,5 @@
 pub mod Begin
-pub mod Crash
+pub mod CrashOrRestart
 pub mod Deliver
 pub mod Message
 pub mod Part

@@ -7,6 +7,7 @@ use crate::crash;
 use crate::deliver;
 use crate::message;
 use crate::outcome;
+use crate::restart;
 use config::Config;
 use config::Refusal;
 ghost use Rattle.events.specs.View.{lent};
@@ -33,11 +34,12 @@ fn other(
         5 => message::double(m, part, call, messages),
         6 => crash::server(cfg, part, call),
         7 => crash::client(cfg, part, call),
+        8 => restart::server(cfg, part, call),
         _ => outcome::refused(part, Refusal::Event),
     }
 }
 
-// Question 7: "Is the event 1 to 7?"; the others are the event's.
+// Question 7: is the event 1 to 8? The others are the event's.
 pub(crate) fn event(
     cfg: Config,
     m: usize,

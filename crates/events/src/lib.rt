@@ -10,6 +10,7 @@ mod message;
 mod named;
 mod outcome;
 mod questions;
+mod restart;
 mod within;
 
 use config::Config;
@@ -21,7 +22,7 @@ ghost use mathlib.Core.List.{[], _∷_, _++_};
 ghost use mathlib.Core.Path.{_≡_};
 ghost use Rattle.config.specs.Config.{rigQuestions};
 ghost use Rattle.config.specs.Questions.{ask as question, firstNo};
-ghost use Rattle.events.specs.Calls.{ChangePost, CrashesPost, crashCall, partAt};
+ghost use Rattle.events.specs.Calls.{ChangePost, AloneChangePost, callOf, partAt};
 ghost use Rattle.events.specs.Questions.{lentSized, placesOf};
 ghost use Rattle.events.specs.View.{lent};
 
@@ -77,20 +78,22 @@ pub struct Change {
     pub part: Part,
 }
 
-// What crashes: a server, or a client.
-pub enum Crashed {
-    Server,
-    Client,
+// An event of a party that names no board: a server or a client crashes, or a server is started again.
+pub enum CrashOrRestart {
+    CrashServer,
+    CrashClient,
+    RestartServer,
 }
 
-impl Crashed {
-    // The crash of the party of a number, as an event is called.
+impl CrashOrRestart {
+    // That event of the party of a number, as it is called.
     pub fn call(self, party: u8) -> Call
-        ensures { λ r. ⌜ r ≡ crashCall self party ⌝ }
+        ensures { λ r. ⌜ r ≡ callOf self party ⌝ }
     {
         let code = match self {
-            Crashed::Server => 6,
-            Crashed::Client => 7,
+            CrashOrRestart::CrashServer => 6,
+            CrashOrRestart::CrashClient => 7,
+            CrashOrRestart::RestartServer => 8,
         };
         Call {
             code,
@@ -187,18 +190,25 @@ pub fn changes(
     )
 }
 
-// A crash alone, of the party of a number, on the part whose places `names` gives: questions 1 to 5, 21, 6, 8 and 9. It touches no buffer, and none
-// is lent: who keeps one party on several boards has it crash on each.
-pub fn crashes(cfg: Config, m: usize, part: Part, which: Crashed, party: u8) -> Change
-    ensures { λ x. ⌜ CrashesPost cfg m part (crashCall which party) x ⌝ }
+// A crash or a restart alone, of the party of a number, on the part whose places `names` gives: questions 1 to 5, 21, 6, 8 and 9. It touches no
+// buffer, and none is lent: who keeps one party on several boards has it crash, or come back, on each.
+pub fn crash_or_restart(
+    cfg: Config,
+    m: usize,
+    part: Part,
+    which: CrashOrRestart,
+    party: u8,
+) -> Change
+    ensures { λ x. ⌜ AloneChangePost cfg m part (callOf which party) x ⌝ }
 {
     let call = which.call(party);
-    let asked = crash::ask(cfg, m, part, call);
+    let asked = questions::alone(cfg, m, part, call);
     if asked != 0 {
         return outcome::refused(part, Refusal::of(asked));
     }
     match which {
-        Crashed::Server => crash::server(cfg, part, call),
-        Crashed::Client => crash::client(cfg, part, call),
+        CrashOrRestart::CrashServer => crash::server(cfg, part, call),
+        CrashOrRestart::CrashClient => crash::client(cfg, part, call),
+        CrashOrRestart::RestartServer => restart::server(cfg, part, call),
     }
 }

@@ -1,5 +1,9 @@
-// Questions 1 to 6 and 21 of an event, but for question 6 of what the parties keep.
+// Questions 1 to 6 and 21 of an event, but for question 6 of what the parties keep; and all of these of a crash or a restart alone.
+use crate::Call;
+use crate::Part;
 use crate::Sizes;
+use crate::named;
+use crate::within;
 use config::Config;
 use config::RECORD;
 ghost use mathlib.Core.List.{[], _∷_, _++_};
@@ -7,6 +11,7 @@ ghost use mathlib.Core.Path.{_≡_};
 ghost use Prim.Native.Nat.{_≤_};
 ghost use Rattle.config.specs.Config.{Valid, mostMessages, rigQuestions};
 ghost use Rattle.config.specs.Questions.{ask as question, firstNo};
+ghost use Rattle.events.specs.Calls.{aloneNo};
 ghost use Rattle.events.specs.Questions.{lentSized};
 ghost use Rattle.events.specs.inner.Questions.{sizedToEvent};
 
@@ -63,6 +68,27 @@ pub(crate) fn event(
         return no;
     }
     if !sized_event(cfg, m, count, board, read, sizes) {
+        return 6;
+    }
+    0
+}
+
+// Questions 1 to 5 and 21, and 6 of a part for a crash or a restart alone: the number of the first that is answered no, or 0.
+pub(crate) fn alone(cfg: Config, m: usize, part: Part, call: Call) -> u8
+    ensures { λ r. ⌜ r ≡ aloneNo cfg m part call ⌝ }
+{
+    let no = cfg.ask_rig(m);
+    if no != 0 {
+        return no;
+    }
+    if m < part.count {
+        return 6;
+    }
+    let none = [0u8; 1];
+    if !named::has(cfg, part, call, &none[..0]) {
+        return 6;
+    }
+    if !within::part(cfg, part) {
         return 6;
     }
     0

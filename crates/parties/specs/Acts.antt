@@ -109,6 +109,10 @@ crashesServer x p = protocol.crashServer p (serverNumber (x .node .state .me))
 abbrev pub crashesClient : Pair → BoardParties → BoardActed
 crashesClient x p = protocol.crashClient p (clientNumber (x .client .me))
 
+-- event 8
+abbrev pub restartsServer : Pair → BoardParties → BoardActed
+restartsServer x p = protocol.restartServer p (serverNumber (x .node .state .me))
+
 -- A record for the client: questions 1 to 5 and 21; 6, of the record, the lent buffers and the state; 12; 16.
 unfoldable pub toClientQuestions : Config → clientState.State → List ℕ → ℕ → ℕ → ℕ → ℕ → List Question
 toClientQuestions cfg x handed kept elements sends read =

@@ -19,7 +19,7 @@ pub fn server(pair: Pair) -> Acted
     let node = pair.node;
     let client = pair.client;
     if !node.up {
-        return outcome::refused(pair, Refusal::Down);
+        return outcome::refused(pair, Refusal::UpOrDown);
     }
     let state = node.state;
     let down = Node { state, up: false };

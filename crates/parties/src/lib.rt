@@ -7,6 +7,7 @@ pub mod deliver;
 pub mod fresh;
 mod outcome;
 pub mod questions;
+pub mod restart;
 
 use config::Client;
 use config::Refusal;

@@ -18,8 +18,8 @@ use Rattle.protocol.specs.Server.{Server, freshServer, isStored, noServe
 use Rattle.protocol.specs.Client.{Client}
 use Rattle.protocol.specs.Board.{Call, refused}
 use Rattle.protocol.specs.Parties as parties
-use Rattle.protocol.specs.Parties.{Acted, Parties, begin, clientActs, deliver, freshParties, questionsToBegin, questionsToCrashClient, questionsToCrashServer, quiet, serverActs, withClient, withServer}
-use Rattle.protocol.specs.Rig.{Code, Rig, Turn, beginWrite, beginRead, codeOf, crashClient, crashServer, deliverAt, double, event, handOver, hasRoom, leaves, lose, move, moveOf, questions, questionsAfter6, questionsTo11, run, unlessNo, writeFits}
+use Rattle.protocol.specs.Parties.{Acted, Parties, begin, clientActs, deliver, freshParties, questionsToBegin, questionsToCrashClient, questionsToCrashServer, questionsToRestartServer, quiet, serverActs, withClient, withServer, withUp}
+use Rattle.protocol.specs.Rig.{Code, Rig, Turn, beginWrite, beginRead, codeOf, crashClient, crashServer, deliverAt, double, event, handOver, hasRoom, leaves, lose, move, moveOf, questions, questionsAfter6, questionsTo11, restartServer, run, unlessNo, writeFits}
 use Rattle.protocol.specs.Alike.{AlikeRigs, AlikeTurns, StoredOnce, OnceEach, SameButOrder}
 use Rattle.protocol.proofs.Basics.{cond-elim}
 use Rattle.protocol.proofs.Reordered.{answer-same, same-order, server-same, step-once}
@@ -97,9 +97,9 @@ module _ {Value Element : Type 0} (key : Tag → ℕ) (encode : Value → ℕ �
     unfolding begin clientActs withClient
     begin-like c board = record { parties = record { servers = like; up = refl; clients = refl }; sends = refl; answer = refl }
 
-    crash-server-like : (s : ℕ) → LikeActed key (parties.crashServer p s) (parties.crashServer q s)
-    unfolding parties.crashServer quiet
-    crash-server-like s = record { parties = record { servers = like; up = refl; clients = refl }; sends = refl; answer = refl }
+    up-like : (s : ℕ) (up : Bool) → LikeActed key (quiet (withUp p s up)) (quiet (withUp q s up))
+    unfolding quiet
+    up-like s up = record { parties = record { servers = like; up = refl; clients = refl }; sends = refl; answer = refl }
 
     crash-client-like : (c : ℕ) → LikeActed key (parties.crashClient p c) (parties.crashClient q c)
     unfolding parties.crashClient quiet withClient
@@ -153,12 +153,13 @@ module _ {Value Element : Type 0} (key : Tag → ℕ) (encode : Value → ℕ �
       move-like handOver = leaves-like _ (deliver-at-like (getElem? ms (a .position)))
       move-like lose = leaves-like _ quiet-like
       move-like double = leaves-like _ quiet-like
-      move-like crashServer = leaves-like _ (crash-server-like (a .party))
+      move-like crashServer = leaves-like _ (unfold parties.crashServer in up-like (a .party) false)
       move-like crashClient = leaves-like _ (crash-client-like (a .party))
+      move-like restartServer = leaves-like _ (unfold parties.restartServer in up-like (a .party) true)
 
       -- 8 to 11 ask nothing of what servers store
       to-11-like : (w : Code) → questionsTo11 cfg r a w ≡ questionsTo11 cfg z a w
-      unfolding questionsTo11 questionsToBegin questionsToCrashServer questionsToCrashClient
+      unfolding questionsTo11 questionsToBegin questionsToCrashServer questionsToCrashClient questionsToRestartServer
       to-11-like beginWrite = refl
       to-11-like beginRead = refl
       to-11-like handOver = refl
@@ -166,6 +167,7 @@ module _ {Value Element : Type 0} (key : Tag → ℕ) (encode : Value → ℕ �
       to-11-like double = refl
       to-11-like crashServer = refl
       to-11-like crashClient = refl
+      to-11-like restartServer = refl
 
       questions-like : (most : ℕ) (formed : Bool) (w : Option Code)
           → questions key encode decode cfg most r a formed w ≡ questions key encode decode cfg most z a formed w

@@ -1,5 +1,5 @@
 -- An event in a network beside the same event of one board by itself, where 13 is not asked: for a call that names the board, unless 13 is the
--- answer, and for a crash the answer and what is left of the board are the same; any other call leaves the board as it is.
+-- answer, and for a crash or a restart the answer and what is left of the board are the same; any other call leaves the board as it is.
 use Prim.Native.Nat.{ℕ}
 use mathlib.Core.Path.{_≡_, refl, sym, ap, ap₂, subst, _∙_}
 use mathlib.Core.Bool.{Bool, true, false, cond, _&&_, false≢true, not}
@@ -17,15 +17,16 @@ use Rattle.config.specs.Room.{fitsRoom}
 use Rattle.config.proofs.Questions.{firstNo-pass, firstNo-stop, firstNo-yes, numbered-both, within-high, within-low, within-true}
 use Rattle.tag.specs.declared.Tag.{Tag}
 use Rattle.protocol.specs.Board.{Call, refused}
-use Rattle.protocol.specs.Parties.{questionsToCrashClient, questionsToCrashServer}
+use Rattle.protocol.specs.Parties.{questionsToCrashClient, questionsToCrashServer, questionsToRestartServer}
 use Rattle.protocol.specs.Rig as rig
-use Rattle.protocol.specs.Rig.{Code, Rig, Turn, beginWrite, beginRead, codeOf, crashClient, crashServer, double, handOver, lose, questionsTo11, unlessNo, writeFits}
+use Rattle.protocol.specs.Rig.{Code, Rig, Turn, codeOf, questionsTo11, unlessNo, writeFits}
 use Rattle.protocol.specs.Network.{Network, NetworkTurn, On, askedBoard, boardExists, namesBoard, networkEvent, networkFrom7, networkMove, networkMoveOf, networkQuestions, networkTo11, rigOf, unlessRefused}
-use Rattle.protocol.specs.Agree.{alone, concerns, from7To12, isCrash}
+use Rattle.protocol.specs.Agree.{alone, concerns, from7To12, isOnEveryBoard}
 use Rattle.protocol.proofs.Basics.{cond-elim}
-use Rattle.protocol.proofs.NetworkMoves.{crash-answer, crash-elim, crash-move, crash-own-answer, crash-owners, other-stays, own-answer, own-move}
-use Rattle.protocol.proofs.NetworkCalls.{asks, numbered-to-11}
+use Rattle.protocol.proofs.NetworkMoves.{other-stays, own-answer, own-move, every-answer, every-elim, every-move, every-own-answer, every-owners}
+use Rattle.protocol.proofs.NetworkCalls.{asks}
 use Rattle.protocol.proofs.NetworkRoom.{Ready}
+use Rattle.protocol.proofs.Room.{numbered-to-11}
 
 -- ---- the questions, with 13 and without
 
@@ -50,26 +51,24 @@ room-left (ask k false ∷ qs) = refl
 
 -- ---- which calls concern a board
 
--- a crash names none
-crash-is : (o : Option Code) → isCrash o ≡ true → (w : Code) × (o ≡ some w) × (namesBoard (some w) ≡ false)
-unfolding isCrash namesBoard
-crash-is none h = absurd (false≢true h)
-crash-is (some beginWrite) h = absurd (false≢true h)
-crash-is (some beginRead) h = absurd (false≢true h)
-crash-is (some handOver) h = absurd (false≢true h)
-crash-is (some lose) h = absurd (false≢true h)
-crash-is (some double) h = absurd (false≢true h)
-crash-is (some crashServer) h = (crashServer, refl, refl)
-crash-is (some crashClient) h = (crashClient, refl, refl)
+-- a crash or a restart names none
+every-is : (o : Option Code) → isOnEveryBoard o ≡ true → (w : Code) × (o ≡ some w) × (namesBoard (some w) ≡ false)
+unfolding isOnEveryBoard
+every-is none h = absurd (false≢true h)
+every-is (some w) h = (w, refl, by (namesBoard (some w)) h)
+  where
+    by : (b : Bool) → not b ≡ true → b ≡ false
+    by true e = absurd (false≢true e)
+    by false e = refl
 
-pub crash-names : (o : Option Code) → isCrash o ≡ true → namesBoard o ≡ false
-crash-names o h = let found = crash-is o h in ap namesBoard (found .1) ∙ found .2
+pub every-names : (o : Option Code) → isOnEveryBoard o ≡ true → namesBoard o ≡ false
+every-names o h = let found = every-is o h in ap namesBoard (found .1) ∙ found .2
 
--- an event that is none of b's and no crash names another board
-another : (b c : ℕ) (o : Option Code) → cond (isCrash o) true (namesBoard o && eqb c b) ≡ false
+-- an event that is none of b's, no crash and no restart names another board
+another : (b c : ℕ) (o : Option Code) → cond (isOnEveryBoard o) true (namesBoard o && eqb c b) ≡ false
     → (w : Code) → o ≡ some w → (namesBoard (some w) ≡ true) × (b ≡ c → ⊥)
-unfolding isCrash
-another b c o h w e = by (namesBoard (some w)) (ap (λ z. cond (isCrash z) true (namesBoard z && eqb c b)) (sym e) ∙ h)
+unfolding isOnEveryBoard
+another b c o h w e = by (namesBoard (some w)) (ap (λ z. cond (isOnEveryBoard z) true (namesBoard z && eqb c b)) (sym e) ∙ h)
   where
     by : (f : Bool) → cond (not f) true (f && eqb c b) ≡ false → (f ≡ true) × (b ≡ c → ⊥)
     by true k = (refl, λ i. eqb-false c b k (sym i))
@@ -146,33 +145,34 @@ module _ {Value Element : Type 0} (key : Tag → ℕ) (encode : Value → ℕ �
         number : firstNo (asks key encode decode cfg fits room n b a (some w)) ≡ firstNo (ownAsks (rigOf b n) a (some w))
         number = are ∙ but-13 (ownAsks (rigOf b n) a (some w)) (roomAfter b a w) (own-numbered (rigOf b n) a w) (λ e. thirteen (are ∙ e))
 
-    -- a crash, accepted or refused
-    crash-by : Ready room n → (b : ℕ) → within 1 (room .boards) b ≡ true → (c : ℕ) (a : Call Value) (w : Code) → namesBoard (some w) ≡ false
+    -- a crash or a restart, accepted or refused
+    every-by : Ready room n → (b : ℕ) → within 1 (room .boards) b ≡ true → (c : ℕ) (a : Call Value) (w : Code) → namesBoard (some w) ≡ false
         → Agrees b (left c a (some w)) (single b a (some w))
-    crash-by ready b exists c a w crash =
+    every-by ready b exists c a w everywhere =
         unless-agrees b n (networkMoveOf key encode decode cfg room n c a (some w)) (rig.moveOf key encode decode cfg (rigOf b n) a (some w)) _ _ number
         (unfold networkMoveOf rig.moveOf in record {
-          answer = crash-answer key encode decode cfg room n c a w crash ∙ sym (crash-own-answer key encode decode cfg room n c a b w crash);
-          rig = crash-move key encode decode cfg room n c a b exists w crash;
+          answer = every-answer key encode decode cfg room n c a w everywhere ∙ sym (every-own-answer key encode decode cfg room n c a b w everywhere);
+          rig = every-move key encode decode cfg room n c a b exists w everywhere;
         })
       where
         there : boardExists room c (some w) ≡ true
-        there = unfold boardExists in ap (λ t. cond t (within 1 (room .boards) c) true) crash
+        there = unfold boardExists in ap (λ t. cond t (within 1 (room .boards) c) true) everywhere
 
         it : askedBoard c w ≡ 1
-        it = unfold askedBoard in ap (λ t. cond t c 1) crash
+        it = unfold askedBoard in ap (λ t. cond t c 1) everywhere
 
         roomy : roomAfter c a w ≡ true
-        roomy = ap (fitsRoom room) (crash-owners key encode decode cfg room n c a w crash) ∙ ready .roomy
+        roomy = ap (fitsRoom room) (every-owners key encode decode cfg room n c a w everywhere) ∙ ready .roomy
 
         one : within 1 (room .boards) 1 ≡ true
         one = within-true 1 (room .boards) 1 (omega arith) (omega (arith, within-low 1 (room .boards) b exists, within-high 1 (room .boards) b exists))
 
         same : questionsTo11 cfg (rigOf 1 n) a w ≡ questionsTo11 cfg (rigOf b n) a w
-        same = crash-elim (λ x. questionsTo11 cfg (rigOf 1 n) a x ≡ questionsTo11 cfg (rigOf b n) a x)
+        same = every-elim (λ x. questionsTo11 cfg (rigOf 1 n) a x ≡ questionsTo11 cfg (rigOf b n) a x)
             (unfold questionsTo11 questionsToCrashServer rigOf in ap (λ t. ask 8 (within 1 (cfg .n) (a .party)) ∷ ask 9 t ∷ []) (ready .together .up 1 b one exists .servers (a .party)))
             (unfold questionsTo11 questionsToCrashClient rigOf in ap (λ t. ask 8 (within 1 (cfg .c) (a .party)) ∷ ask 9 t ∷ []) (ready .together .up 1 b one exists .clients (a .party)))
-            w crash
+            (unfold questionsTo11 questionsToRestartServer rigOf in ap (λ t. ask 8 (within 1 (cfg .n) (a .party)) ∷ ask 9 (not t) ∷ []) (ready .together .up 1 b one exists .servers (a .party)))
+            w everywhere
 
         number : firstNo (asks key encode decode cfg fits room n c a (some w)) ≡ firstNo (ownAsks (rigOf b n) a (some w))
         number =
@@ -200,13 +200,13 @@ module _ {Value Element : Type 0} (key : Tag → ℕ) (encode : Value → ℕ �
     unfolding networkEvent networkQuestions alone
     own-event same x exists named not = own-by same (x .board) exists (x .it) (codeOf (x .it .code)) named not
 
-    -- a crash, accepted or refused, is one of each board that there is
-    pub crash-event : Ready room n → (b : ℕ) → within 1 (room .boards) b ≡ true → (x : On (Call Value)) → isCrash (codeOf (x .it .code)) ≡ true
+    -- a crash or a restart, accepted or refused, is one of each board that there is
+    pub every-event : Ready room n → (b : ℕ) → within 1 (room .boards) b ≡ true → (x : On (Call Value)) → isOnEveryBoard (codeOf (x .it .code)) ≡ true
         → Agrees b (networkEvent key encode decode cfg fits room n x) (alone key encode decode cfg fits (rigOf b n) (x .it))
     unfolding networkEvent networkQuestions alone
-    crash-event ready b exists x crash =
-        let found = crash-is (codeOf (x .it .code)) crash in
-        subst (λ o. Agrees b (left (x .board) (x .it) o) (single b (x .it) o)) (sym (found .1)) (crash-by ready b exists (x .board) (x .it) (found .0) (found .2))
+    every-event ready b exists x everywhere =
+        let found = every-is (codeOf (x .it .code)) everywhere in
+        subst (λ o. Agrees b (left (x .board) (x .it) o) (single b (x .it) o)) (sym (found .1)) (every-by ready b exists (x .board) (x .it) (found .0) (found .2))
 
     -- a call that names another board, or is unknown, leaves board b as it is
     pub other-event : length (n .owners) ≡ length (n .inFlight) → (b : ℕ) (x : On (Call Value)) → concerns b x ≡ false

@@ -29,7 +29,7 @@ use Rattle.protocol.specs.Client.{Client, Phase, idle, asking, preWritin
 use Rattle.protocol.specs.Board.{Call}
 use Rattle.protocol.specs.Parties as parties
 use Rattle.protocol.specs.Parties.{Acted, begin, clientActs, deliver, questionsToBegin, quiet, serverActs}
-use Rattle.protocol.specs.Rig.{Code, Rig, Turn, beginWrite, beginRead, codeOf, crashClient, crashServer, deliverAt, double, event, freshRig, handOver, hasRoom, leaves, lose, move, moveOf, questions, questionsAfter6, questionsTo11, run, unlessNo, without, writeFits}
+use Rattle.protocol.specs.Rig.{Code, Rig, Turn, beginWrite, beginRead, codeOf, crashClient, crashServer, deliverAt, double, event, freshRig, handOver, hasRoom, leaves, lose, move, moveOf, questions, questionsAfter6, questionsTo11, restartServer, run, unlessNo, without, writeFits}
 use Rattle.protocol.specs.Boards as boards
 use Rattle.protocol.specs.Boards.{Board, BoardCall, BoardClient, BoardMessage, BoardRig, BoardServer, decode, encode, fitsIn, order}
 use Rattle.protocol.proofs.Basics.{cond-elim}
@@ -274,7 +274,7 @@ module _ {Value Element : Type 0} (cfg : Config) (key key′ : Tag → ℕ) (agr
 
       -- what an event does: it keeps to the limit, where 8 to 11 are answered with yes
       pub move-same : (w : Code) → Same (λ t. firstNo (questionsTo11 cfg r a w) ≡ 0 → WithinLimit (cfg .c) (t .rig)) (move key encode decode cfg r a w) (move key′ encode decode cfg r a w)
-      unfolding move questionsTo11 leaves quiet parties.crashServer
+      unfolding move questionsTo11 leaves quiet parties.crashServer parties.restartServer
       move-same beginWrite = itself (begun (some (a .board)))
       move-same beginRead = itself (begun none)
       move-same handOver =
@@ -284,6 +284,7 @@ module _ {Value Element : Type 0} (cfg : Config) (key key′ : Tag → ℕ) (agr
       move-same double = itself (λ _. still limited (among (doubled-mem (a .position) (r .inFlight)) (limited .messages)) (r .parties .up))
       move-same crashServer = itself (λ _. still limited (limited .messages) (upd (r .parties .up) (a .party) false))
       move-same crashClient = itself (λ _. client-crashed limited (limited .messages) (a .party))
+      move-same restartServer = itself (λ _. still limited (limited .messages) (upd (r .parties .up) (a .party) true))
 
       pub questions-same : (most : ℕ) (formed : Bool) (w : Option Code) → questions key encode decode cfg most r a formed w ≡ questions key′ encode decode cfg most r a formed w
       unfolding questions

@@ -30,7 +30,7 @@ use Rattle.protocol.specs.Client as client
 use Rattle.protocol.specs.Client.{idle, asking, preWriting, finalisingWrite, finalisingRead, down, asked, awaited, awaits, counting, ends, enough, enoughToRead, isFirst, nextTag, sendEach, sendPreWrites, sendReadFinalises, sendWriteFinalises, settling, stays}
 use Rattle.protocol.specs.Number.{nothingYet, toList}
 use Rattle.protocol.specs.Parties as parties
-use Rattle.protocol.specs.Parties.{clientActs, crashClient, crashServer, quiet, serverActs}
+use Rattle.protocol.specs.Parties.{clientActs, crashClient, quiet, serverActs, withUp}
 use Rattle.protocol.specs.Server as server
 use Rattle.protocol.specs.Server.{addLast, answerTo, atOrBelowFloor, dropSmallest, elementOf, finalised, freshServer, inPlaceOf, isStored, noServer, others, readAnswer, serverStepOf, smallest, store, storeElement}
 use Rattle.protocol.specs.Tags.{higher, sameKey}
@@ -413,9 +413,9 @@ module _ (cfg : Config) (p : BoardParties) (fits : PartiesFit cfg p) where
         (λ _. client-acts-fits (m .client) _
         (step-fits cfg (m .client) (client-within cfg m good) (p .clients (m .client)) valid (fits .clients (m .client)) m good refl))
 
-  pub crash-server-fits : (s : ℕ) → ActedFits cfg (crashServer p s)
-  unfolding crashServer quiet
-  crash-server-fits s = record { parties = record { servers = fits .servers; clients = fits .clients }; sends = sound-none }
+  pub up-fits : (s : ℕ) (up : Bool) → ActedFits cfg (quiet (withUp p s up))
+  unfolding quiet
+  up-fits s up = record { parties = record { servers = fits .servers; clients = fits .clients }; sends = sound-none }
 
   pub crash-client-fits : (c : ℕ) → ActedFits cfg (crashClient p c)
   unfolding crashClient quiet parties.withClient PhaseFits

@@ -48,6 +48,7 @@ pub mod NetworkRoom
 pub mod Alone
 pub mod Agreement
 pub mod OneBoard
+pub mod Restart
 mod Refute
 mod Teeth
 pub mod Cut
@@ -60,6 +61,7 @@ mod Cleared
 mod Ties
 mod HostsExample
 mod NetworkExample
+mod RestartExample
 pub mod Few
 pub mod Sound
 pub mod Formed

@@ -17,8 +17,8 @@ use Rattle.protocol.specs.Server.{serverStep}
 use Rattle.protocol.specs.Client.{Client, Phase, idle, asking, preWriting, finalisingWrite, finalisingRead, down, isIdle, isUp, beginClient, beginQuestions, clientStep, highestNumber}
 use Rattle.protocol.specs.Board.{Call, Event, refused, nothingEnded, isAccepted, names}
 use Rattle.protocol.specs.Parties as parties
-use Rattle.protocol.specs.Parties.{Parties, Acted, quiet, serverActs, clientActs, answerOf, begin, deliver, questionsToBegin}
-use Rattle.protocol.specs.Rig.{Rig, Code, beginWrite, beginRead, handOver, lose, double, crashServer, crashClient, codeOf, without, doubled, leaves, freshRig, deliverAt, move, questionsTo11, Elsewhere, Execution, fresh, refuses, moves, elsewhere}
+use Rattle.protocol.specs.Parties.{Parties, Acted, quiet, serverActs, clientActs, answerOf, begin, deliver, questionsToBegin, withUp}
+use Rattle.protocol.specs.Rig.{Rig, Code, beginWrite, beginRead, handOver, lose, double, crashServer, crashClient, restartServer, codeOf, without, doubled, leaves, freshRig, deliverAt, move, questionsTo11, Elsewhere, Execution, fresh, refuses, moves, elsewhere}
 use Rattle.protocol.proofs.Basics.{cond-elim, none≢some, some-injective}
 use Rattle.protocol.proofs.World.{Setting, Ghost, Knowledge, know, Idle, GoodMessage, GoodPhase, Good}
 use Rattle.protocol.proofs.Change.{later, flight-changed}
@@ -38,6 +38,7 @@ codeNumber lose = 4
 codeNumber double = 5
 codeNumber crashServer = 6
 codeNumber crashClient = 7
+codeNumber restartServer = 8
 
 pub code-number : (n : ℕ) (w : Code) → codeOf n ≡ some w → n ≡ codeNumber w
 unfolding codeOf codeNumber
@@ -45,7 +46,10 @@ code-number n w =
     pick 1 beginWrite refl _
     (pick 2 beginRead refl _
     (pick 3 handOver refl _
-    (pick 4 lose refl _ (pick 5 double refl _ (pick 6 crashServer refl _ (pick 7 crashClient refl none (λ e. absurd (none≢some e))))))))
+    (pick 4 lose refl _
+    (pick 5 double refl _
+    (pick 6 crashServer refl _
+    (pick 7 crashClient refl _ (pick 8 restartServer refl none (λ e. absurd (none≢some e)))))))))
   where
     pick : (i : ℕ) (x : Code) → i ≡ codeNumber x → (o : Option Code) → (o ≡ some w → n ≡ codeNumber w) → cond (eqb n i) (some x) o ≡ some w → n ≡ codeNumber w
     pick i x e o h =
@@ -126,10 +130,10 @@ module _ (S : Setting) where
         (λ f. quiet-good))
         (λ e. client-good S a m good)
 
-    -- a server crashes: what is good does not look at who is up
-    server-crashed : (s : ℕ) → Good S (parties.crashServer ps s .parties) ms g now
-    unfolding know parties.crashServer quiet
-    server-crashed s =
+    -- a server crashes, or is started again: what is good does not look at who is up
+    up-good : (s : ℕ) (up : Bool) → Good S (withUp ps s up) ms g now
+    unfolding know
+    up-good s up =
         record { messages = a .messages; servers = a .servers; base = a .base; clients = a .clients; log = a .log }
 
     -- a client crashes
@@ -227,9 +231,12 @@ module _ (S : Setting) where
       (quiet-good (flight-changed S (a .good) (doubled (call .position) (r .inFlight)) (doubled-mem (call .position) (r .inFlight))))
   moved-invariant r h a call crashServer e f b =
       turned a call crashServer e refl refl (r .inFlight) (parties.crashServer (r .parties) (call .party))
-      (unfold parties.crashServer quiet in quiet-good (server-crashed (a .good) (call .party)))
+      (unfold parties.crashServer in quiet-good (up-good (a .good) (call .party) false))
   moved-invariant r h a call crashClient e f b =
       turned a call crashClient e refl refl (r .inFlight) (parties.crashClient (r .parties) (call .party)) (client-crashed (a .good) (call .party))
+  moved-invariant r h a call restartServer e f b =
+      turned a call restartServer e refl refl (r .inFlight) (parties.restartServer (r .parties) (call .party))
+      (unfold parties.restartServer in quiet-good (up-good (a .good) (call .party) true))
 
   -- what happens elsewhere leaves what is known of servers and clients
   known-elsewhere : (r r′ : Rig Value Element) → Elsewhere r r′ → (g : Ghost S) → know S (r′ .parties) g ≡ know S (r .parties) g

@@ -9,27 +9,15 @@ use borrow.Author.Tests.{eqb-true}
 use native.Mathlib.Omega.{arith}
 use Rattle.config.specs.declared.Config.{Config}
 use Rattle.config.specs.declared.Room.{Room}
-use Rattle.config.specs.Questions.{Question, ask, firstNo, numbered}
+use Rattle.config.specs.Questions.{Question, ask, firstNo}
 use Rattle.config.specs.Room.{fitsRoom}
 use Rattle.config.proofs.Questions.{none-first, none-rest, yes-next}
 use Rattle.tag.specs.declared.Tag.{Tag}
 use Rattle.protocol.specs.Board.{Call, Event, refused}
-use Rattle.protocol.specs.Client.{beginQuestions}
-use Rattle.protocol.specs.Parties.{questionsToBegin, questionsToCrashClient, questionsToCrashServer}
-use Rattle.protocol.specs.Rig.{Code, Rig, beginWrite, beginRead, codeOf, crashClient, crashServer, double, handOver, lose, positionQuestions, questionsTo11, writeFits}
+use Rattle.protocol.specs.Rig.{Code, codeOf, writeFits}
 use Rattle.protocol.specs.Network.{Network, NetworkExecution, NetworkTurn, On, askedBoard, boardExists, moves, namesBoard, networkAfter6, networkEvent, networkFrom7, networkMove, networkMoveOf, networkQuestions, networkRun, networkTo11, refuses, rigOf, unlessRefused}
 use Rattle.protocol.proofs.Move.{codeNumber, code-number}
-
--- 8 to 11 are questions
-pub numbered-to-11 : {Value Element : Type 0} (cfg : Config) (r : Rig Value Element) (a : Call Value) (w : Code) → numbered (questionsTo11 cfg r a w) ≡ true
-unfolding numbered questionsTo11 questionsToBegin questionsToCrashClient questionsToCrashServer beginQuestions positionQuestions
-numbered-to-11 cfg r a beginWrite = refl
-numbered-to-11 cfg r a beginRead = refl
-numbered-to-11 cfg r a handOver = refl
-numbered-to-11 cfg r a lose = refl
-numbered-to-11 cfg r a double = refl
-numbered-to-11 cfg r a crashServer = refl
-numbered-to-11 cfg r a crashClient = refl
+use Rattle.protocol.proofs.Room.{numbered-to-11}
 
 module _ {Value Element : Type 0} (key : Tag → ℕ) (encode : Value → ℕ → Element) (decode : List (ℕ × Element) → Value) (cfg : Config) (fits : Value → Bool) (room : Room) where
   -- what the questions of an accepted event say

@@ -24,7 +24,7 @@ shared = record { m = 8; boards = 2; shares = 3 ∷ 3 ∷ replicate 6 0 }
 
 -- the events of a list of calls, from a fresh network with starting boards 0
 unfoldable pub eventsIn : Room → List (On (Call ℕ)) → List (On (Event ℕ))
-unfolding answersTo Below.sumBelow Lists.without Owners.own Owners.countOf Owners.placeOf room.sharesSum room.beyond room.fitsRoom Network.namesBoard Network.boardExists Network.askedBoard Network.ownersKept Network.ownersAfter Network.isOf Network.eventsOf Network.rigOf Network.amongAll Network.placed Network.noParties Network.freshNetwork Network.onEach Network.crashed Network.turnedOn Network.networkTo11 Network.unlessRefused Network.boardMove Network.networkMove Network.networkMoveOf Network.networkFrom7 Network.networkQuestions Network.networkEvent Network.networkRun agreement.isCrash agreement.concerns agreement.callsFor agreement.answersOf
+unfolding answersTo Below.sumBelow Lists.without Owners.own Owners.countOf Owners.placeOf room.sharesSum room.beyond room.fitsRoom Network.namesBoard Network.boardExists Network.askedBoard Network.ownersKept Network.ownersAfter Network.isOf Network.eventsOf Network.rigOf Network.amongAll Network.placed Network.noParties Network.freshNetwork Network.onEach Network.turnedOnEach Network.turnedOn Network.networkTo11 Network.unlessRefused Network.boardMove Network.networkMove Network.networkMoveOf Network.networkFrom7 Network.networkQuestions Network.networkEvent Network.networkRun agreement.isOnEveryBoard agreement.concerns agreement.callsFor agreement.answersOf
 eventsIn r calls = networkRun (key config) encode decode config (λ v. true) r (freshNetwork config r encode (λ b. 0)) calls
 
 -- an event: code, party, position, board

@@ -1,5 +1,5 @@
 -- A move of a network, where each message has its board beside it: for the board that is named it is that board's own move, and the other boards
--- stay as they are; a crash is one of every board.
+-- stay as they are; a crash, or a restart, is one of every board.
 use Prim.Native.Nat.{ℕ, _+_, _-_}
 use mathlib.Core.Path.{_≡_, refl, sym, ap, ap₂, subst, _∙_}
 use mathlib.Core.Bool.{true, false, cond, false≢true}
@@ -21,8 +21,8 @@ use Rattle.protocol.specs.Board.{Call, nothingEnded}
 use Rattle.protocol.specs.Parties as parties
 use Rattle.protocol.specs.Parties.{quiet}
 use Rattle.protocol.specs.Rig as rig
-use Rattle.protocol.specs.Rig.{Code, Turn, beginWrite, beginRead, crashClient, crashServer, deliverAt, double, doubled, handOver, leaves, lose}
-use Rattle.protocol.specs.Network.{Network, NetworkTurn, amongAll, boardMove, crashed, namesBoard, networkMove, onEach, ownersAfter, ownersKept, placed, rigOf, turnedOn}
+use Rattle.protocol.specs.Rig.{Code, Turn, beginWrite, beginRead, crashClient, crashServer, deliverAt, double, doubled, handOver, leaves, lose, restartServer}
+use Rattle.protocol.specs.Network.{Network, NetworkTurn, amongAll, boardMove, namesBoard, networkMove, onEach, ownersAfter, ownersKept, placed, rigOf, turnedOn, turnedOnEach}
 use Rattle.protocol.proofs.Basics.{upd-other, upd-same}
 use Rattle.config.proofs.OwnersWithin.{added-within, append-within, without-within}
 
@@ -37,6 +37,7 @@ kept p xs lose = without p xs
 kept p xs double = xs
 kept p xs crashServer = xs
 kept p xs crashClient = xs
+kept p xs restartServer = xs
 
 owners-kept : (p : ℕ) (os : List ℕ) (w : Code) → ownersKept p os w ≡ kept p os w
 unfolding kept ownersKept
@@ -47,6 +48,7 @@ owners-kept p os lose = refl
 owners-kept p os double = refl
 owners-kept p os crashServer = refl
 owners-kept p os crashClient = refl
+owners-kept p os restartServer = refl
 
 -- as long without one place if they were as long with it
 without-long : {A B : Type 0} (p : ℕ) (xs : List A) (ys : List B) → length xs ≡ length ys → length (without p xs) ≡ length (without p ys)
@@ -63,6 +65,7 @@ kept-long p xs ys same lose = without-long p xs ys same
 kept-long p xs ys same double = same
 kept-long p xs ys same crashServer = same
 kept-long p xs ys same crashClient = same
+kept-long p xs ys same restartServer = same
 
 module _ {A : Type 0} (b i : ℕ) (os : List ℕ) (xs : List A) (same : length os ≡ length xs) where
   -- what stays of b's things, where the one at position i of b's is named
@@ -75,6 +78,7 @@ module _ {A : Type 0} (b i : ℕ) (os : List ℕ) (xs : List A) (same : length o
   own-kept double = refl
   own-kept crashServer = refl
   own-kept crashClient = refl
+  own-kept restartServer = refl
 
   -- another's stay
   own-kept-other : (o : ℕ) → (o ≡ b → ⊥) → (w : Code) → own o (kept (placeOf b i os) os w) (kept (placeOf b i os) xs w) ≡ own o os xs
@@ -86,6 +90,7 @@ module _ {A : Type 0} (b i : ℕ) (os : List ℕ) (xs : List A) (same : length o
   own-kept-other o other double = refl
   own-kept-other o other crashServer = refl
   own-kept-other o other crashClient = refl
+  own-kept-other o other restartServer = refl
 
 count-kept-other : (b i : ℕ) (os : List ℕ) (o : ℕ) → (o ≡ b → ⊥) → (w : Code) → countOf o (kept (placeOf b i os) os w) ≡ countOf o os
 unfolding kept
@@ -96,6 +101,7 @@ count-kept-other b i os o other lose = count-without-other b o other i os
 count-kept-other b i os o other double = refl
 count-kept-other b i os o other crashServer = refl
 count-kept-other b i os o other crashClient = refl
+count-kept-other b i os o other restartServer = refl
 
 kept-within : (room : Room) (p : ℕ) (os : List ℕ) → ownersWithin room os ≡ true → (w : Code) → ownersWithin room (kept p os w) ≡ true
 unfolding kept
@@ -106,6 +112,7 @@ kept-within room p os h lose = without-within room p os h
 kept-within room p os h double = h
 kept-within room p os h crashServer = h
 kept-within room p os h crashClient = h
+kept-within room p os h restartServer = h
 
 -- the owners after an event that adds so many
 added-owners : {A : Type 0} (b p : ℕ) (os : List ℕ) (xs added : List A) → length os ≡ length xs → (w : Code)
@@ -116,16 +123,17 @@ added-owners b p os xs added same w =
     let more : length (kept p xs w) + length added - length (kept p os w) ≡ length added = omega arith in
     rw (owners-kept p os w, length-append (kept p xs w) added, more)
 
--- an event that names no board is a crash
-pub crash-elim : (P : Code → Type 0) → P crashServer → P crashClient → (w : Code) → namesBoard (some w) ≡ false → P w
+-- an event that names no board is a crash or a restart
+pub every-elim : (P : Code → Type 0) → P crashServer → P crashClient → P restartServer → (w : Code) → namesBoard (some w) ≡ false → P w
 unfolding namesBoard
-crash-elim P x y beginWrite h = absurd (false≢true (sym h))
-crash-elim P x y beginRead h = absurd (false≢true (sym h))
-crash-elim P x y handOver h = absurd (false≢true (sym h))
-crash-elim P x y lose h = absurd (false≢true (sym h))
-crash-elim P x y double h = absurd (false≢true (sym h))
-crash-elim P x y crashServer h = x
-crash-elim P x y crashClient h = y
+every-elim P x y z beginWrite h = absurd (false≢true (sym h))
+every-elim P x y z beginRead h = absurd (false≢true (sym h))
+every-elim P x y z handOver h = absurd (false≢true (sym h))
+every-elim P x y z lose h = absurd (false≢true (sym h))
+every-elim P x y z double h = absurd (false≢true (sym h))
+every-elim P x y z crashServer h = x
+every-elim P x y z crashClient h = y
+every-elim P x y z restartServer h = z
 
 -- ---- a board's event, with the messages of all in flight
 
@@ -149,7 +157,7 @@ module _ {Value Element : Type 0} (key : Tag → ℕ) (encode : Value → ℕ �
       answer : among w .answer ≡ alone w .answer
 
     shape : length (n .owners) ≡ length (n .inFlight) → (w : Code) → Shape w
-    unfolding rig.move leaves kept amongAll rigOf placed doubled quiet parties.crashServer parties.crashClient
+    unfolding rig.move leaves kept amongAll rigOf placed doubled quiet parties.crashServer parties.crashClient parties.restartServer
     shape same beginWrite = record { added = _; flight = refl; ownFlight = refl; parties = refl; answer = refl }
     shape same beginRead = record { added = _; flight = refl; ownFlight = refl; parties = refl; answer = refl }
     shape same handOver =
@@ -176,6 +184,7 @@ module _ {Value Element : Type 0} (key : Tag → ℕ) (encode : Value → ℕ �
         }
     shape same crashServer = record { added = []; flight = refl; ownFlight = refl; parties = refl; answer = refl }
     shape same crashClient = record { added = []; flight = refl; ownFlight = refl; parties = refl; answer = refl }
+    shape same restartServer = record { added = []; flight = refl; ownFlight = refl; parties = refl; answer = refl }
 
     module _ (same : length (n .owners) ≡ length (n .inFlight)) (w : Code) where
       abbrev left : NetworkTurn Value Element
@@ -265,6 +274,7 @@ module _ {Value Element : Type 0} (key : Tag → ℕ) (encode : Value → ℕ �
   named-move room n b a double named = refl
   named-move room n b a crashServer named = absurd (false≢true named)
   named-move room n b a crashClient named = absurd (false≢true named)
+  named-move room n b a restartServer named = absurd (false≢true named)
 
   module _ (room : Room) (n : Network Value Element) (same : length (n .owners) ≡ length (n .inFlight)) (b : ℕ) (a : Call Value) (w : Code) where
     abbrev after : NetworkTurn Value Element
@@ -294,16 +304,16 @@ module _ {Value Element : Type 0} (key : Tag → ℕ) (encode : Value → ℕ �
       pub owners-stay-within : within 1 (room .boards) b ≡ true → ownersWithin room (n .owners) ≡ true → ownersWithin room (after .network .owners) ≡ true
       owners-stay-within exists h = rw (named-move room n b a w named) (board-within n b a same w room exists h)
 
-  -- ---- a crash is one on each board that there is
+  -- ---- a crash, or a restart, is one on each board that there is
 
   module _ (room : Room) (n : Network Value Element) (b : ℕ) (a : Call Value) where
     abbrev moved : Code → NetworkTurn Value Element
     moved w = networkMove key encode decode cfg room n b a w
 
-    pub crash-move : (o : ℕ) → within 1 (room .boards) o ≡ true → (w : Code) → namesBoard (some w) ≡ false
+    pub every-move : (o : ℕ) → within 1 (room .boards) o ≡ true → (w : Code) → namesBoard (some w) ≡ false
         → rigOf o (moved w .network) ≡ rig.move key encode decode cfg (rigOf o n) a w .rig
-    unfolding networkMove crashed onEach rigOf rig.move leaves parties.crashServer parties.crashClient quiet
-    crash-move o exists = crash-elim (λ w. rigOf o (moved w .network) ≡ rig.move key encode decode cfg (rigOf o n) a w .rig)
+    unfolding networkMove turnedOnEach onEach rigOf rig.move leaves parties.crashServer parties.crashClient parties.restartServer quiet
+    every-move o exists = every-elim (λ w. rigOf o (moved w .network) ≡ rig.move key encode decode cfg (rigOf o n) a w .rig)
         (λ i. record {
           parties = cond (exists i) (parties.crashServer (n .parties o) (a .party) .parties) (n .parties o);
           inFlight = sym (append-nil (own o (n .owners) (n .inFlight))) i;
@@ -312,21 +322,25 @@ module _ {Value Element : Type 0} (key : Tag → ℕ) (encode : Value → ℕ �
           parties = cond (exists i) (parties.crashClient (n .parties o) (a .party) .parties) (n .parties o);
           inFlight = sym (append-nil (own o (n .owners) (n .inFlight))) i;
         })
+        (λ i. record {
+          parties = cond (exists i) (parties.restartServer (n .parties o) (a .party) .parties) (n .parties o);
+          inFlight = sym (append-nil (own o (n .owners) (n .inFlight))) i;
+        })
 
     -- it ends nothing
-    pub crash-answer : (w : Code) → namesBoard (some w) ≡ false → moved w .answer ≡ nothingEnded
-    unfolding networkMove crashed
-    crash-answer = crash-elim (λ w. moved w .answer ≡ nothingEnded) refl refl
+    pub every-answer : (w : Code) → namesBoard (some w) ≡ false → moved w .answer ≡ nothingEnded
+    unfolding networkMove turnedOnEach
+    every-answer = every-elim (λ w. moved w .answer ≡ nothingEnded) refl refl refl
 
-    pub crash-own-answer : (o : ℕ) (w : Code) → namesBoard (some w) ≡ false → rig.move key encode decode cfg (rigOf o n) a w .answer ≡ nothingEnded
-    unfolding rig.move leaves parties.crashServer parties.crashClient quiet
-    crash-own-answer o = crash-elim (λ w. rig.move key encode decode cfg (rigOf o n) a w .answer ≡ nothingEnded) refl refl
+    pub every-own-answer : (o : ℕ) (w : Code) → namesBoard (some w) ≡ false → rig.move key encode decode cfg (rigOf o n) a w .answer ≡ nothingEnded
+    unfolding rig.move leaves parties.crashServer parties.crashClient parties.restartServer quiet
+    every-own-answer o = every-elim (λ w. rig.move key encode decode cfg (rigOf o n) a w .answer ≡ nothingEnded) refl refl refl
 
     -- no message comes or goes
-    pub crash-owners : (w : Code) → namesBoard (some w) ≡ false → moved w .network .owners ≡ n .owners
-    unfolding networkMove crashed onEach
-    crash-owners = crash-elim (λ w. moved w .network .owners ≡ n .owners) refl refl
+    pub every-owners : (w : Code) → namesBoard (some w) ≡ false → moved w .network .owners ≡ n .owners
+    unfolding networkMove turnedOnEach onEach
+    every-owners = every-elim (λ w. moved w .network .owners ≡ n .owners) refl refl refl
 
-    pub crash-flight : (w : Code) → namesBoard (some w) ≡ false → moved w .network .inFlight ≡ n .inFlight
-    unfolding networkMove crashed onEach
-    crash-flight = crash-elim (λ w. moved w .network .inFlight ≡ n .inFlight) refl refl
+    pub every-flight : (w : Code) → namesBoard (some w) ≡ false → moved w .network .inFlight ≡ n .inFlight
+    unfolding networkMove turnedOnEach onEach
+    every-flight = every-elim (λ w. moved w .network .inFlight ≡ n .inFlight) refl refl refl

@@ -19,11 +19,11 @@ use Rattle.config.proofs.Questions.{lacks, no-such, skip}
 use Rattle.tag.specs.declared.Tag.{Tag}
 use Rattle.protocol.specs.Board.{Call}
 use Rattle.protocol.specs.Client.{beginQuestions}
-use Rattle.protocol.specs.Parties.{questionsToBegin, questionsToCrashClient, questionsToCrashServer}
-use Rattle.protocol.specs.Rig.{Code, Rig, beginWrite, beginRead, codeOf, crashClient, crashServer, double, handOver, lose, positionQuestions, questionsTo11, writeFits}
+use Rattle.protocol.specs.Parties.{questionsToBegin, questionsToCrashClient, questionsToCrashServer, questionsToRestartServer}
+use Rattle.protocol.specs.Rig.{Code, Rig, beginWrite, beginRead, codeOf, crashClient, crashServer, double, handOver, lose, positionQuestions, questionsTo11, restartServer, writeFits}
 use Rattle.protocol.specs.Network.{Network, NetworkTurn, On, askedBoard, boardExists, freshNetwork, namesBoard, networkEvent, networkFrom7, networkMove, networkMoveOf, networkQuestions, networkTo11, rigOf, unlessRefused}
 use Rattle.protocol.proofs.Basics.{cond-elim}
-use Rattle.protocol.proofs.NetworkMoves.{counts-stay, crash-owners, owners-stay-within}
+use Rattle.protocol.proofs.NetworkMoves.{counts-stay, every-owners, owners-stay-within}
 use Rattle.protocol.proofs.NetworkCalls.{Accepted, accepted, asks, no-event}
 use Rattle.protocol.proofs.Together.{Together, fresh-together, move-together}
 
@@ -51,7 +51,7 @@ module _ {Value Element : Type 0} (key : Tag → ℕ) (encode : Value → ℕ �
         by : (named : Bool) → namesBoard (some w) ≡ named → cond named (within 1 (room .boards) b) true ≡ true
             → ownersWithin room (networkMove key encode decode cfg room n b a w .network .owners) ≡ true
         by true e exists = owners-stay-within key encode decode cfg room n (ready .together .lengths) b a w e exists (ready .owners)
-        by false e exists = ap (ownersWithin room) (crash-owners key encode decode cfg room n b a w e) ∙ ready .owners
+        by false e exists = ap (ownersWithin room) (every-owners key encode decode cfg room n b a w e) ∙ ready .owners
 
     -- every event, whatever it answers
     pub event-ready : (x : On (Call Value)) → Ready room (networkEvent key encode decode cfg fits room n x .network)
@@ -70,7 +70,7 @@ module _ {Value Element : Type 0} (key : Tag → ℕ) (encode : Value → ℕ �
 
 -- 13 is none of 8 to 11
 to-11-lacks-13 : {Value Element : Type 0} (cfg : Config) (r : Rig Value Element) (a : Call Value) (w : Code) → lacks 13 (questionsTo11 cfg r a w) ≡ true
-unfolding lacks questionsTo11 questionsToBegin questionsToCrashClient questionsToCrashServer beginQuestions positionQuestions
+unfolding lacks questionsTo11 questionsToBegin questionsToCrashClient questionsToCrashServer questionsToRestartServer beginQuestions positionQuestions
 to-11-lacks-13 cfg r a beginWrite = refl
 to-11-lacks-13 cfg r a beginRead = refl
 to-11-lacks-13 cfg r a handOver = refl
@@ -78,6 +78,7 @@ to-11-lacks-13 cfg r a lose = refl
 to-11-lacks-13 cfg r a double = refl
 to-11-lacks-13 cfg r a crashServer = refl
 to-11-lacks-13 cfg r a crashClient = refl
+to-11-lacks-13 cfg r a restartServer = refl
 
 -- where a question is answered yes, it gives no number
 not-13 : (r : Bool) → r ≡ true → firstNo (ask 13 r ∷ []) ≡ 13 → ⊥
@@ -107,7 +108,7 @@ module _ {Value Element : Type 0} (key : Tag → ℕ) (encode : Value → ℕ �
             within-share room b (n .owners) (after b a w .owners) shares exists (ready .owners)
             (owners-stay-within key encode decode cfg room n (ready .together .lengths) b a w e exists (ready .owners))
             (counts-stay key encode decode cfg room n (ready .together .lengths) b a w e) (ready .roomy) h
-        by false e exists = ap (fitsRoom room) (crash-owners key encode decode cfg room n b a w e) ∙ ready .roomy
+        by false e exists = ap (fitsRoom room) (every-owners key encode decode cfg room n b a w e) ∙ ready .roomy
 
     share-by : (b : ℕ) (a : Call Value) (o : Option Code)
         → countOf b (networkMoveOf key encode decode cfg room n b a o .network .owners) ≤ shareOf room b

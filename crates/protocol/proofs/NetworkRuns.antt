@@ -1,4 +1,5 @@
--- A board's part of an execution of a network is an execution of that board by itself: what happens on other boards, and a crash, is elsewhere.
+-- A board's part of an execution of a network is an execution of that board by itself: what happens on other boards, a crash and a restart are
+-- elsewhere.
 use Prim.Native.Nat.{ℕ}
 use mathlib.Core.Path.{_≡_, refl, sym, ap, ap₂, subst, _∙_}
 use mathlib.Core.Bool.{Bool, true, false, cond, _&&_}
@@ -21,7 +22,7 @@ use Rattle.protocol.specs.Rig.{Code, Elsewhere, Execution, Rig, Turn, be
 use Rattle.protocol.specs.Network as network
 use Rattle.protocol.specs.Network.{Network, NetworkExecution, NetworkTurn, On, askedBoard, eventsOf, freshNetwork, isOf, namesBoard, networkMove, networkTo11, noParties, rigOf}
 use Rattle.protocol.proofs.Basics.{upd-elim}
-use Rattle.protocol.proofs.NetworkMoves.{crash-elim, crash-move, other-stays, own-answer, own-move}
+use Rattle.protocol.proofs.NetworkMoves.{every-elim, every-move, other-stays, own-answer, own-move}
 use Rattle.protocol.proofs.Together.{Together, fresh-together, move-together}
 
 module _ {Value : Type 0} where
@@ -44,11 +45,11 @@ fresh-rig cfg room encode starts b exists =
     λ i. record { parties = cond (exists i) (freshParties cfg encode (starts b)) noParties; inFlight = [] }
 
 module _ {Value Element : Type 0} (key : Tag → ℕ) (encode : Value → ℕ → Element) (decode : List (ℕ × Element) → Value) (cfg : Config) where
-  -- a crash is elsewhere
-  crash-elsewhere : (r : Rig Value Element) (a : Call Value) (w : Code) → namesBoard (some w) ≡ false → Elsewhere r (rig.move key encode decode cfg r a w .rig)
-  unfolding rig.move leaves parties.crashServer parties.crashClient quiet withClient
-  crash-elsewhere r a =
-      crash-elim (λ w. Elsewhere r (rig.move key encode decode cfg r a w .rig))
+  -- a crash or a restart is elsewhere
+  every-elsewhere : (r : Rig Value Element) (a : Call Value) (w : Code) → namesBoard (some w) ≡ false → Elsewhere r (rig.move key encode decode cfg r a w .rig)
+  unfolding rig.move leaves parties.crashServer parties.crashClient parties.restartServer quiet withClient
+  every-elsewhere r a =
+      every-elim (λ w. Elsewhere r (rig.move key encode decode cfg r a w .rig))
       (record { servers = refl; inFlight = append-nil (r .inFlight); clients = λ c. inl refl })
       (record {
         servers = refl;
@@ -59,6 +60,7 @@ module _ {Value Element : Type 0} (key : Tag → ℕ) (encode : Value → ℕ �
             (r .parties .clients) (a .party) _ c
             (λ e. inr (ap (λ d. record { operation = r .parties .clients d .operation; phase = down }) (sym e))) (λ _. inl refl);
       })
+      (record { servers = refl; inFlight = append-nil (r .inFlight); clients = λ c. inl refl })
 
   module _ (IsBoard : Value → Type 0) (room : Room) (starts : ℕ → Value) where
     abbrev Runs : Network Value Element → List (On (Event Value)) → Type 0
@@ -116,7 +118,7 @@ module _ {Value Element : Type 0} (key : Tag → ℕ) (encode : Value → ℕ �
               (subst (λ r. Run r h) (sym (other-stays key encode decode cfg room n (together .lengths) c a w e b (λ i. eqb-false c b f (sym i)))) runs)
           moved-run false mine e f =
               subst (Run (rigOf b (turn c .network))) (sym (append-nil h))
-              (subst (λ r. Run r h) (sym (crash-move key encode decode cfg room n c a b exists w e)) (rig.elsewhere runs (crash-elsewhere (rigOf b n) a w e)))
+              (subst (λ r. Run r h) (sym (every-move key encode decode cfg room n c a b exists w e)) (rig.elsewhere runs (every-elsewhere (rigOf b n) a w e)))
 
           next-run : Run (rigOf b (turn c .network)) (h ++ cond (isOf b (record { board = c; it = event c })) (event c ∷ []) [])
           unfolding isOf

@@ -26,7 +26,7 @@ use Rattle.protocol.specs.Rig.{Code, Rig, codeOf, freshRig, questionsTo1
 use Rattle.protocol.specs.Network.{Network, On, askedBoard, boardExists, freshNetwork, namesBoard, networkEvent, networkFrom7, networkMove, networkMoveOf, networkQuestions, networkRun, networkTo11, rigOf}
 use Rattle.protocol.proofs.Alone.{Agrees, unless-agrees}
 use Rattle.protocol.proofs.NetworkCalls.{asks}
-use Rattle.protocol.proofs.NetworkMoves.{crash-answer, crash-flight, crash-move, crash-own-answer, crash-owners, lengths-stay, own-answer, own-move}
+use Rattle.protocol.proofs.NetworkMoves.{every-answer, every-flight, every-move, every-own-answer, every-owners, lengths-stay, own-answer, own-move}
 use Rattle.protocol.proofs.NetworkRoom.{Ready, event-ready, fresh-ready}
 use Rattle.protocol.proofs.NetworkRuns.{fresh-rig}
 
@@ -83,11 +83,11 @@ module _ (room : Room) (single : room .boards ≡ 1) (shares : roomWithin room �
               record {
                 agrees =
                     record {
-                      answer = crash-answer key encode decode cfg room n c a w e ∙ sym (crash-own-answer key encode decode cfg room n c a 1 w e);
-                      rig = crash-move key encode decode cfg room n c a 1 (ap (λ k. within 1 k 1) single) w e;
+                      answer = every-answer key encode decode cfg room n c a w e ∙ sym (every-own-answer key encode decode cfg room n c a 1 w e);
+                      rig = every-move key encode decode cfg room n c a 1 (ap (λ k. within 1 k 1) single) w e;
                     };
                 lengths =
-                    ap length (crash-owners key encode decode cfg room n c a w e) ∙ same ∙ sym (ap length (crash-flight key encode decode cfg room n c a w e));
+                    ap length (every-owners key encode decode cfg room n c a w e) ∙ same ∙ sym (ap length (every-flight key encode decode cfg room n c a w e));
                 asked = ap (λ t. cond t c 1) e;
               }
 
@@ -120,7 +120,7 @@ module _ (room : Room) (single : room .boards ≡ 1) (shares : roomWithin room �
       moved-one c a none e = record { answer = refl; rig = refl }
       moved-one c a (some w) e = move-one c a w e .agrees
 
-      -- an event of the one board, a crash or an unknown event
+      -- an event of the one board, a crash, a restart or an unknown event
       pub event-one : (x : On (Call Value)) → boardExists room (x .board) (codeOf (x .it .code)) ≡ true
           → Agrees 1 (networkEvent key encode decode cfg fits room n x) (rig.event key encode decode cfg fits (room .m) (rigOf 1 n) (x .it))
       unfolding networkEvent networkQuestions rig.event

@@ -12,7 +12,7 @@ use Rattle.protocol.specs.Number.{upd, toList}
 use Rattle.protocol.specs.Server.{Server, Served, serverStep}
 use Rattle.protocol.specs.Client.{Client, Moved, down, beginClient, clientStep}
 use Rattle.protocol.specs.Board.{nothingEnded}
-use Rattle.protocol.specs.Parties.{Parties, withServer, withClient, withPair, quiet, serverActs, clientActs, answerOf, begin, deliver, crashServer, crashClient}
+use Rattle.protocol.specs.Parties.{Parties, withServer, withClient, withPair, quiet, serverActs, clientActs, answerOf, begin, deliver, withUp, crashClient}
 use Rattle.protocol.proofs.Basics.{upd-same, upd-own, upd-twice}
 
 module _ {Value Element : Type 0} (p : Parties Value Element) (s : ℕ) (v : Server Element) (up : Bool) (c : ℕ) (x : Client Value Element) where
@@ -70,11 +70,11 @@ module _ {Value Element : Type 0} (p : Parties Value Element) (s : ℕ) (v : Ser
   begin-pair cfg board =
       ap (λ (y : Client Value Element). clientActs now c (beginClient cfg c y board)) pair-client ∙ client-acts (beginClient cfg c x board)
 
-  -- events 6 and 7
-  pub crash-server-pair : crashServer (withPair p s v up c x) s ≡ quiet (withPair p s v false c x)
-  unfolding crashServer withPair
-  crash-server-pair =
-      ap quiet (λ i. record { servers = upd (p .servers) s v; up = upd-twice (p .up) s up false i; clients = upd (p .clients) c x })
+  -- events 6 and 8, and 7
+  pub up-pair : (now-up : Bool) → quiet (withUp (withPair p s v up c x) s now-up) ≡ quiet (withPair p s v now-up c x)
+  unfolding withPair
+  up-pair now-up =
+      ap quiet (λ i. record { servers = upd (p .servers) s v; up = upd-twice (p .up) s up now-up i; clients = upd (p .clients) c x })
 
   pub crash-client-pair : crashClient (withPair p s v up c x) c ≡ quiet (withPair p s v up c (record { operation = x .operation; phase = down }))
   unfolding crashClient

@@ -14,19 +14,20 @@ use Rattle.config.proofs.Questions.{none-rest, yes-next}
 use Rattle.tag.specs.declared.Tag.{Tag}
 use Rattle.protocol.specs.Board.{Call, refused}
 use Rattle.protocol.specs.Client.{beginQuestions}
-use Rattle.protocol.specs.Parties.{questionsToBegin, questionsToCrashClient, questionsToCrashServer}
-use Rattle.protocol.specs.Rig.{Rig, Code, beginWrite, beginRead, handOver, lose, double, crashServer, crashClient, codeOf, event, hasRoom, move, moveOf, positionQuestions, questions, questionsAfter6, questionsTo11, unlessNo, writeFits}
+use Rattle.protocol.specs.Parties.{questionsToBegin, questionsToCrashClient, questionsToCrashServer, questionsToRestartServer}
+use Rattle.protocol.specs.Rig.{Rig, Code, beginWrite, beginRead, handOver, lose, double, crashServer, crashClient, restartServer, codeOf, event, hasRoom, move, moveOf, positionQuestions, questions, questionsAfter6, questionsTo11, unlessNo, writeFits}
 
 -- the questions 8 to 11 have questions' numbers
-pub numbers : {Value Element : Type 0} (cfg : Config) (r : Rig Value Element) (a : Call Value) (w : Code) → numbered (questionsTo11 cfg r a w) ≡ true
-unfolding numbered questionsTo11 questionsToBegin beginQuestions questionsToCrashServer questionsToCrashClient positionQuestions
-numbers cfg r a beginWrite = refl
-numbers cfg r a beginRead = refl
-numbers cfg r a handOver = refl
-numbers cfg r a lose = refl
-numbers cfg r a double = refl
-numbers cfg r a crashServer = refl
-numbers cfg r a crashClient = refl
+pub numbered-to-11 : {Value Element : Type 0} (cfg : Config) (r : Rig Value Element) (a : Call Value) (w : Code) → numbered (questionsTo11 cfg r a w) ≡ true
+unfolding numbered questionsTo11 questionsToBegin beginQuestions questionsToCrashServer questionsToCrashClient questionsToRestartServer positionQuestions
+numbered-to-11 cfg r a beginWrite = refl
+numbered-to-11 cfg r a beginRead = refl
+numbered-to-11 cfg r a handOver = refl
+numbered-to-11 cfg r a lose = refl
+numbered-to-11 cfg r a double = refl
+numbered-to-11 cfg r a crashServer = refl
+numbered-to-11 cfg r a crashClient = refl
+numbered-to-11 cfg r a restartServer = refl
 
 module _ {Value Element : Type 0} (key : Tag → ℕ) (encode : Value → ℕ → Element) (decode : List (ℕ × Element) → Value) (cfg : Config) (fits : Value → Bool)
     (most : ℕ) (r : Rig Value Element) (a : Call Value) (few : length (r .inFlight) ≤ most)
@@ -44,7 +45,7 @@ module _ {Value Element : Type 0} (key : Tag → ℕ) (encode : Value → ℕ �
         let room = ask 13 (hasRoom most left) ∷ [] in
         let fit = yes-next 19 (writeFits fits a (some w)) (questions key encode decode cfg most r a true (some w)) (omega arith) (eqb-true _ 0 e) in
         let seven = yes-next 7 true (questionsTo11 cfg r a w ++ ask 12 true ∷ room) (omega arith) (fit .1) in
-        let twelve = none-rest (questionsTo11 cfg r a w) (ask 12 true ∷ room) (numbers cfg r a w) (seven .1) in
+        let twelve = none-rest (questionsTo11 cfg r a w) (ask 12 true ∷ room) (numbered-to-11 cfg r a w) (seven .1) in
         let thirteen = yes-next 13 (hasRoom most left) [] (omega arith) (yes-next 12 true room (omega arith) twelve .1) .0 in
         leb-true (length (left .rig .inFlight)) most thirteen
 

@@ -21,11 +21,11 @@ use Rattle.protocol.specs.Board.{Call}
 use Rattle.protocol.specs.Parties as parties
 use Rattle.protocol.specs.Parties.{Acted, Parties, begin, clientActs, deliver, freshParties, questionsToBegin, quiet, serverActs, withClient, withServer}
 use Rattle.protocol.specs.Rig as rig
-use Rattle.protocol.specs.Rig.{Code, Rig, beginWrite, beginRead, crashClient, crashServer, deliverAt, double, handOver, leaves, lose, questionsTo11}
+use Rattle.protocol.specs.Rig.{Code, Rig, beginWrite, beginRead, crashClient, crashServer, deliverAt, double, handOver, leaves, lose, questionsTo11, restartServer}
 use Rattle.protocol.specs.Network.{Network, askedBoard, freshNetwork, namesBoard, networkMove, networkTo11, noParties, rigOf}
 use Rattle.protocol.proofs.Basics.{cond-elim, upd-elim}
 use Rattle.protocol.proofs.Judged.{awaits-it}
-use Rattle.protocol.proofs.NetworkMoves.{crash-elim, crash-flight, crash-move, crash-owners, lengths-stay, other-stays, own-move}
+use Rattle.protocol.proofs.NetworkMoves.{every-elim, every-flight, every-move, every-owners, lengths-stay, other-stays, own-move}
 
 module _ {Value Element : Type 0} where
   -- who is up
@@ -149,15 +149,17 @@ module _ {Value Element : Type 0} (key : Tag → ℕ) (encode : Value → ℕ �
   move-up r a double named h = quiet-up (r .parties)
   move-up r a crashServer named h = absurd (false≢true named)
   move-up r a crashClient named h = absurd (false≢true named)
+  move-up r a restartServer named h = absurd (false≢true named)
 
-  -- a crash of two boards
-  crash-up : (r q : Rig Value Element) (a : Call Value) → SameUp (r .parties) (q .parties) → (w : Code) → namesBoard (some w) ≡ false
+  -- a crash, or a restart, on two boards
+  every-up : (r q : Rig Value Element) (a : Call Value) → SameUp (r .parties) (q .parties) → (w : Code) → namesBoard (some w) ≡ false
       → SameUp (rig.move key encode decode cfg r a w .rig .parties) (rig.move key encode decode cfg q a w .rig .parties)
-  unfolding rig.move leaves parties.crashServer parties.crashClient quiet withClient upd
-  crash-up r q a same =
-      crash-elim (λ w. SameUp (rig.move key encode decode cfg r a w .rig .parties) (rig.move key encode decode cfg q a w .rig .parties))
+  unfolding rig.move leaves parties.crashServer parties.crashClient parties.restartServer quiet withClient upd
+  every-up r q a same =
+      every-elim (λ w. SameUp (rig.move key encode decode cfg r a w .rig .parties) (rig.move key encode decode cfg q a w .rig .parties))
       (record { servers = λ s. ap (cond (eqb s (a .party)) false) (same .servers s); clients = same .clients })
       (record { servers = same .servers; clients = λ c. by (eqb c (a .party)) c })
+      (record { servers = λ s. ap (cond (eqb s (a .party)) true) (same .servers s); clients = same .clients })
     where
       by : (t : Bool) (c : ℕ)
           → isUp (cond t (record { operation = r .parties .clients (a .party) .operation; phase = down }) (r .parties .clients c) .phase)
@@ -196,13 +198,13 @@ module _ {Value Element : Type 0} (key : Tag → ℕ) (encode : Value → ℕ �
             (record { servers = λ s. refl; clients = λ c. refl })
       ]
 
-      crashed-up : namesBoard (some w) ≡ false → (o c : ℕ) → within 1 (room .boards) o ≡ true → within 1 (room .boards) c ≡ true
+      every-together : namesBoard (some w) ≡ false → (o c : ℕ) → within 1 (room .boards) o ≡ true → within 1 (room .boards) c ≡ true
           → SameUp (after .parties o) (after .parties c)
       unfolding rigOf
-      crashed-up crash o c eo ec =
-          subst (λ (r : Rig Value Element). SameUp (r .parties) (after .parties c)) (sym (crash-move key encode decode cfg room n b a o eo w crash))
-          (subst (λ (r : Rig Value Element). SameUp (rig.move key encode decode cfg (rigOf o n) a w .rig .parties) (r .parties)) (sym (crash-move key encode decode cfg room n b a c ec w crash))
-          (crash-up (rigOf o n) (rigOf c n) a (together .up o c eo ec) w crash))
+      every-together everywhere o c eo ec =
+          subst (λ (r : Rig Value Element). SameUp (r .parties) (after .parties c)) (sym (every-move key encode decode cfg room n b a o eo w everywhere))
+          (subst (λ (r : Rig Value Element). SameUp (rig.move key encode decode cfg (rigOf o n) a w .rig .parties) (r .parties)) (sym (every-move key encode decode cfg room n b a c ec w everywhere))
+          (every-up (rigOf o n) (rigOf c n) a (together .up o c eo ec) w everywhere))
 
       pub move-together : firstNo (networkTo11 cfg n b a w) ≡ 0 → Together room after
       unfolding networkTo11 askedBoard
@@ -217,7 +219,7 @@ module _ {Value Element : Type 0} (key : Tag → ℕ) (encode : Value → ℕ �
           by false e asked =
               record {
                 lengths =
-                    ap length (crash-owners key encode decode cfg room n b a w e) ∙ together .lengths
-                    ∙ sym (ap length (crash-flight key encode decode cfg room n b a w e));
-                up = crashed-up e;
+                    ap length (every-owners key encode decode cfg room n b a w e) ∙ together .lengths
+                    ∙ sym (ap length (every-flight key encode decode cfg room n b a w e));
+                up = every-together e;
               }

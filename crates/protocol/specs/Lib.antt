@@ -10,6 +10,8 @@ pub mod Alike
 pub mod Hosts
 pub mod Network
 pub mod Agree
+pub mod Restart
+pub mod GoesOn
 pub mod Laws
 pub mod Boards
 pub mod Sound

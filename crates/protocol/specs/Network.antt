@@ -1,5 +1,5 @@
 -- Document 02, "Group visits: several boards, one network": the parties of each board, and the messages of all in flight. An event names its
--- board, and is that board's event; a crash is one on every board.
+-- board, and is that board's event; a crash or a restart names none, and is one on every board.
 use Prim.Native.Nat.{ℕ, _+_, _-_}
 use mathlib.Core.Path.{_≡_}
 use mathlib.Core.Bool.{Bool, true, false, cond, _&&_}
@@ -22,7 +22,7 @@ use Rattle.protocol.specs.Parties as parties
 use Rattle.protocol.specs.Parties.{Parties, freshParties}
 use Rattle.protocol.specs.Board.{Call, Answer, Event, refused, nothingEnded}
 use Rattle.protocol.specs.Rig as rig
-use Rattle.protocol.specs.Rig.{Rig, Turn, Code, beginWrite, beginRead, handOver, lose, double, crashServer, crashClient, codeOf, from7, writeFits, questionsTo11}
+use Rattle.protocol.specs.Rig.{Rig, Turn, Code, beginWrite, beginRead, handOver, lose, double, crashServer, crashClient, restartServer, codeOf, from7, writeFits, questionsTo11}
 
 -- "run over the same servers and clients, each with its own starting board, tags, stores and operations, and share the M messages in flight":
 -- the parties of each board, by its number from 1; the messages in order of sending; and "each message's board beside its record"
@@ -31,7 +31,7 @@ pub record Network (Value Element : Type 0) : Type 0 where
   pub inFlight : List (Message Element)
   pub owners : List ℕ
 
--- a call, or an event, with the board that it names. A crash and an unknown event name none, and then the number is not looked at.
+-- a call, or an event, with the board that it names. A crash, a restart and an unknown event name none, and then the number is not looked at.
 pub record On (A : Type 0) : Type 0 where
   pub board : ℕ
   pub it : A
@@ -41,7 +41,7 @@ pub record NetworkTurn (Value Element : Type 0) : Type 0 where
   pub network : Network Value Element
   pub answer : Answer Value
 
--- "Every event except a crash names its board"; "an unknown event names none"
+-- "Every event except a crash names its board"; "an unknown event names none"; "Event 8, naming no board"
 unfoldable pub namesBoard : Option Code → Bool
 namesBoard none = false
 namesBoard (some beginWrite) = true
@@ -51,12 +51,13 @@ namesBoard (some lose) = true
 namesBoard (some double) = true
 namesBoard (some crashServer) = false
 namesBoard (some crashClient) = false
+namesBoard (some restartServer) = false
 
 -- "does the named board exist"
 unfoldable pub boardExists : Room → ℕ → Option Code → Bool
 boardExists room b w = cond (namesBoard w) (within 1 (room .boards) b) true
 
--- the board whose parties an event is asked of. "a party is down on all boards or none": a crash is asked of board 1's.
+-- the board whose parties an event is asked of. "a party is down on all boards or none": one that names none is asked of board 1's.
 unfoldable pub askedBoard : ℕ → Code → ℕ
 askedBoard b w = cond (namesBoard (some w)) b 1
 
@@ -69,6 +70,7 @@ ownersKept p os lose = without p os
 ownersKept p os double = os
 ownersKept p os crashServer = os
 ownersKept p os crashClient = os
+ownersKept p os restartServer = os
 
 -- and of those that are then in flight, so many: what is added at the end is of the named board
 unfoldable pub ownersAfter : ℕ → ℕ → List ℕ → ℕ → Code → List ℕ
@@ -122,9 +124,9 @@ module _ {Value Element : Type 0} where
         owners = n .owners;
       }
 
-  -- a crash, on every board
-  unfoldable pub crashed : Room → (Parties Value Element → Parties Value Element) → Network Value Element → NetworkTurn Value Element
-  crashed room f n = record { network = onEach room f n; answer = nothingEnded }
+  -- a crash or a restart, on every board
+  unfoldable pub turnedOnEach : Room → (Parties Value Element → Parties Value Element) → Network Value Element → NetworkTurn Value Element
+  turnedOnEach room f n = record { network = onEach room f n; answer = nothingEnded }
 
   -- board b after its event, in which the message at a place is the one that is named; the other boards' parties stay
   unfoldable pub turnedOn : ℕ → ℕ → Network Value Element → Code → Turn Value Element → NetworkTurn Value Element
@@ -139,7 +141,7 @@ module _ {Value Element : Type 0} where
         answer = t .answer;
       }
 
-  -- questions 8 to 11: of the board by itself; a crash's of board 1
+  -- questions 8 to 11: of the board by itself; of an event that names none, of board 1
   unfoldable pub networkTo11 : Config → Network Value Element → ℕ → Call Value → Code → List Question
   networkTo11 cfg n b a w = questionsTo11 cfg (rigOf (askedBoard b w) n) a w
 
@@ -159,8 +161,9 @@ module _ {Value Element : Type 0} (key : Tag → ℕ) (encode : Value → ℕ �
   networkMove room n b a handOver = boardMove n b a handOver
   networkMove room n b a lose = boardMove n b a lose
   networkMove room n b a double = boardMove n b a double
-  networkMove room n b a crashServer = crashed room (λ p. parties.crashServer p (a .party) .parties) n
-  networkMove room n b a crashClient = crashed room (λ p. parties.crashClient p (a .party) .parties) n
+  networkMove room n b a crashServer = turnedOnEach room (λ p. parties.crashServer p (a .party) .parties) n
+  networkMove room n b a crashClient = turnedOnEach room (λ p. parties.crashClient p (a .party) .parties) n
+  networkMove room n b a restartServer = turnedOnEach room (λ p. parties.restartServer p (a .party) .parties) n
 
   -- nothing, where there is no such event
   unfoldable pub networkMoveOf : Room → Network Value Element → ℕ → Call Value → Option Code → NetworkTurn Value Element

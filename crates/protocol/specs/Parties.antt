@@ -1,7 +1,7 @@
 -- The parties of document 01's rig, over the models of server and client: who they are, what an event asks of them, and what they do in
 -- it. What they send is a list of its own: of the messages in flight nothing is known here.
 use Prim.Native.Nat.{ℕ}
-use mathlib.Core.Bool.{Bool, true, false, cond}
+use mathlib.Core.Bool.{Bool, true, false, cond, not}
 use mathlib.Core.Option.{Option}
 use mathlib.Core.List.{List, [], _∷_}
 use Rattle.config.specs.declared.Config.{Config}
@@ -71,13 +71,21 @@ module _ {Value Element : Type 0} where
   unfoldable pub begin : Config → Parties Value Element → ℕ → Option Value → Acted Value Element
   begin cfg p c board = clientActs p c (beginClient cfg c (p .clients c) board)
 
-  -- event 6, "crash a server": all that it keeps stays
+  -- the parties with server s up or down: what it keeps stays
+  abbrev pub withUp : Parties Value Element → ℕ → Bool → Parties Value Element
+  withUp p s up = record { servers = p .servers; up = upd (p .up) s up; clients = p .clients }
+
+  -- event 6, "crash a server"
   unfoldable pub crashServer : Parties Value Element → ℕ → Acted Value Element
-  crashServer p s = quiet (record { servers = p .servers; up = upd (p .up) s false; clients = p .clients })
+  crashServer p s = quiet (withUp p s false)
 
   -- event 7, "crash a client": it is down
   unfoldable pub crashClient : Parties Value Element → ℕ → Acted Value Element
   crashClient p c = quiet (withClient p c (record { operation = p .clients c .operation; phase = down }))
+
+  -- event 8, which "starts a crashed server again with its store, highest finalised tag and floor exactly as they stood at the crash"
+  unfoldable pub restartServer : Parties Value Element → ℕ → Acted Value Element
+  restartServer p s = quiet (withUp p s true)
 
   -- The questions of an event that names a party, in order. Of events 1 and 2: "8. Does the named client, .. exist?", and 9 to 11 of a
   -- client that is to begin.
@@ -91,6 +99,10 @@ module _ {Value Element : Type 0} where
   -- of event 7, likewise
   unfoldable pub questionsToCrashClient : Config → Parties Value Element → ℕ → List Question
   questionsToCrashClient cfg p c = ask 8 (within 1 (cfg .c) c) ∷ ask 9 (isUp (p .clients c .phase)) ∷ []
+
+  -- of event 8: 8 likewise, and "for this event question 9 reads: is the server down?"
+  unfoldable pub questionsToRestartServer : Config → Parties Value Element → ℕ → List Question
+  questionsToRestartServer cfg p s = ask 8 (within 1 (cfg .n) s) ∷ ask 9 (not (p .up s)) ∷ []
 
 -- Event 3: a message is handed to the server or to the client that it is for. "Handed to a crashed party it is gone": a client that is
 -- down awaits nothing.

@@ -1,4 +1,4 @@
--- The rig of document 01: its parties and the messages in flight, its seven events, their questions and their answers.
+-- The rig of document 01: its parties and the messages in flight, its events, with document 02's event 8, their questions and their answers.
 use Prim.Native.Nat.{ℕ, _+_}
 use mathlib.Core.Path.{_≡_}
 use mathlib.Core.Bool.{Bool, true, false, cond}
@@ -15,7 +15,7 @@ unfoldable pub use Rattle.laws.specs.Lists.{without}
 use Rattle.protocol.specs.Number.{toList}
 use Rattle.protocol.specs.Client.{down}
 use Rattle.protocol.specs.Parties as parties
-use Rattle.protocol.specs.Parties.{Parties, Acted, freshParties, quiet, begin, deliver, questionsToBegin, questionsToCrashServer, questionsToCrashClient}
+use Rattle.protocol.specs.Parties.{Parties, Acted, freshParties, quiet, begin, deliver, questionsToBegin, questionsToCrashServer, questionsToCrashClient, questionsToRestartServer}
 use Rattle.protocol.specs.Board.{Call, Answer, Event, refused, nothingEnded}
 
 -- "It holds fresh servers and clients, a starting board, and the messages in flight .. in order of sending." The starting board is in
@@ -30,9 +30,9 @@ pub record Turn (Value Element : Type 0) : Type 0 where
   pub answer : Answer Value
 
 -- "Events: 1 begin write (client, V bytes), 2 begin read (client), 3 hand over the message at a position from 0, 4 lose it, 5 double
--- it (a copy goes to the end), 6 crash a server, 7 crash a client."
+-- it (a copy goes to the end), 6 crash a server, 7 crash a client." "Event 8, naming no board, starts a crashed server again ..".
 pub data Code : Type 0 where
-  beginWrite beginRead handOver lose double crashServer crashClient : Code
+  beginWrite beginRead handOver lose double crashServer crashClient restartServer : Code
 
 -- the event of a number, if there is one
 unfoldable pub codeOf : ℕ → Option Code
@@ -41,7 +41,9 @@ codeOf n =
     (cond (eqb n 2) (some beginRead)
     (cond (eqb n 3) (some handOver)
     (cond (eqb n 4) (some lose)
-    (cond (eqb n 5) (some double) (cond (eqb n 6) (some crashServer) (cond (eqb n 7) (some crashClient) none))))))
+    (cond (eqb n 5) (some double)
+    (cond (eqb n 6) (some crashServer)
+    (cond (eqb n 7) (some crashClient) (cond (eqb n 8) (some restartServer) none)))))))
 
 module _ {A : Type 0} where
   -- "double it (a copy goes to the end)"
@@ -63,8 +65,9 @@ module _ {Value : Type 0} where
   writeFits fits a (some double) = true
   writeFits fits a (some crashServer) = true
   writeFits fits a (some crashClient) = true
+  writeFits fits a (some restartServer) = true
 
--- The questions of an event, in order: "7. Is the event 1 to 7?"; those up to 11; "12. Is the record handed over well formed?", whose answer is handed
+-- The questions of an event, in order: 7, whether there is such an event ("Question 7 now runs to 8"); those up to 11; "12. Is the record handed over well formed?", whose answer is handed
 -- in, since a model has no bytes (1 to 6 and 21 are of the configuration and of buffers, and of these it asks nothing either); and what is asked last.
 abbrev pub from7 : (Code → List Question) → Bool → (Code → List Question) → Option Code → List Question
 from7 to11 formed last none = ask 7 false ∷ []
@@ -80,7 +83,7 @@ module _ {Value Element : Type 0} where
   leaves ms x = record { rig = record { parties = x .parties; inFlight = ms ++ x .sends }; answer = x .answer }
 
   -- The questions 8 to 11, as far as they concern an event: "8. Does the named client, server or position exist? 9. Is the party to begin
-  -- or crash up? 10. Is the beginning client idle? 11. Is its operation number below 4,294,967,295?"
+  -- or crash up? 10. Is the beginning client idle? 11. Is its operation number below 4,294,967,295?" 9 of event 8 is another question.
   unfoldable pub questionsTo11 : Config → Rig Value Element → Call Value → Code → List Question
   questionsTo11 cfg r a beginWrite = questionsToBegin cfg (r .parties) (a .party)
   questionsTo11 cfg r a beginRead = questionsToBegin cfg (r .parties) (a .party)
@@ -89,6 +92,7 @@ module _ {Value Element : Type 0} where
   questionsTo11 cfg r a double = positionQuestions (r .inFlight) (a .position)
   questionsTo11 cfg r a crashServer = questionsToCrashServer cfg (r .parties) (a .party)
   questionsTo11 cfg r a crashClient = questionsToCrashClient cfg (r .parties) (a .party)
+  questionsTo11 cfg r a restartServer = questionsToRestartServer cfg (r .parties) (a .party)
 
   -- "13. Would at most M be in flight afterwards?" of what the event would leave
   unfoldable pub hasRoom : ℕ → Turn Value Element → Bool
@@ -114,6 +118,7 @@ module _ {Value Element : Type 0} (key : Tag → ℕ) (encode : Value → ℕ �
   move r a double = leaves (doubled (a .position) (r .inFlight)) (quiet (r .parties))
   move r a crashServer = leaves (r .inFlight) (parties.crashServer (r .parties) (a .party))
   move r a crashClient = leaves (r .inFlight) (parties.crashClient (r .parties) (a .party))
+  move r a restartServer = leaves (r .inFlight) (parties.restartServer (r .parties) (a .party))
 
   -- nothing, where there is no such event
   unfoldable pub moveOf : Rig Value Element → Call Value → Option Code → Turn Value Element

@@ -16,9 +16,9 @@ use Rattle.config.specs.Questions.{Question, ask, firstNo}
 use Rattle.config.proofs.Questions.{lacks, no-such, skip}
 use Rattle.protocol.specs.Boards.{BoardCall, BoardEvent, BoardRig, questions, writeFits}
 use Rattle.protocol.specs.Client.{beginQuestions}
-use Rattle.protocol.specs.Parties.{questionsToBegin, questionsToCrashClient, questionsToCrashServer}
+use Rattle.protocol.specs.Parties.{questionsToBegin, questionsToCrashClient, questionsToCrashServer, questionsToRestartServer}
 use Rattle.protocol.specs.Rig as protocol
-use Rattle.protocol.specs.Rig.{Code, beginWrite, beginRead, handOver, lose, double, crashServer, crashClient, codeOf, positionQuestions, questionsTo11}
+use Rattle.protocol.specs.Rig.{Code, beginWrite, beginRead, handOver, lose, double, crashServer, crashClient, restartServer, codeOf, positionQuestions, questionsTo11}
 use Rattle.events.specs.declared.Rig.{Rig}
 use Rattle.events.specs.View.{Lent, flight, view}
 use Rattle.events.specs.Questions.{formedFor, laterQuestions, rigWithin, sized}
@@ -67,7 +67,7 @@ module _ (cfg : Config) (m : ℕ) (start : List ℕ) where
 
   -- none of 7 to 13 is 6
   later-others : (v : BoardRig) (a : BoardCall) (formed : Bool) (w : Option Code) → lacks 6 (questions cfg m v a formed w) ≡ true
-  unfolding lacks protocol.questions questionsTo11 questionsToBegin questionsToCrashClient questionsToCrashServer beginQuestions positionQuestions
+  unfolding lacks protocol.questions questionsTo11 questionsToBegin questionsToCrashClient questionsToCrashServer questionsToRestartServer beginQuestions positionQuestions
   later-others v a formed none = refl
   later-others v a formed (some beginWrite) = refl
   later-others v a formed (some beginRead) = refl
@@ -76,6 +76,7 @@ module _ (cfg : Config) (m : ℕ) (start : List ℕ) where
   later-others v a formed (some double) = refl
   later-others v a formed (some crashServer) = refl
   later-others v a formed (some crashClient) = refl
+  later-others v a formed (some restartServer) = refl
 
   -- "6. Has each buffer its length (V for boards, ..": along a list of events no other length, and nothing in the state, is a ground for 6
   pub six-only : {r : Rig} {l : Lent} {events : List BoardEvent} → Runs cfg m start r l events → (a : BoardCall) (read : List ℕ)

@@ -1,7 +1,7 @@
 pub mod Alike
 pub mod Always
 pub mod Atomic
-mod Down
+mod CrashOrRestart
 mod Entry
 pub mod Going
 pub mod InPlace
@@ -9,4 +9,5 @@ mod Making
 pub mod Model
 pub mod Never
 mod Owned
+pub mod Restart
 pub mod Witness

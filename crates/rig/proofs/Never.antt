@@ -23,12 +23,12 @@ use Rattle.protocol.specs.Boards.{Board, BoardActed, BoardCall, BoardEvent, Boa
 use Rattle.protocol.specs.Client.{beginQuestions}
 use Rattle.protocol.specs.Number.{toList}
 use Rattle.protocol.specs.Parties as parties
-use Rattle.protocol.specs.Parties.{questionsToBegin, questionsToCrashClient, questionsToCrashServer, quiet}
+use Rattle.protocol.specs.Parties.{questionsToBegin, questionsToCrashClient, questionsToCrashServer, questionsToRestartServer, quiet}
 use Rattle.protocol.specs.Rig as protocol
-use Rattle.protocol.specs.Rig.{Code, beginWrite, beginRead, handOver, lose, double, crashServer, crashClient, codeOf, deliverAt, doubled, Elsewhere, elsewhere, fresh, hasRoom, leaves, moves, positionQuestions, questionsTo11, refuses, unlessNo, without}
+use Rattle.protocol.specs.Rig.{Code, beginWrite, beginRead, handOver, lose, double, crashServer, crashClient, restartServer, codeOf, deliverAt, doubled, Elsewhere, elsewhere, fresh, hasRoom, leaves, moves, positionQuestions, questionsTo11, refuses, unlessNo, without}
 use Rattle.protocol.specs.Sound.{Sound}
 use Rattle.protocol.proofs.Hosted.{begin-low}
-use Rattle.protocol.proofs.Formed.{ActedFits, BoardFits, PartiesFit, PhaseFits, begin-fits, crash-client-fits, crash-server-fits, deliver-fits, fresh-fits, quiet-fits}
+use Rattle.protocol.proofs.Formed.{ActedFits, BoardFits, PartiesFit, PhaseFits, begin-fits, crash-client-fits, deliver-fits, fresh-fits, quiet-fits, up-fits}
 use Rattle.protocol.proofs.Sound.{sound-append, sound-at, sound-doubled, sound-first, sound-none, sound-rest, sound-without}
 use Rattle.events.specs.declared.Rig.{Rig}
 use Rattle.events.specs.View.{Lent, flight, messagesOf, view}
@@ -72,8 +72,9 @@ module _ (cfg : Config) (valid : Valid cfg) (v : BoardRig) (fits : Fits cfg v) w
       leaves-fits _ _ (sound-without (fits .inFlight) (a .position)) (delivers (a .position) (getElem? (v .inFlight) (a .position)) refl)
   move-fits a lose h board = leaves-fits _ _ (sound-without (fits .inFlight) (a .position)) (quiet-fits cfg (v .parties) (fits .parties))
   move-fits a double h board = leaves-fits _ _ (sound-doubled (fits .inFlight) (a .position)) (quiet-fits cfg (v .parties) (fits .parties))
-  move-fits a crashServer h board = leaves-fits _ _ (fits .inFlight) (crash-server-fits cfg (v .parties) (fits .parties) (a .party))
+  move-fits a crashServer h board = leaves-fits _ _ (fits .inFlight) (unfold parties.crashServer in up-fits cfg (v .parties) (fits .parties) (a .party) false)
   move-fits a crashClient h board = leaves-fits _ _ (fits .inFlight) (crash-client-fits cfg (v .parties) (fits .parties) (a .party))
+  move-fits a restartServer h board = leaves-fits _ _ (fits .inFlight) (unfold parties.restartServer in up-fits cfg (v .parties) (fits .parties) (a .party) true)
 
 -- what happens elsewhere keeps to them
 elsewhere-fits : (cfg : Config) (v v′ : BoardRig) → Elsewhere v v′ → Fits cfg v → Fits cfg v′
@@ -127,7 +128,7 @@ module _ (cfg : Config) where
     -- after each move
     pub move-written : (a : BoardCall) (w : Code) → firstNo (questionsTo11 cfg v a w) ≡ 0
         → recordsAfter cfg rs (a .position) (move cfg v a w .rig .inFlight) (some w) ≡ map Record (move cfg v a w .rig .inFlight)
-    unfolding recordsAfter protocol.move leaves questionsTo11 positionQuestions quiet doubled parties.crashServer parties.crashClient
+    unfolding recordsAfter protocol.move leaves questionsTo11 positionQuestions quiet doubled parties.crashServer parties.crashClient parties.restartServer
     move-written a beginWrite h = grown rs ms _ (length rs) written many
     move-written a beginRead h = grown rs ms _ (length rs) written many
     move-written a handOver h =
@@ -142,6 +143,7 @@ module _ (cfg : Config) where
         ∙ sym (map-append Record ms (toList (getElem? ms (a .position)))))
     move-written a crashServer h = still rs ms written
     move-written a crashClient h = still rs ms written
+    move-written a restartServer h = still rs ms written
 
 pub empty : {A : Type 0} (xs : List A) → length xs ≡ 0 → xs ≡ []
 empty [] h = refl
@@ -207,6 +209,7 @@ formed-for cfg rs i well (some lose) = refl
 formed-for cfg rs i well (some double) = refl
 formed-for cfg rs i well (some crashServer) = refl
 formed-for cfg rs i well (some crashClient) = refl
+formed-for cfg rs i well (some restartServer) = refl
 
 module _ (cfg : Config) (m : ℕ) (start : List ℕ) where
   -- every record in flight is well formed
@@ -224,7 +227,7 @@ module _ (cfg : Config) (m : ℕ) (start : List ℕ) where
 -- so it is never the refusal: 8 to 11 are other questions
 module _ (cfg : Config) (m : ℕ) (v : BoardRig) (a : BoardCall) where
   pub others : (w : Code) → lacks 12 (questionsTo11 cfg v a w) ≡ true
-  unfolding lacks questionsTo11 questionsToBegin questionsToCrashClient questionsToCrashServer beginQuestions positionQuestions
+  unfolding lacks questionsTo11 questionsToBegin questionsToCrashClient questionsToCrashServer questionsToRestartServer beginQuestions positionQuestions
   others beginWrite = refl
   others beginRead = refl
   others handOver = refl
@@ -232,6 +235,7 @@ module _ (cfg : Config) (m : ℕ) (v : BoardRig) (a : BoardCall) where
   others double = refl
   others crashServer = refl
   others crashClient = refl
+  others restartServer = refl
 
   pub last-two : (well room : Bool) → well ≡ true → firstNo (ask 12 well ∷ ask 13 room ∷ []) ≡ 12 → ⊥
   unfolding firstNo

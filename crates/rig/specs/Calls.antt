@@ -49,8 +49,8 @@ pub record MakePost (cfg : Config) (m : ℕ) (start : List ℕ) (l : Lent) (r : 
 abbrev pub rigNo : Config → ℕ → Rig → ℕ
 rigNo cfg m r = firstNo (rigQuestions cfg m ++ ask 6 (rigWithin cfg m r) ∷ [])
 
--- A crash alone.
-pub record CrashPost (cfg : Config) (m : ℕ) (r : Rig) (a : Call) (t : Turn) : Type 0 where
+-- A crash or a restart alone.
+pub record AlonePost (cfg : Config) (m : ℕ) (r : Rig) (a : Call) (t : Turn) : Type 0 where
   -- "The first "no" is returned; state and buffers hold their old content"
   pub refuses : (rigNo cfg m r ≡ 0 → ⊥) → (read : List ℕ) → (answerOf (t .answer) read ≡ no (rigNo cfg m r)) × (t .rig ≡ r)
   -- with any buffers of their lengths it is the rig's event, and the buffers stay

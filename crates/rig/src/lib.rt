@@ -10,7 +10,7 @@ use config::Config;
 use config::Refusal;
 use config::Verdict;
 use events::Call;
-use events::Crashed;
+use events::CrashOrRestart;
 use events::Rig;
 use events::Sizes;
 use events::Turn;
@@ -18,10 +18,10 @@ ghost use mathlib.Core.List.{[], _∷_, _++_};
 ghost use mathlib.Core.Path.{_≡_};
 ghost use Rattle.config.specs.Config.{rigQuestions};
 ghost use Rattle.config.specs.Questions.{ask as question, firstNo};
-ghost use Rattle.events.specs.Calls.{EventPost, called, crashCall};
+ghost use Rattle.events.specs.Calls.{EventPost, called, callOf};
 ghost use Rattle.events.specs.Questions.{rigWithin};
 ghost use Rattle.events.specs.View.{lent};
-ghost use Rattle.rig.specs.Calls.{CrashPost, MakePost};
+ghost use Rattle.rig.specs.Calls.{AlonePost, MakePost};
 
 // What the making of a rig leaves.
 pub struct Made {
@@ -115,9 +115,9 @@ pub fn event(
     outcome::turned(rig, change)
 }
 
-// A crash alone, of the party of a number, which touches no buffer, and none is lent: questions 1 to 5 and 21, 6 of the rig, 8 and 9.
-pub fn crash(cfg: Config, m: usize, rig: Rig, which: Crashed, party: u8) -> Turn
-    ensures { λ r. ⌜ CrashPost cfg m rig (crashCall which party) r ⌝ }
+// A crash or a restart alone, of the party of a number, which touches no buffer, and none is lent: questions 1 to 5 and 21, 6 of the rig, 8 and 9.
+pub fn crash_or_restart(cfg: Config, m: usize, rig: Rig, which: CrashOrRestart, party: u8) -> Turn
+    ensures { λ r. ⌜ AlonePost cfg m rig (callOf which party) r ⌝ }
 {
     let asked = ask(cfg, m, rig);
     if asked != 0 {
@@ -126,6 +126,6 @@ pub fn crash(cfg: Config, m: usize, rig: Rig, which: Crashed, party: u8) -> Turn
     let none = [0u8; 1];
     let places = events::names(cfg, rig.count, which.call(party), &none[..0]);
     let part = outcome::part_of(rig, places);
-    let change = events::crashes(cfg, m, part, which, party);
+    let change = events::crash_or_restart(cfg, m, part, which, party);
     outcome::turned(rig, change)
 }

@@ -204,7 +204,7 @@ fn table(words: &[String]) -> Result<String, String> {
     };
     let rows: Result<Vec<String>, String> = rows.into_iter().map(|[n, k, d]| row(n, k, d, board)).collect();
     let head = format!(
-        "| N, k | D | q | may crash | longest board | E for {board} bytes | stored at a server | in all | a write | a read |"
+        "| N, k | D | q | may be down | longest board | E for {board} bytes | stored at a server | in all | a write | a read |"
     );
     Ok(format!("{head}\n|---|---|---|---|---|---|---|---|---|---|\n{}", rows?.join("\n")))
 }

@@ -19,9 +19,9 @@ impl Event {
         model::Event { code: *code, party: *party, position: *position, board, bytes, length: *length }
     }
 
-    /// Whether it is of this board: a crash is of each.
+    /// Whether it is of this board: a crash or a restart is of each.
     pub fn is_of(&self, board: u8) -> bool {
-        matches!(self.code, 6 | 7) || self.on == board
+        matches!(self.code, 6..=8) || self.on == board
     }
 }
 
@@ -123,9 +123,9 @@ mod tests {
     }
 
     #[test]
-    fn a_crash_is_of_each_board() {
+    fn a_crash_or_a_restart_is_of_each_board() {
         let event = |code, on| Event { code, party: 1, position: 0, on, board: vec![], length: 0 };
-        assert!(event(6, 9).is_of(1) && event(7, 2).is_of(1));
+        assert!(event(6, 9).is_of(1) && event(7, 2).is_of(1) && event(8, 0).is_of(1));
         assert!(event(3, 2).is_of(2) && !event(3, 2).is_of(1));
     }
 

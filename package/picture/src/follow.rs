@@ -3,7 +3,7 @@
 
 use crate::events::List;
 use crate::hex::digits;
-use crate::history::{Board, Call, Crash, History, Outcome, Party, Tag};
+use crate::history::{Board, Call, Crash, History, Outcome, Party, Restart, Tag};
 use crate::model::{self, Answer, Config, Rig};
 use crate::quote::quoted;
 
@@ -64,7 +64,7 @@ fn line(count: usize, answer: &Result<Answer, u8>) -> String {
     }
 }
 
-/// What an accepted event begins, ends or crashes. It is a code, a party and the board handed in.
+/// What an accepted event begins, ends, crashes or starts again. It is a code, a party and the board handed in.
 fn note(history: &mut History, time: usize, event: (u8, u8, Board), answer: Answer) -> Result<(), String> {
     let (code, party, board) = event;
     let tag = |tag: model::Tag| Tag { number: tag.number, client: tag.client };
@@ -73,6 +73,7 @@ fn note(history: &mut History, time: usize, event: (u8, u8, Board), answer: Answ
         2 => history.begin(time, party, Call::Read),
         6 => history.crashes.push(Crash { time, party: Party::Server(party) }),
         7 => history.crashes.push(Crash { time, party: Party::Client(party) }),
+        8 => history.restarts.push(Restart { time, server: party }),
         _ => {}
     }
     match answer {
@@ -219,17 +220,46 @@ pub mod tests {
         assert_eq!(history.ranks, [2]);
     }
 
-    /// One server and one client, which writes on board 1 while it reads on board 2, and then crashes.
+    /// A write that ends through servers 1 and 2, a crash of server 1 and two restarts, of which the second is refused,
+    /// and a read that ends through servers 1 and 3.
+    #[test]
+    fn a_server_comes_back() {
+        let hands = |positions: &[u8]| positions.iter().map(|p| [3, 0, *p]).collect();
+        let parts: [Vec<[u8; 3]>; 4] = [
+            vec![[1, 1, 0]],
+            hands(&[0, 0, 1, 1, 1, 1, 2, 2, 2, 2, 3, 3]),
+            vec![[6, 1, 0], [8, 1, 0], [8, 1, 0], [2, 2, 0]],
+            hands(&[3, 4, 4, 4, 4, 5, 5, 5]),
+        ];
+        let due = |count: usize| match count {
+            13 => "13 written 1 1\n".to_string(),
+            16 => "16 no 9\n".to_string(),
+            25 => "25 read 1 1 11\n".to_string(),
+            _ => format!("{count} ok\n"),
+        };
+        let printed: String = (1..=25).map(due).collect();
+        let history = follow(&of_board(&records(&parts.concat(), 0x11)), &printed, 1).unwrap();
+        assert_eq!(history.crashes, [Crash { time: 14, party: Party::Server(1) }]);
+        assert_eq!(history.restarts, [Restart { time: 15, server: 1 }]);
+        assert_eq!(history.operations.iter().map(|o| o.begin).collect::<Vec<_>>(), [1, 17]);
+    }
+
+    /// One server and one client, which writes on board 1 while it reads on board 2; both crash, and the server comes
+    /// back.
     #[test]
     fn each_board_has_its_history() {
         let head = [1, 1, 0, 1, 1, 8, 0, 0, 2, 0, 0, 0, 0, 9, 8];
         let on = |code, board| [code, 1, 0, 0, board, 5, 1, 0];
         let hands = |board, count| vec![on(3, board); count];
-        let events = [vec![on(1, 1), on(2, 2)], hands(1, 5), hands(2, 4), hands(1, 1), vec![on(7, 0)]];
+        let ends = vec![on(7, 0), on(6, 2), on(8, 1)];
+        let events = [vec![on(1, 1), on(2, 2)], hands(1, 5), hands(2, 4), hands(1, 1), ends];
         let list = of_simulate(&[&head[..], &events.concat().concat()].concat()).ok().unwrap();
         let printed = lines(&list);
         let of = |board| follow(&list, &printed, board).unwrap();
-        let (tag, crashes) = (Tag { number: 1, client: 1 }, [Crash { time: 13, party: Party::Client(1) }]);
+        let tag = Tag { number: 1, client: 1 };
+        let crashes = [(13, Party::Client(1)), (14, Party::Server(1))];
+        let crashes = crashes.map(|(time, party)| Crash { time, party });
+        let restarts = [Restart { time: 15, server: 1 }];
         let written = Some(End { time: 12, outcome: Outcome::Written(tag) });
         let shown = Some(End { time: 11, outcome: Outcome::Read(START, vec![8]) });
         let one = |call, begin, end| [Operation { client: 1, call, begin, end }];
@@ -237,7 +267,8 @@ pub mod tests {
         assert_eq!(of(2).operations, one(Call::Read, 2, shown));
         assert_eq!((of(1).start, of(2).start), (Some(vec![9]), Some(vec![8])));
         assert!(of(1).crashes == crashes && of(2).crashes == crashes);
-        assert_eq!(of(2).about, "N 1, k 1, D 0, E 1, C 1, board 2 of 2; 13 events");
+        assert!(of(1).restarts == restarts && of(2).restarts == restarts);
+        assert_eq!(of(2).about, "N 1, k 1, D 0, E 1, C 1, board 2 of 2; 15 events");
         for board in [0, 3] {
             let said = follow(&list, &printed, board).err().unwrap();
             assert_eq!(said, format!("the events have no board {board}"));

@@ -1,4 +1,4 @@
-//! A history: what begins and ends, by whom and when, and who crashes.
+//! A history: what begins and ends, by whom and when, who crashes and which servers come back.
 
 /// A board as far as its length; the zeros after it are left out.
 pub type Board = Vec<u8>;
@@ -91,6 +91,12 @@ pub struct Crash {
     pub party: Party,
 }
 
+#[derive(Clone, Copy, Debug, PartialEq)]
+pub struct Restart {
+    pub time: usize,
+    pub server: u8,
+}
+
 #[derive(Clone, Debug, Default)]
 pub struct History {
     /// Where it comes from, in a few words.
@@ -102,6 +108,7 @@ pub struct History {
     /// By begin.
     pub operations: Vec<Operation>,
     pub crashes: Vec<Crash>,
+    pub restarts: Vec<Restart>,
 }
 
 impl History {
@@ -158,8 +165,9 @@ impl History {
         clients
     }
 
-    pub fn crash_of(&self, party: Party) -> Option<usize> {
-        self.crashes.iter().find(|crash| crash.party == party).map(|crash| crash.time)
+    /// When a client crashes, which it does at most once.
+    pub fn crash_of(&self, client: u8) -> Option<usize> {
+        self.crashes.iter().find(|crash| crash.party == Party::Client(client)).map(|crash| crash.time)
     }
 }
 

@@ -70,6 +70,19 @@ fn one_of_several_boards() {
     assert!(told(&["simulate", &events, &lines, "--board", "3"]).contains("the events have no board 3"));
 }
 
+/// Server 3 crashes and comes back. Restarts of one that is up and of one that is not there are refused, and drawn
+/// nowhere.
+#[test]
+fn a_server_that_comes_back() {
+    let record = |code, party| [code, party, 0, 0, 0, 0, 0];
+    let events = [record(6, 3), record(2, 1), record(8, 3), record(8, 3), record(8, 4), record(9, 1)];
+    let events = file("restart_events", &events.concat());
+    let lines = file("restart_lines", b"1 ok\n2 ok\n3 ok\n4 no 9\n5 no 8\n6 no 7\n");
+    let svg = drawn(&["board", &events, &lines]);
+    assert!(svg.contains("server 3 crashes at event 1<") && svg.contains("server 3 restarts at event 3<"));
+    assert_eq!(svg.matches(" restarts at ").count(), 1);
+}
+
 #[test]
 fn the_example_is_the_picture_of_the_documents() {
     let [events, lines] =

@@ -4,8 +4,8 @@ use borrow.Author.Needs.{needs}
 use Rattle.config.proofs.Rooms.{boards-high, boards-low, room-is}
 use Rattle.boards.specs.View.{lent}
 use Rattle.boards.proofs.Codes.{no-code}
-use Rattle.boards.proofs.DownEvent.{crash-event}
-use Rattle.boards.proofs.Entering.{accepted, code-zero, crash-code, early-refused, long-yes, named-pre, rig-yes, unknown}
+use Rattle.boards.proofs.Entering.{accepted, code-zero, early-refused, long-yes, named-pre, rig-yes, unknown}
+use Rattle.boards.proofs.OnEveryBoard.{every-event}
 use Rattle.boards.proofs.event.Statement.{statement}
 use Rattle.boards.proofs.event.Tie as tie
 
@@ -56,7 +56,7 @@ all-requires c κs =
     let a = c .before .before .before .before .before .before .before .before .before .before .before .before .before .before .before .before .args in
     let l = lent (now (a .messages)) (now (a .owners)) (now (a .stores)) (now (a .boards)) (now (a .elements)) in
     let taken = room-is (a .cfg) (a .room) (accepted (a .cfg) (a .room) (a .rig) (a .call) (now (a .board)) (now (a .read)) l (c .before .before .before .before .before .before .before .ask .ensures) (c .before .before .before .before .before .before .if1 .left)) in
-    (boards-low (a .room) taken, boards-high (a .room) taken, crash-code (a .call .code) (c .if4 .taken) (omega (arith, c .before .before .if3 .left)))
+    (boards-low (a .room) taken, boards-high (a .room) taken, c .if4 .taken, omega (arith, c .before .before .if3 .left))
 
 same-length-4 : tie.Need-same-length-4
 same-length-4 c = search needs
@@ -67,11 +67,11 @@ returns-4 c =
     let l = lent (now (a .messages)) (now (a .owners)) (now (a .stores)) (now (a .boards)) (now (a .elements)) in
     let asked = c .before .before .before .before .before .before .before .before .ask .ensures in
     let none = c .before .before .before .before .before .before .before .if1 .left in
-    crash-event (a .cfg) (a .room) (a .rig) (a .call) (now (a .board)) (now (a .read)) l _
+    every-event (a .cfg) (a .room) (a .rig) (a .call) (now (a .board)) (now (a .read)) l _
     (accepted (a .cfg) (a .room) (a .rig) (a .call) (now (a .board)) (now (a .read)) l asked none)
     (long-yes (a .cfg) (a .room) (a .rig) (a .call) (now (a .board)) (now (a .read)) l asked none)
     (rig-yes (a .cfg) (a .room) (a .rig) (a .call) (now (a .board)) (now (a .read)) l asked none)
-    (crash-code (a .call .code) (c .before .if4 .taken) (omega (arith, c .before .before .before .if3 .left)))
+    (c .before .if4 .taken) (omega (arith, c .before .before .before .if3 .left))
     (c .all .ensures)
 
 event-requires : tie.Need-event-requires

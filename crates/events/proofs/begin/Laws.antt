@@ -2,7 +2,7 @@
 -- done. Assumes nothing.
 use Prim.Native.Nat.{ℕ, _+_, _*_, _≤_, _<_}
 use mathlib.Core.Path.{_≡_, refl, sym, ap, ap₂, subst, _∙_}
-use mathlib.Core.Bool.{Bool, true, false, cond}
+use mathlib.Core.Bool.{Bool, true, false, cond, false≢true}
 use mathlib.Core.Option.{Option, none, some}
 use mathlib.Core.List.{List, _++_, map}
 use native.Mathlib.Omega.{arith}
@@ -30,6 +30,7 @@ use Rattle.protocol.specs.Boards.{Board, BoardActed, BoardCall, BoardClient, Bo
 use Rattle.protocol.specs.Client as protocol
 use Rattle.protocol.specs.Client.{beginClient, sendEach}
 use Rattle.protocol.proofs.Basics.{length-toEach}
+use Rattle.protocol.specs.Network.{namesBoard}
 use Rattle.protocol.specs.Parties as parties
 use Rattle.protocol.specs.Parties.{clientActs, questionsToBegin}
 use Rattle.protocol.specs.Rig as rig
@@ -62,20 +63,21 @@ pub record Begins (cfg : Config) (r : Rig) (l : Lent) (a : BoardCall) (w : Code)
   pub other : a .code ≡ 3 → ⊥
   pub asks : questionsTo11 cfg (view cfg r l) a w ≡ questionsToBegin cfg (partiesOf cfg r l) (a .party)
   pub formed : formedFor cfg (flight r l) (a .position) (some w) ≡ true
+  pub names : namesBoard (some w) ≡ true
   pub moves : move cfg (view cfg r l) a w ≡ leaves (messagesOf cfg (flight r l)) (begin cfg (partiesOf cfg r l) (a .party) b)
   pub after : (ms : List BoardMessage) → recordsAfter cfg (flight r l) (a .position) ms (some w)
       ≡ flight r l ++ map (recordOf cfg) (drop (length (flight r l)) ms)
 
 module _ (cfg : Config) (r : Rig) (l : Lent) (a : Call) (board : List ℕ) where
   write-begins : a .code ≡ 1 → leb (a .length) (boardLength cfg) ≡ true → Begins cfg r l (called a board) beginWrite (some (boardOf (a .length) board))
-  unfolding codeOf questionsTo11 formedFor rig.move recordsAfter view rig.writeFits
+  unfolding codeOf questionsTo11 formedFor namesBoard rig.move recordsAfter view rig.writeFits
   write-begins e fits =
-      record { code = ap codeOf e; fits = fits; other = λ z. omega (arith, e, z); asks = refl; formed = refl; moves = refl; after = λ ms. refl }
+      record { code = ap codeOf e; fits = fits; other = λ z. omega (arith, e, z); asks = refl; formed = refl; names = refl; moves = refl; after = λ ms. refl }
 
   read-begins : a .code ≡ 2 → Begins cfg r l (called a board) beginRead none
-  unfolding codeOf questionsTo11 formedFor rig.move recordsAfter view rig.writeFits
+  unfolding codeOf questionsTo11 formedFor namesBoard rig.move recordsAfter view rig.writeFits
   read-begins e =
-      record { code = ap codeOf e; fits = refl; other = λ z. omega (arith, e, z); asks = refl; formed = refl; moves = refl; after = λ ms. refl }
+      record { code = ap codeOf e; fits = refl; other = λ z. omega (arith, e, z); asks = refl; formed = refl; names = refl; moves = refl; after = λ ms. refl }
 
 -- ---- their numbers
 
@@ -290,6 +292,7 @@ module _ {cfg : Config} {m : ℕ} {r : Rig} {p : Part} {a : Call} {board read : 
           ap length written ∙ over-length (80 * p .count) (80 * cfg .n) sends′ (l .messages) long (omega (arith, fits, messages-long ready)),
           flies idles,
         ))
+        (λ none-named. absurd (false≢true (sym none-named ∙ h .names)))
 
 -- the client's part of the messages, as it is lent
 sends-length : (cfg : Config) (m count : ℕ) (messages : List ℕ) → length messages ≡ 80 * m → count + cfg .n ≤ m

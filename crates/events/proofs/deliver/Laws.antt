@@ -2,7 +2,7 @@
 -- what the parties have done; a server, a client. Assumes nothing.
 use Prim.Native.Nat.{ℕ, zero, suc, _+_, _-_, _*_, _≤_, _<_}
 use mathlib.Core.Path.{_≡_, refl, sym, ap, ap₂, subst, _∙_}
-use mathlib.Core.Bool.{Bool, true, false, cond, not, _&&_, true≢false}
+use mathlib.Core.Bool.{Bool, true, false, cond, not, _&&_, false≢true, true≢false}
 use mathlib.Core.Option.{Option, some}
 use mathlib.Core.List.{List, [], _∷_, _++_, map}
 use native.Mathlib.Omega.{arith}
@@ -34,6 +34,7 @@ use Rattle.flight.proofs.Laws.{append-count, append-long, append-records, at-re
 use Rattle.protocol.specs.Board.{isAccepted, refused}
 use Rattle.protocol.specs.Boards.{BoardActed, BoardCall, BoardEnded, BoardMessage, BoardParties, decode, deliver, encode, order}
 use Rattle.protocol.specs.Client as client
+use Rattle.protocol.specs.Network.{namesBoard}
 use Rattle.protocol.specs.Parties as parties
 use Rattle.protocol.specs.Parties.{clientActs, quiet, serverActs}
 use Rattle.protocol.specs.Rig as rig
@@ -299,6 +300,7 @@ module _ {cfg : Config} {m : ℕ} {r : Rig} {p : Part} {a : Call} {board read : 
                 ∙ ap₂ (λ k rs. without (a .position) (records k (l .messages)) ++ rs) (sym (ready .part .count))
                 (same ∙ ap (λ k. records k sends′) (sends-many ready post put 0 z)
                 ∙ records-out cfg (is-valid ready .e-high) (act q .sends) (sends-sound ready post put 0 z) sends sends′ (sends-out ready post put 0 z)))
+                (λ none-named. absurd (false≢true (unfold namesBoard in sym none-named)))
 
     -- 13
     too-many : m < p .count - 1 + y .sent → eventNo cfg m r (called a board) read l ≡ 13

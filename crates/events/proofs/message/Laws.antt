@@ -1,6 +1,7 @@
 -- Events 4 and 5: what is left of the records in flight. Assumes nothing.
 use Prim.Native.Nat.{ℕ, _+_, _*_, _≤_, _<_}
 use mathlib.Core.Path.{_≡_, refl, sym, ap, ap₂, subst, _∙_}
+use mathlib.Core.Bool.{false≢true}
 use mathlib.Core.Option.{some}
 use mathlib.Core.List.{List, _++_, append-nil, map-append}
 use native.Mathlib.Omega.{arith}
@@ -13,6 +14,7 @@ use Rattle.record.specs.Record.{messageOf}
 use Rattle.flight.specs.Flight as flights
 use Rattle.flight.specs.Flight.{RemovePost, records}
 use Rattle.flight.proofs.Laws.{double-count, double-long, double-records, length-records, remove-count, remove-long, remove-records}
+use Rattle.protocol.specs.Network.{namesBoard}
 use Rattle.protocol.specs.Parties.{quiet}
 use Rattle.protocol.specs.Rig as rig
 use Rattle.protocol.specs.Rig.{codeOf, doubled, lose, double, leaves, questionsTo11, writeFits}
@@ -89,7 +91,8 @@ module _ (p : Part) (a : Call) (messages : List ℕ) (x : Change) where
       (remove-long post)
       (remove-records post (count-fits ready)
       ∙ ap (λ k. without (a .position) (records k messages)) (sym (ready .part .count))
-      ∙ sym (append-nil (without (a .position) (flight r l)))))
+      ∙ sym (append-nil (without (a .position) (flight r l))))
+      (λ none-named. absurd (false≢true (unfold namesBoard in sym none-named))))
 
   module _ (m : ℕ) where
     pub double-missing : x ≡ refusing Refusal.Missing p → p .count ≤ a .position → DoublePost m p a messages x messages
@@ -129,4 +132,5 @@ module _ (p : Part) (a : Call) (messages : List ℕ) (x : Change) where
         (double-long post)
         (double-records post fits
         ∙ ap (λ k. records k messages ++ toList (getElem? (records k messages) (a .position))) (sym (ready .part .count))
-        ∙ sym (append-nil (flight r l ++ toList (getElem? (flight r l) (a .position))))))
+        ∙ sym (append-nil (flight r l ++ toList (getElem? (flight r l) (a .position)))))
+        (λ none-named. absurd (false≢true (unfold namesBoard in sym none-named))))

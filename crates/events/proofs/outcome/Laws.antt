@@ -30,6 +30,7 @@ use Rattle.flight.specs.Flight.{records}
 use Rattle.flight.proofs.Laws.{length-records}
 use Rattle.protocol.specs.Board.{refused}
 use Rattle.protocol.specs.Boards.{BoardActed, BoardCall, BoardParties, BoardRig, BoardTurn, freshParties, move, startingBoard, writeFits}
+use Rattle.protocol.specs.Network.{namesBoard}
 use Rattle.protocol.specs.Parties as parties
 use Rattle.protocol.specs.Rig as rig
 use Rattle.protocol.specs.Rig.{Code, codeOf, hasRoom, leaves, questionsTo11, unlessNo}
@@ -81,6 +82,7 @@ module _ (cfg : Config) (m : ℕ) (r : Rig) (a : BoardCall) (read : List ℕ) (l
         within = λ z. absurd (some-no z);
         lengths = ap (sized cfg m) lent;
         held = λ _. (stays, lent);
+        buffersStay = λ _. lent;
       }
 
   -- the protocol's move
@@ -91,9 +93,10 @@ module _ (cfg : Config) (m : ℕ) (r : Rig) (a : BoardCall) (read : List ℕ) (l
       → flight (t .rig) l′ ≡ recordsAfter cfg (flight r l) (a .position) (move cfg (view cfg r l) a w .rig .inFlight) (some w)
       → rigWithin cfg m (t .rig) ≡ true
       → sized cfg m l′ ≡ sized cfg m l
+      → (namesBoard (some w) ≡ false → l′ ≡ l)
       → EventPost cfg m r a read l t read′ l′
   unfolding unlessNo rig.moveOf
-  accepted-event w code e answers untouched sees flies within long =
+  accepted-event w code e answers untouched sees flies within long still =
       let o : outcome cfg m r a read l ≡ move cfg v a w = rw (eq-eqb number 0 e, code) in
       record {
         answer = answers ∙ sym (ap (λ (x : BoardTurn). x .answer) o);
@@ -104,6 +107,7 @@ module _ (cfg : Config) (m : ℕ) (r : Rig) (a : BoardCall) (read : List ℕ) (l
         within = λ _. within;
         lengths = long;
         held = λ ne. absurd (ne e);
+        buffersStay = λ none-named. still (ap namesBoard (sym code) ∙ none-named);
       }
 
 -- an answer that is a refusal is no read's
@@ -249,9 +253,10 @@ module _ {cfg : Config} {m : ℕ} {r : Rig} {p : Part} {a : Call} {board read : 
           -- and the records in flight are those that stay and those of what is sent
           pub acted-yes : n ≤ m → length (l′ .messages) ≡ length (l .messages)
               → records n (l′ .messages) ≡ left ++ map (recordOf cfg) (act (partiesOf cfg r l) .sends)
+              → (namesBoard (some w) ≡ false → l′ ≡ l)
               → EventPost cfg m r (called a board) read l (turned r (acting y n p)) read′ l′
           unfolding view leaves
-          acted-yes few messages flies =
+          acted-yes few messages flies still =
               let many : n ≡ length left + length (act q .sends) =
               sym (length-records n (l′ .messages)) ∙ ap length flies ∙ length-append left (map (recordOf cfg) (act q .sends))
               ∙ ap (λ k. length left + k) (length-map (act q .sends) (recordOf cfg)) in
@@ -266,7 +271,7 @@ module _ {cfg : Config} {m : ℕ} {r : Rig} {p : Part} {a : Call} {board read : 
               })
               ∙ sym (ap (λ (x : BoardTurn). x .rig) (h .moves)))
               (flies ∙ sym (h .after) ∙ sym (ap (λ (x : BoardTurn). recordsAfter cfg (flight r l) (a .position) (x .rig .inFlight) (some w)) (h .moves)))
-              (still-within few) (sized-same messages)
+              (still-within few) (sized-same messages) still
 
       -- either: 8 to 11 are what the parties ask
       module _ (w : Code) (left : List (List ℕ)) (code : codeOf (a .code) ≡ some w) (fits : writeFits cfg (called a board) (some w) ≡ true)
@@ -275,9 +280,10 @@ module _ {cfg : Config} {m : ℕ} {r : Rig} {p : Part} {a : Call} {board read : 
           pub acted-turn : ((number ≡ 0 → ⊥) → (n ≡ p .count) × (l′ .messages ≡ l .messages))
               → (number ≡ 0 → Moves cfg r l (called a board) w act left × (n ≤ m) × (length (l′ .messages) ≡ length (l .messages))
               × (records n (l′ .messages) ≡ left ++ map (recordOf cfg) (act (partiesOf cfg r l) .sends)))
+              → (namesBoard (some w) ≡ false → l′ ≡ l)
               → EventPost cfg m r (called a board) read l (turned r (acting y n p)) read′ l′
-          acted-turn held moves = elim (ℕ-discrete number 0) as (λ _. EventPost cfg m r call read l t read′ l′) [
-            | yes z ↦ let h = moves z in acted-yes z (h .0) (h .1) (h .2) (h .3)
+          acted-turn held moves still = elim (ℕ-discrete number 0) as (λ _. EventPost cfg m r call read l t read′ l′) [
+            | yes z ↦ let h = moves z in acted-yes z (h .0) (h .1) (h .2) (h .3) still
             | no ne ↦
                 let h = held ne in
                 acted-no ne (early-number cfg m r call read l (ready .yes) w code fits number asks ne) (h .0) (h .1)

@@ -12,6 +12,7 @@ pub struct Mood {
     pub lose: usize,
     pub double: usize,
     pub crash: usize,
+    pub restart: usize,
     pub junk: usize,
     /// Each client's messages to and from a few servers, drawn now and then, go before all others.
     pub adverse: bool,
@@ -31,6 +32,11 @@ pub struct Met {
     pub read_part: usize,
     /// With N at least 12 and k at least 8.
     pub read_wide: usize,
+    pub restarted: usize,
+    /// Restarts refused with 8: there is no such server.
+    pub restart_of_none: usize,
+    /// Restarts refused with 9: the server is up.
+    pub restart_of_up: usize,
     /// By number.
     pub refused: [usize; 23],
 }
@@ -43,6 +49,8 @@ pub struct Maker<'a> {
     /// What `simulate` is handed, and the lines due.
     pub input: Vec<u8>,
     pub lines: Vec<String>,
+    /// The places among the lines of the events that several boards share.
+    pub shared: Vec<usize>,
     /// The servers that go first, for each client, bit s for server s.
     quick: Vec<u32>,
 }
@@ -57,7 +65,7 @@ impl<'a> Maker<'a> {
         let [m_bytes, share] = [m, share].map(|number| (number as u16).to_le_bytes());
         let input = [numbers, &m_bytes, ranks, &[1], &share, &start].concat();
         let quick = vec![u32::MAX; config.c().into()];
-        Maker { random, rig, mood, met, input, lines: vec![], quick }
+        Maker { random, rig, mood, met, input, lines: vec![], shared: vec![], quick }
     }
 
     /// The next event. Now and then it stands twice, first with a board that isn't there.
@@ -76,6 +84,12 @@ impl<'a> Maker<'a> {
         self.input.extend(event.bytes());
         self.lines.push(line(self.lines.len() + 1, &answer));
         self.met.events += 1;
+        match (event.code, &answer) {
+            (8, Ok(_)) => self.met.restarted += 1,
+            (8, Err(8)) => self.met.restart_of_none += 1,
+            (8, Err(9)) => self.met.restart_of_up += 1,
+            _ => {}
+        }
         match &answer {
             Ok(Ended::Written(_)) => self.met.written += 1,
             Ok(Ended::Read(_, board)) => {
@@ -92,7 +106,8 @@ impl<'a> Maker<'a> {
         answer
     }
 
-    /// An event that uses neither bytes nor length. A crash and an unknown event don't use the board's number either.
+    /// An event that uses neither bytes nor length. A crash, a restart and an unknown event don't use the board's
+    /// number either.
     fn short(&mut self, code: u8, party: u8, position: usize) -> Result<Ended, u8> {
         let v = self.rig.config.board_length();
         let (mut board, mut length) = (vec![0; v], 0);
@@ -106,6 +121,12 @@ impl<'a> Maker<'a> {
     fn party(&mut self, code: u8, party: u8) {
         let position = if self.mood.loose { self.random.below(600) } else { 0 };
         _ = self.short(code, party, position);
+    }
+
+    /// A crash or a restart that other boards have too.
+    fn share(&mut self, (code, party): (u8, u8)) {
+        self.shared.push(self.lines.len());
+        self.party(code, party);
     }
 
     pub fn position(&mut self, code: u8, position: usize) -> Result<Ended, u8> {
@@ -159,9 +180,8 @@ impl<'a> Maker<'a> {
 
     /// Codes, parties, positions and lengths that no sensible host names.
     fn junk(&mut self) {
-        let (c, n) = (self.rig.config.c(), self.rig.config.n());
+        let (c, v) = (self.rig.config.c(), self.rig.config.board_length());
         let flight = self.rig.flight.len();
-        let v = self.rig.config.board_length();
         match self.random.below(6) {
             0 => {
                 let (code, party) = (self.random.pick(&[1, 2, 7]), self.random.pick(&[0, c + 1, 255]));
@@ -171,10 +191,7 @@ impl<'a> Maker<'a> {
                     self.party(code, party)
                 }
             }
-            1 => {
-                let party = self.random.pick(&[0, n + 1, 255]);
-                self.party(6, party);
-            }
+            1 => self.junk_of_servers(),
             2 => {
                 let party = self.random.within(0, usize::from(c) + 1) as u8;
                 let length = self.random.pick(&[v + 1, v + 2, v + 256, 65535]);
@@ -186,7 +203,7 @@ impl<'a> Maker<'a> {
                 self.begin(party, write);
             }
             4 => {
-                let code = self.random.pick(&[0, 8, 9, 128, 255]);
+                let code = self.random.pick(&[0, 9, 10, 128, 255]);
                 self.party(code, 1);
             }
             _ => {
@@ -195,6 +212,20 @@ impl<'a> Maker<'a> {
                 _ = self.position(code, position);
             }
         }
+    }
+
+    /// A crash or a restart of a server that is not there, or a restart of one that is up.
+    fn junk_of_servers(&mut self) {
+        let n = self.rig.config.n();
+        let (code, none) = (self.random.pick(&[6, 8]), self.random.pick(&[0, n + 1, 255]));
+        let up = self.some_server(true).filter(|_| code == 8 && self.random.chance(500));
+        self.party(code, up.unwrap_or(none));
+    }
+
+    /// A server that is up, or else down, if there is any.
+    fn some_server(&mut self, up: bool) -> Option<u8> {
+        let servers: Vec<u8> = (1..).zip(&self.rig.up).filter(|(_, is)| **is == up).map(|(s, _)| s).collect();
+        (!servers.is_empty()).then(|| self.random.pick(&servers))
     }
 
     /// Any event, as the mood has it.
@@ -207,9 +238,13 @@ impl<'a> Maker<'a> {
             return self.junk();
         }
         if self.random.chance(mood.crash) {
-            let (code, most) = self.random.pick(&[(6, self.rig.config.n()), (7, self.rig.config.c())]);
+            let (server, client) = ((6, self.rig.config.n()), (7, self.rig.config.c()));
+            let (code, most) = self.random.pick(&[server, server, client]);
             let party = self.random.within(1, most.into()) as u8;
             return self.party(code, party);
+        }
+        if let Some(party) = self.some_server(false).filter(|_| self.random.chance(mood.restart)) {
+            return self.party(8, party);
         }
         let idle = self.idle();
         if !idle.is_empty() && (self.rig.flight.is_empty() || self.random.chance(mood.begin)) {
@@ -273,30 +308,34 @@ impl<'a> Maker<'a> {
     }
 }
 
-pub const KINDS: u64 = 5;
+pub const KINDS: u64 = 6;
 
-/// List `number` of a seed: its input for `simulate` and the lines due. Of five in turn, one is calm, one has
-/// faults, one is adverse, one clears elements that readers want, and one has ties.
+/// List `number` of a seed: its input for `simulate` and the lines due. Of six in turn, one is calm, one has
+/// faults, one is adverse, one clears elements that readers want, one has ties, and in one servers crash and come
+/// back.
 pub fn list<'a>(random: &'a mut Random, number: u64, met: &'a mut Met) -> Maker<'a> {
     let kind = number % KINDS;
     let config = match kind {
         0 | 1 => config(random),
         2 => small(random, [1, 4], [1, 4]),
         3 => small(random, [0, 1], [3, 5]),
-        _ => small(random, [0, 2], [3, 6]),
+        4 => small(random, [0, 2], [3, 6]),
+        _ => small(random, [0, 2], [4, 8]),
     };
     let n = usize::from(config.n());
     let m = if random.chance(300) { random.within(n, 6 * n) } else { 512 };
-    of_kind(random, kind, met, &config, m)
+    of_kind(random, kind, met, &config, m, &[])
 }
 
-/// A list of this kind.
+/// A list of this kind. The codes and parties are of crashes and restarts that other boards share; they stand at
+/// even distances.
 pub fn of_kind<'a>(
     random: &'a mut Random,
     kind: u64,
     met: &'a mut Met,
     config: &Config,
     m: usize,
+    shared: &[(u8, u8)],
 ) -> Maker<'a> {
     let (n, mood) = (usize::from(config.n()), mood(random, kind));
     let events = random.within(40, 80 + 60 * n).min(400_000 / config.board_length());
@@ -304,9 +343,13 @@ pub fn of_kind<'a>(
     if kind == 1 && maker.random.chance(300) {
         maker.fill();
     }
+    let part = events / (shared.len() + 1);
     for event in 0..events {
         if kind == 4 && event % (20 * n) == 0 {
             maker.tie();
+        }
+        if let Some(shared) = shared.get(event / part).filter(|_| event % part == part - 1) {
+            maker.share(*shared);
         }
         maker.any();
     }
@@ -331,14 +374,19 @@ fn mood(random: &mut Random, kind: u64) -> Mood {
         lose: 0,
         double: random.pick(&[0, 20]),
         crash: 0,
+        restart: 0,
         junk: 20,
         adverse: kind >= 2 && random.chance(800),
         in_turn: random.chance(250),
         loose: random.chance(500),
     };
-    if kind != 1 {
-        return calm;
+    match kind {
+        1 => {
+            let (lose, double) = (random.below(60), random.below(200));
+            let (crash, restart) = (random.below(20), random.below(30));
+            Mood { lose, double, crash, restart, junk: 100, adverse: random.chance(300), ..calm }
+        }
+        5 => Mood { crash: random.within(5, 20), restart: random.within(20, 80), ..calm },
+        _ => calm,
     }
-    let (lose, double) = (random.below(60), random.below(200));
-    Mood { lose, double, crash: random.below(20), junk: 100, adverse: random.chance(300), ..calm }
 }

@@ -2,13 +2,9 @@
 
 use crate::lists::{list, Met};
 use crate::random::{config, Random};
-use crate::rig::copy;
+use crate::rig::{copy, copy_server};
 use coded_board::{Client, Config, Ended, Record, Refusal, Server, Tag};
 use std::fmt::Debug;
-
-fn copy_server(config: &Config, server: &Server) -> Server {
-    Server::from_parts(config, server.state(), server.store()).expect("a server's own bytes")
-}
 
 /// The same parties twice. Those of the second are made again from their bytes before each step.
 struct Twice {

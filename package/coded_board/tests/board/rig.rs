@@ -29,14 +29,21 @@ pub struct Unseen {
     pub to_crashed: usize,
     /// Reads that ask again.
     pub asked_again: usize,
+    /// Answers of servers that came back which a fresh one in their place would not give.
+    pub remembered: usize,
+    /// Operations that end by an answer of a server that came back.
+    pub ended_by_restarted: usize,
     pub most_in_flight: usize,
 }
 
 pub struct Rig {
     pub config: Config,
     pub m: usize,
+    start: Vec<u8>,
     pub servers: Vec<Server>,
     pub up: Vec<bool>,
+    /// For each server that came back, what one started afresh then would be now.
+    afresh: Vec<Option<Server>>,
     pub clients: Vec<Client>,
     pub flight: Vec<Record>,
     pub unseen: Unseen,
@@ -47,8 +54,9 @@ impl Rig {
         let servers =
             (1..=config.n()).map(|s| Server::fresh(config, s, start)).collect::<Result<Vec<_>, _>>()?;
         let clients = (1..=config.c()).map(|c| Client::fresh(config, c)).collect::<Result<Vec<_>, _>>()?;
-        let (up, flight, unseen) = (vec![true; servers.len()], vec![], Unseen::default());
-        Ok(Rig { config: config.clone(), m, servers, up, clients, flight, unseen })
+        let (up, afresh) = servers.iter().map(|_| (true, None)).unzip();
+        let (config, start, flight, unseen) = (config.clone(), start.to_vec(), vec![], Unseen::default());
+        Ok(Rig { config, m, start, servers, up, afresh, clients, flight, unseen })
     }
 
     /// How an operation ended, if one did, or the number of the first question answered no.
@@ -64,6 +72,7 @@ impl Rig {
             5 => self.double(position),
             6 => self.crash_server(event.party),
             7 => self.crash_client(event.party),
+            8 => self.restart_server(event.party),
             _ => Err(7),
         };
         self.unseen.most_in_flight = self.unseen.most_in_flight.max(self.flight.len());
@@ -108,6 +117,9 @@ impl Rig {
             return self.taken(position).map(|_| Ended::Nothing);
         }
         let answer = self.servers[place].step(&record).map_err(Refusal::number)?;
+        if let Some(fresh) = &mut self.afresh[place] {
+            self.unseen.remembered += usize::from(fresh.step(&record) != Ok(answer));
+        }
         self.taken(position)?;
         self.flight.push(answer);
         Ok(Ended::Nothing)
@@ -128,6 +140,8 @@ impl Rig {
         };
         self.room(self.flight.len() - 1 + step.sends.len())?;
         self.unseen.asked_again += usize::from(record.kind() == 9);
+        let came_back = self.afresh[usize::from(record.server()) - 1].is_some();
+        self.unseen.ended_by_restarted += usize::from(came_back && step.ended != Ended::Nothing);
         self.taken(position)?;
         self.clients[place] = client;
         self.flight.extend(step.sends);
@@ -158,12 +172,28 @@ impl Rig {
         Ok(Ended::Nothing)
     }
 
-    fn crash_server(&mut self, party: u8) -> Result<Ended, u8> {
-        let up = place(party).and_then(|place| self.up.get_mut(place)).ok_or(8)?;
-        if !*up {
-            return Err(9);
+    /// Questions 8 and 9: the place of a server that has to be up, or else down.
+    fn server(&self, party: u8, up: bool) -> Result<usize, u8> {
+        let place = place(party).filter(|place| *place < self.up.len()).ok_or(8)?;
+        if self.up[place] == up {
+            Ok(place)
+        } else {
+            Err(9)
         }
-        *up = false;
+    }
+
+    fn crash_server(&mut self, party: u8) -> Result<Ended, u8> {
+        let place = self.server(party, true)?;
+        self.up[place] = false;
+        Ok(Ended::Nothing)
+    }
+
+    /// It goes on from the very bytes that it had at the crash, as that of a host does which kept them.
+    fn restart_server(&mut self, party: u8) -> Result<Ended, u8> {
+        let place = self.server(party, false)?;
+        self.servers[place] = copy_server(&self.config, &self.servers[place]);
+        self.afresh[place] = Some(Server::fresh(&self.config, party, &self.start).map_err(Refusal::number)?);
+        self.up[place] = true;
         Ok(Ended::Nothing)
     }
 
@@ -191,6 +221,11 @@ fn place(party: u8) -> Option<usize> {
 pub fn copy(config: &Config, client: &Client) -> Client {
     Client::from_parts(config, client.state(), client.kept(), client.elements())
         .expect("a client's own bytes")
+}
+
+/// The server again, from its bytes.
+pub fn copy_server(config: &Config, server: &Server) -> Server {
+    Server::from_parts(config, server.state(), server.store()).expect("a server's own bytes")
 }
 
 /// An event's line, as the programs print it.

@@ -7,13 +7,14 @@ use crate::random::{made, Random};
 use crate::rig::Rig;
 use coded_board::{encode, Config, Record};
 
-/// Many ends, many open operations, some crashes.
+/// Many ends, many open operations, some crashes and restarts.
 const MOOD: Mood = Mood {
     begin: 60,
     write: 500,
     lose: 0,
     double: 30,
     crash: 12,
+    restart: 6,
     junk: 0,
     adverse: true,
     in_turn: false,

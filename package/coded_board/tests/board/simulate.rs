@@ -9,7 +9,7 @@ use std::path::PathBuf;
 use std::process::{Command, Stdio};
 
 const SEED: u64 = 20_260_802;
-const LISTS: u64 = 1500;
+const LISTS: u64 = 2400;
 
 fn program() -> PathBuf {
     let folder = PathBuf::from(env!("CARGO_MANIFEST_DIR"));
@@ -57,6 +57,8 @@ fn lines_are_those_of_simulate() {
         unseen.not_awaited += rig.unseen.not_awaited;
         unseen.to_crashed += rig.unseen.to_crashed;
         unseen.asked_again += rig.unseen.asked_again;
+        unseen.remembered += rig.unseen.remembered;
+        unseen.ended_by_restarted += rig.unseen.ended_by_restarted;
         unseen.most_in_flight = unseen.most_in_flight.max(rig.unseen.most_in_flight);
     }
     println!("{met:?} {unseen:?}");
@@ -74,6 +76,8 @@ fn enough(met: &Met, unseen: &Unseen) {
         unseen.not_awaited >= 5000 && unseen.to_crashed >= 500 && unseen.asked_again >= 200,
         "{unseen:?}"
     );
+    assert!(met.restarted >= 500 && met.restart_of_none >= 500 && met.restart_of_up >= 500, "{met:?}");
+    assert!(unseen.remembered >= 500 && unseen.ended_by_restarted >= 500, "{unseen:?}");
     assert_eq!(unseen.most_in_flight, 512);
 }
 
@@ -111,11 +115,25 @@ fn makings_are_refused_as_simulate_does() {
     assert!([1, 2, 3, 4, 5, 21].iter().all(|number| refused[*number] >= 10), "{refused:?}");
 }
 
+/// The lines of these codes, parties and positions in the configuration of the program `board`, which are held to
+/// those of `simulate`. A write is of byte 11, hexadecimal.
+fn lines_of(events: &[(u8, u8, u16)]) -> Vec<String> {
+    let config = Config::new(3, 1, 0, 1, 2, &[]).expect("the program's configuration");
+    let mut rig = Rig::fresh(&config, 64, &[0]).expect("a fresh rig");
+    let mut input = vec![3, 1, 0, 1, 2, 64, 0, 0, 0, 1, 0, 0, 0];
+    let mut lines = vec![];
+    for (code, party, position) in events.iter().copied() {
+        let event = Event { code, party, position, on: 1, board: vec![0x11], length: 1 };
+        input.extend(event.bytes());
+        lines.push(line(lines.len() + 1, &rig.event(&event)));
+    }
+    assert_eq!(differs(&printed(&input), &lines), None);
+    lines
+}
+
 /// Document 01's ten events, with its lines.
 #[test]
 fn the_ten_events_of_document_01() {
-    let config = Config::new(3, 1, 0, 1, 2, &[]).expect("the program's configuration");
-    let mut rig = Rig::fresh(&config, 64, &[0]).expect("a fresh rig");
     let events = [
         (2, 1, 0),
         (3, 0, 0),
@@ -128,12 +146,23 @@ fn the_ten_events_of_document_01() {
         (3, 0, 2),
         (1, 3, 0),
     ];
-    let lines: Vec<String> = (1..)
-        .zip(events)
-        .map(|(count, (code, party, position))| {
-            line(count, &rig.event(&Event { code, party, position, on: 1, board: vec![0], length: 0 }))
-        })
-        .collect();
     let due = "1 ok,2 ok,3 ok,4 ok,5 ok,6 ok,7 ok,8 ok,9 read 0 0 00,10 no 8";
-    assert_eq!(lines.join(","), due);
+    assert_eq!(lines_of(&events).join(","), due);
+}
+
+/// A write ends through servers 1 and 2; server 1 crashes and comes back; a read then ends through servers 1 and 3, and
+/// shows what was written, which server 1 alone of the two has.
+#[test]
+fn a_server_comes_back_with_what_it_stored() {
+    let hand_over = |positions: &[u16]| positions.iter().map(|p| (3, 0, *p)).collect::<Vec<_>>();
+    let events = [
+        vec![(1, 1, 0)],
+        hand_over(&[0, 0, 1, 1, 1, 1, 2, 2, 2, 2, 3, 3]),
+        vec![(6, 1, 0), (8, 1, 0), (2, 2, 0)],
+        hand_over(&[3, 4, 4, 4, 4, 5, 5, 5]),
+    ];
+    let lines = lines_of(&events.concat());
+    let ends = |line: &&String| !line.ends_with(" ok");
+    assert_eq!(lines.iter().filter(ends).collect::<Vec<_>>(), ["13 written 1 1", "24 read 1 1 11"]);
+    assert_eq!(lines.len(), 24);
 }

@@ -1,7 +1,7 @@
-//! The axis of time: a column for each event at which something begins, ends or crashes, each as far to the right as
-//! what is drawn before it needs.
+//! The axis of time: a column for each event at which something begins, ends, crashes or comes back, each as far to the
+//! right as what is drawn before it needs.
 
-use crate::history::{History, Party};
+use crate::history::History;
 use std::collections::{BTreeMap, BTreeSet};
 
 /// Something drawn from one event on, so wide at least; up to another event, if it has an end.
@@ -55,10 +55,13 @@ impl Axis {
     }
 }
 
-fn times(history: &History) -> BTreeSet<usize> {
+/// The events that have a column.
+pub fn times(history: &History) -> BTreeSet<usize> {
     let ends = history.operations.iter().filter_map(|operation| operation.end.as_ref().map(|end| end.time));
     let begins = history.operations.iter().map(|operation| operation.begin);
-    begins.chain(ends).chain(history.crashes.iter().map(|crash| crash.time)).collect()
+    let crashes = history.crashes.iter().map(|crash| crash.time);
+    let restarts = history.restarts.iter().map(|restart| restart.time);
+    begins.chain(ends).chain(crashes).chain(restarts).collect()
 }
 
 /// Where what is drawn of an operation has to end: at its end, or else at its client's next begin or crash.
@@ -68,7 +71,7 @@ pub fn closing(history: &History, place: usize) -> Option<usize> {
         return Some(end.time);
     }
     let next = history.operations[place + 1..].iter().find(|other| other.client == operation.client);
-    next.map(|next| next.begin).or_else(|| history.crash_of(Party::Client(operation.client)))
+    next.map(|next| next.begin).or_else(|| history.crash_of(operation.client))
 }
 
 #[cfg(test)]

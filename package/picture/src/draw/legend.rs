@@ -1,7 +1,7 @@
 //! What the marks of a picture mean; those that it has.
 
 use super::look::{text_width, Hue, MARGIN, ODD};
-use super::rows::{cross, mark, ragged};
+use super::rows::{cross, mark, ragged, triangle};
 use super::scene::Scene;
 use super::svg::{Rect, Svg};
 use crate::history::{Call, Operation};
@@ -19,6 +19,7 @@ enum Sample {
     Spent,
     Odd,
     Crash,
+    Restart,
 }
 
 /// Draws it from `top` on, in as many lines as it needs; where it ends.
@@ -49,6 +50,7 @@ fn samples(scene: &Scene) -> Vec<(Sample, &'static str)> {
         (any(&|o| o.is_spent()), Sample::Spent, "spent: in no order"),
         (any(&odd), Sample::Odd, "read of a board that nobody wrote"),
         (!scene.history.crashes.is_empty(), Sample::Crash, "crash"),
+        (!scene.history.restarts.is_empty(), Sample::Restart, "restart: goes on with what it had"),
     ];
     all.into_iter().filter(|(is, ..)| *is).map(|(_, sample, text)| (sample, text)).collect()
 }
@@ -65,5 +67,6 @@ fn draw_sample(svg: &mut Svg, sample: &Sample, x: i64, middle: i64) {
         Sample::Spent => svg.rect(at, &edged(super::look::GREY, r#" stroke-dasharray="4 3""#)),
         Sample::Odd => svg.rect(at, &edged(ODD, "")),
         Sample::Crash => cross(svg, x + 13, middle),
+        Sample::Restart => triangle(svg, x + 13, middle),
     }
 }

@@ -1,11 +1,11 @@
-//! The rows of the chart: the axis, a row for each client with its operations, and one for crashed servers.
+//! The rows of the chart: the axis, a row for each client with its operations, and one for the servers that crash.
 
 use super::axis::closing;
 use super::label::{words, Label};
 use super::look::{code_width, Hue, BAR, MARGIN, MARK};
-use super::scene::{mark_width, server_crashes, Scene, LEFT};
+use super::scene::{mark_width, server_turns, Scene, LEFT};
 use super::svg::{Rect, Svg};
-use crate::history::{Operation, Party};
+use crate::history::Operation;
 
 /// A client's row.
 const ROW: i64 = 48;
@@ -19,14 +19,14 @@ const TIMES: i64 = 22;
 /// Draws them from `top` on; where they end.
 pub fn draw(svg: &mut Svg, scene: &Scene, top: i64) -> i64 {
     let clients = scene.history.clients();
-    let servers = server_crashes(scene.history);
+    let servers = !server_turns(scene.history).is_empty();
     let rows = top + TIMES + clients.len() as i64 * ROW;
-    let bottom = rows + if servers.is_empty() { 0 } else { SERVERS };
+    let bottom = rows + if servers { SERVERS } else { 0 };
     draw_times(svg, scene, top, bottom);
     for (place, client) in clients.iter().enumerate() {
         draw_client(svg, scene, *client, top + TIMES + place as i64 * ROW);
     }
-    if !servers.is_empty() {
+    if servers {
         draw_servers(svg, scene, rows);
     }
     bottom
@@ -53,7 +53,7 @@ fn draw_client(svg: &mut Svg, scene: &Scene, client: u8, top: i64) {
         svg.text(MARGIN, middle + 13, r#"class="small""#, &format!("rank {rank}"));
     }
     let right = scene.axis.right;
-    let crash = scene.history.crash_of(Party::Client(client)).map(|time| (time, scene.axis.x(time)));
+    let crash = scene.history.crash_of(client).map(|time| (time, scene.axis.x(time)));
     let up = crash.map_or(right, |(_, x)| x);
     svg.line((LEFT, middle), (up, middle), r##"stroke="#c4c9d1" stroke-width="1.5""##);
     for (place, operation) in scene.history.operations.iter().enumerate() {
@@ -80,7 +80,7 @@ fn draw_operation(svg: &mut Svg, scene: &Scene, place: usize, middle: i64) {
     } else {
         let at = Rect { width: at.width - if closing.is_some() { 10 } else { 0 }, ..at };
         ragged(svg, at, &fill(operation, hue));
-        let crash = scene.history.crash_of(Party::Client(operation.client));
+        let crash = scene.history.crash_of(operation.client);
         if closing.is_some() && closing == crash && operation.is_write() {
             let look = format!(r#"stroke="{}" stroke-width="1.5" stroke-dasharray="2 5""#, hue.strong);
             svg.line((right + 10, middle), (scene.axis.right, middle), &look);
@@ -157,15 +157,21 @@ pub fn cross(svg: &mut Svg, x: i64, y: i64) {
     svg.path(&points, r##"fill="none" stroke="#c81e1e" stroke-width="2.6" stroke-linecap="round""##);
 }
 
+/// A restart: a triangle that points to what comes.
+pub fn triangle(svg: &mut Svg, x: i64, y: i64) {
+    let points = format!("M{} {}l10 6l-10 6Z", x - 4, y - 6);
+    svg.path(&points, r##"fill="#1a7f37" stroke="#1a7f37" stroke-width="1.5" stroke-linejoin="round""##);
+}
+
 fn draw_servers(svg: &mut Svg, scene: &Scene, top: i64) {
     let middle = top + SERVERS / 2;
     svg.text(MARGIN, middle + 5, r#"class="row""#, "servers");
     svg.line((LEFT, middle), (scene.axis.right, middle), r##"stroke="#e3e6ea" stroke-width="1.5""##);
-    for (crash, name) in server_crashes(scene.history) {
-        let x = scene.axis.x(crash.time);
-        svg.open(&format!("{name} crashes at event {}", crash.time));
-        cross(svg, x, middle);
-        svg.text(x + 11, middle - 5, r#"class="small""#, &name);
+    for turn in server_turns(scene.history) {
+        let (x, mark) = (scene.axis.x(turn.time), if turn.back { triangle } else { cross });
+        svg.open(&turn.words());
+        mark(svg, x, middle);
+        svg.text(x + 11, middle - 5, r#"class="small""#, &turn.name());
         svg.close();
     }
 }

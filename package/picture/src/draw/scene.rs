@@ -1,9 +1,9 @@
 //! What is to be drawn, and where it stands in time.
 
-use super::axis::{closing, Axis, Span};
+use super::axis::{closing, times, Axis, Span};
 use super::label::Label;
 use super::look::{tag_width, text_width, Hue, Hues, GREY, MARGIN};
-use crate::history::{Crash, History, Operation, Party};
+use crate::history::{History, Operation, Party};
 use crate::search::Found;
 
 pub struct Scene<'a> {
@@ -39,9 +39,8 @@ impl<'a> Scene<'a> {
             width: bar_width(label, *place) + if history.operations[i].end.is_none() { 16 } else { 0 },
         });
         let spans: Vec<Span> = bars.chain(server_spans(history)).collect();
-        let last =
-            history.crashes.iter().map(|crash| crash.time).chain(history.operations.iter().map(last_time));
-        let gap = GAP.max(tag_width(&last.max().unwrap_or(0).to_string()) + 8);
+        let last = times(history).last().copied().unwrap_or(0);
+        let gap = GAP.max(tag_width(&last.to_string()) + 8);
         let mut axis = Axis::new(history, &spans, LEFT + 12, gap);
         axis.widen(LEAST_WIDTH - MARGIN);
         Scene { history, found, hues: Hues::new(history), labels, places, axis }
@@ -60,10 +59,6 @@ impl<'a> Scene<'a> {
     }
 }
 
-fn last_time(operation: &Operation) -> usize {
-    operation.end.as_ref().map_or(operation.begin, |end| end.time)
-}
-
 /// The width of the mark with a place.
 pub fn mark_width(place: usize) -> i64 {
     (tag_width(&place.to_string()) + 8).max(18)
@@ -74,23 +69,43 @@ pub fn bar_width(label: &Label, place: Option<usize>) -> i64 {
     place.map_or(0, |place| mark_width(place) + 4) + label.width() + 14
 }
 
-/// The crashes of servers.
-pub fn server_crashes(history: &History) -> Vec<(Crash, String)> {
-    let named = |crash: &Crash| match crash.party {
-        Party::Server(server) => Some((*crash, format!("server {server}"))),
-        Party::Client(_) => None,
-    };
-    history.crashes.iter().filter_map(named).collect()
+/// A server's crash or restart.
+pub struct Turn {
+    pub time: usize,
+    pub server: u8,
+    /// Whether it comes back.
+    pub back: bool,
 }
 
-/// The name of each crashed server stands before the next one.
+impl Turn {
+    /// What stands beside it.
+    pub fn name(&self) -> String {
+        format!("server {}", self.server)
+    }
+
+    pub fn words(&self) -> String {
+        let does = if self.back { "restarts" } else { "crashes" };
+        format!("{} {does} at event {}", self.name(), self.time)
+    }
+}
+
+/// The crashes and restarts of servers, as they come.
+pub fn server_turns(history: &History) -> Vec<Turn> {
+    let crashes = history.crashes.iter().filter_map(|crash| match crash.party {
+        Party::Server(server) => Some(Turn { time: crash.time, server, back: false }),
+        Party::Client(_) => None,
+    });
+    let restarts = history.restarts.iter().map(|r| Turn { time: r.time, server: r.server, back: true });
+    let mut turns: Vec<Turn> = crashes.chain(restarts).collect();
+    turns.sort_by_key(|turn| turn.time);
+    turns
+}
+
+/// The name beside each of them stands before the next one.
 fn server_spans(history: &History) -> Vec<Span> {
-    let crashes = server_crashes(history);
-    let next = crashes.iter().skip(1).map(|(crash, _)| Some(crash.time)).chain([None]);
-    let span = |((crash, name), to): (&(Crash, String), Option<usize>)| Span {
-        from: crash.time,
-        to,
-        width: text_width(name, 11) + 24,
-    };
-    crashes.iter().zip(next).map(span).collect()
+    let turns = server_turns(history);
+    let next = turns.iter().skip(1).map(|turn| Some(turn.time)).chain([None]);
+    let span =
+        |(turn, to): (&Turn, _)| Span { from: turn.time, to, width: text_width(&turn.name(), 11) + 24 };
+    turns.iter().zip(next).map(span).collect()
 }

@@ -2,7 +2,7 @@
 
 use super::look::{code_width, tag_width, text_width};
 use super::picture;
-use crate::history::{Crash, History, Party};
+use crate::history::{Crash, History, Party, Restart};
 use crate::host;
 use crate::samples::{any_record, board_record, Draws};
 use crate::search::search;
@@ -213,6 +213,38 @@ fn crashes_ranks_and_open_ends_are_drawn() {
         assert!(svg.contains(part), "{part}");
     }
     apart(&svg);
+}
+
+/// Server 3 crashes and comes back three times, server 16 once. All of it is named in turn, and a picture without
+/// restarts has no triangle.
+#[test]
+fn servers_come_back_as_often_as_they_crash() {
+    let mut history = of("begin 1 read\nend 1 read 0 0 00\n");
+    history.crashes = [(3, 3), (4, 16), (6, 3), (9, 3)]
+        .map(|(time, server)| Crash { time, party: Party::Server(server) })
+        .to_vec();
+    let plain = drawn(&history, None);
+    history.restarts =
+        [(5, 3), (7, 3), (8, 16), (1000, 3)].map(|(time, server)| Restart { time, server }).to_vec();
+    let svg = drawn(&history, None);
+    apart(&svg);
+    let turns =
+        svg.lines().filter_map(|line| line.strip_prefix("<g><title>server ")?.strip_suffix("</title>"));
+    let due = [
+        "3 crashes at event 3",
+        "16 crashes at event 4",
+        "3 restarts at event 5",
+        "3 crashes at event 6",
+        "3 restarts at event 7",
+        "16 restarts at event 8",
+        "3 crashes at event 9",
+        "3 restarts at event 1000",
+    ];
+    assert_eq!(turns.collect::<Vec<_>>(), due);
+    let count = |svg: &str, part: &str| svg.matches(part).count();
+    assert_eq!((count(&svg, ">server 3<"), count(&svg, ">server 16<"), count(&svg, ">1000<")), (6, 2, 1));
+    assert_eq!((count(&svg, "l10 6l-10 6Z"), count(&plain, "l10 6l-10 6Z")), (5, 0), "one in the legend");
+    assert!(svg.contains(">restart: goes on") && !plain.contains("restart"));
 }
 
 #[test]

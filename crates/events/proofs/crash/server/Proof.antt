@@ -1,7 +1,7 @@
 use mathlib.Core.Path.{sym, _∙_}
 use borrow.Author.Needs.{needs}
 use borrow.Author.Tests.{not-true, not-false}
-use Rattle.events.proofs.crash.Laws.{server-crashed, server-missing}
+use Rattle.events.proofs.crash.Laws.{crash-missing, server-crashed}
 use Rattle.events.proofs.crash.server.Statement.{statement}
 use Rattle.events.proofs.crash.server.Tie as tie
 
@@ -17,7 +17,7 @@ refused-requires c κs = search needs
 returns : tie.Need-returns
 returns c =
     let a = c .before .before .before .before .args in
-    server-missing (a .cfg) (a .part) (a .call) (c .refused .result) (c .refused .ensures)
+    crash-missing (a .cfg) (a .part) (a .call) (c .refused .result) (c .refused .ensures)
     (sym (c .before .before .server-exists .ensures) ∙ not-true _ (c .before .if1 .taken))
 
 server-requires : tie.Need-server-requires

@@ -23,6 +23,9 @@ server-requires c κs = search needs
 client-requires : tie.Need-client-requires
 client-requires c κs = search needs
 
+server-requires-2 : tie.Need-server-requires-2
+server-requires-2 c κs = search needs
+
 refused-requires : tie.Need-refused-requires
 refused-requires c κs = search needs
 
@@ -71,8 +74,13 @@ returns-6 c read stores elements =
 
 returns-7 : tie.Need-returns-7
 returns-7 c read stores elements =
+    let a = c .before .before .before .before .before .args in
+    c .server2 .ensures (a .m) (now (a .board)) read (lent (now (a .messages)) stores (now (a .boards)) elements) (c .before .match .keys7)
+
+returns-8 : tie.Need-returns-8
+returns-8 c read stores elements =
     let k = c .before .match .rest in
-    none-such (c .refused .ensures) (k .0 .0 .0 .0 .0 .1) (k .0 .0 .0 .0 .1) (c .before .before .before .before .before .pre .code) (k .0 .0 .0 .1) (k .0 .0 .1) (k .0 .1) (k .1)
+    none-such (c .refused .ensures) (k .0 .0 .0 .0 .0 .0 .1) (k .0 .0 .0 .0 .0 .1) (c .before .before .before .before .before .pre .code) (k .0 .0 .0 .0 .1) (k .0 .0 .0 .1) (k .0 .0 .1) (k .0 .1) (k .1)
 
 pub other-spec : {M : Type 1} → statement M
 other-spec =
@@ -84,6 +92,7 @@ other-spec =
     double-requires
     server-requires
     client-requires
+    server-requires-2
     refused-requires
     same-length
     same-length-2
@@ -96,4 +105,5 @@ other-spec =
     returns-4
     returns-5
     returns-6
-    returns-7)
+    returns-7
+    returns-8)

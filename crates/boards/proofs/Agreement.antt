@@ -18,7 +18,7 @@ use Rattle.protocol.specs.Board.{refused}
 use Rattle.protocol.specs.Boards.{BoardAnswer, BoardCall, BoardEvent, BoardNetwork, BoardNetworkTurn, BoardRig, BoardTurn, decode, encode, fitsIn, freshRig, networkEvent, order}
 use Rattle.protocol.specs.Network.{On, boardExists, eventsOf, isOf, namesBoard, rigOf}
 use Rattle.protocol.specs.Rig.{Code, codeOf}
-use Rattle.protocol.proofs.Agreement.{own-among, ownAmong}
+use Rattle.protocol.proofs.Agreement.{answers-append, calls-append, no-13-first, no-13-rest, own-among, ownAmong}
 use Rattle.protocol.proofs.Alone.{Agrees, every-event, every-names, other-event, own-event}
 use Rattle.protocol.proofs.NetworkRuns.{events-append, fresh-rig}
 use Rattle.parties.specs.Acts.{answerOf}
@@ -63,17 +63,6 @@ module _ (cfg : Config) where
   unfolding leftBy answersBy
   answers-more v [] ys = refl
   answers-more v (x ∷ xs) ys = ap (λ rest. turnBy v x .answer ∷ rest) (answers-more (turnBy v x .rig) xs ys)
-
--- none of two lists of answers is 13
-no-13-first : (xs ys : List BoardAnswer) → No13 (xs ++ ys) → No13 xs
-unfolding No13
-no-13-first [] ys h = tt
-no-13-first (x ∷ xs) ys h = (h .0, no-13-first xs ys (h .1))
-
-no-13-rest : (xs ys : List BoardAnswer) → No13 (xs ++ ys) → No13 ys
-unfolding No13
-no-13-rest [] ys h = h
-no-13-rest (x ∷ xs) ys h = no-13-rest xs ys (h .1)
 
 -- ---- a list of events
 
@@ -177,28 +166,11 @@ module _ (cfg : Config) (room : Room) (start : List ℕ) (b : ℕ) (exists : wit
       by true = refl
       by false = refl
 
-  -- with those of the crashes and restarts
-  one-more-for : (events : List (On BoardEvent)) (x : On BoardEvent)
-      → answersFor b (events ++ (x ∷ [])) ≡ answersFor b events ++ cond (concerns b (callIn x)) (x .it .answer ∷ []) []
-  unfolding answersFor
-  one-more-for [] x = refl
-  one-more-for (y ∷ events) x =
-      by (one-more-for events x) (concerns b (callIn y))
-    where
-      last : List BoardAnswer
-      last = cond (concerns b (callIn x)) (x .it .answer ∷ []) []
-
-      by : answersFor b (events ++ (x ∷ [])) ≡ answersFor b events ++ last → (t : Bool)
-          → cond t (y .it .answer ∷ answersFor b (events ++ (x ∷ []))) (answersFor b (events ++ (x ∷ [])))
-          ≡ cond t (y .it .answer ∷ answersFor b events) (answersFor b events) ++ last
-      by rest true = ap (λ ys. y .it .answer ∷ ys) rest
-      by rest false = rest
-
   -- Along a list in which it meets no 13, a board comes to what it comes to by itself, and answers what it answers by itself.
   pub by-itself : {r : Rig} {l : Lent} {events : List (On BoardEvent)} (runs : Runs cfg room start r l events) → No13 (answersOf b events)
       → (rigOf b (view cfg room r l) ≡ leftBy cfg (freshRig cfg (startOf cfg start b)) (handedFor b runs))
       × (answersFor b events ≡ answersBy cfg (freshRig cfg (startOf cfg start b)) (handedFor b runs))
-  unfolding handedFor
+  unfolding handedFor answersFor
   by-itself (made bytes p e) not = (
     unfold leftBy in ap (rigOf b) (p .seen (sym (p .number) ∙ e)) ∙ fresh-rig cfg room (encode cfg) (startOf cfg start) b exists,
     unfold answersFor answersBy in refl,
@@ -213,23 +185,13 @@ module _ (cfg : Config) (room : Room) (start : List ℕ) (b : ℕ) (exists : wit
       let before = by-itself runs (no-13-first (answersOf b events) (answered runs a read mine) none) in
       let here = step-is runs a read (no-13-rest (answersOf b events) (answered runs a read mine) none) in (
         ap (rigOf b) (p .seen) ∙ here .0 ∙ ap (λ v. leftBy cfg v now) (before .0) ∙ sym (left-more cfg begun (handedFor b runs) now),
-        one-more-for events x
+        answers-append b events (x ∷ [])
             ∙ ap (λ z. answersFor b events ++ cond (concerns b a) (z ∷ []) []) (p .answer)
             ∙ ap₂ _++_ (before .1) (here .1 ∙ ap (λ v. answersBy cfg v now) (before .0))
             ∙ sym (answers-more cfg begun (handedFor b runs) now),
       )
 
 -- the calls of what was handed in are those of the events
-calls-append : (b : ℕ) (xs ys : List (On BoardCall)) → callsFor b (xs ++ ys) ≡ callsFor b xs ++ callsFor b ys
-unfolding callsFor
-calls-append b [] ys = refl
-calls-append b (x ∷ xs) ys = by (calls-append b xs ys) (concerns b x)
-  where
-    by : callsFor b (xs ++ ys) ≡ callsFor b xs ++ callsFor b ys → (t : Bool)
-        → cond t (x .it ∷ callsFor b (xs ++ ys)) (callsFor b (xs ++ ys)) ≡ cond t (x .it ∷ callsFor b xs) (callsFor b xs) ++ callsFor b ys
-    by rest true = ap (λ zs. x .it ∷ zs) rest
-    by rest false = rest
-
 handed-calls : {cfg : Config} {room : Room} {start : List ℕ} {r : Rig} {l : Lent} {events : List (On BoardEvent)} (b : ℕ) (runs : Runs cfg room start r l events)
     → map (λ x. x .0) (handedFor b runs) ≡ callsFor b (map callIn events)
 unfolding handedFor callsFor

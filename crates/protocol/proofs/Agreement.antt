@@ -5,7 +5,7 @@ use Prim.Native.Nat.{ℕ}
 use mathlib.Core.Path.{_≡_, refl, sym, ap, ap₂, subst, _∙_}
 use mathlib.Core.Bool.{Bool, true, false, cond, _&&_, false≢true}
 use mathlib.Core.Option.{Option}
-use mathlib.Core.List.{List, [], _∷_, map}
+use mathlib.Core.List.{List, [], _∷_, _++_, map}
 use lib.Dec.{eqb}
 use borrow.Author.Tests.{eqb-true}
 use Rattle.config.specs.declared.Config.{Config}
@@ -44,6 +44,38 @@ module _ {Value : Type 0} where
       by rest false true true c d = rw d (ap (λ ys. x .it .answer ∷ ys) rest)
       by rest false true false c d = rest
       by rest false false mine c d = rest
+
+  -- ---- two lists, one behind the other
+
+  pub calls-append : (b : ℕ) (xs ys : List (On (Call Value))) → callsFor b (xs ++ ys) ≡ callsFor b xs ++ callsFor b ys
+  unfolding callsFor
+  calls-append b [] ys = refl
+  calls-append b (x ∷ xs) ys = by (calls-append b xs ys) (concerns b x)
+    where
+      by : callsFor b (xs ++ ys) ≡ callsFor b xs ++ callsFor b ys → (t : Bool)
+          → cond t (x .it ∷ callsFor b (xs ++ ys)) (callsFor b (xs ++ ys)) ≡ cond t (x .it ∷ callsFor b xs) (callsFor b xs) ++ callsFor b ys
+      by rest true = ap (λ zs. x .it ∷ zs) rest
+      by rest false = rest
+
+  pub answers-append : (b : ℕ) (xs ys : List (On (Event Value))) → answersFor b (xs ++ ys) ≡ answersFor b xs ++ answersFor b ys
+  unfolding answersFor
+  answers-append b [] ys = refl
+  answers-append b (x ∷ xs) ys = by (answers-append b xs ys) (concerns b (callIn x))
+    where
+      by : answersFor b (xs ++ ys) ≡ answersFor b xs ++ answersFor b ys → (t : Bool)
+          → cond t (x .it .answer ∷ answersFor b (xs ++ ys)) (answersFor b (xs ++ ys)) ≡ cond t (x .it .answer ∷ answersFor b xs) (answersFor b xs) ++ answersFor b ys
+      by rest true = ap (λ zs. x .it .answer ∷ zs) rest
+      by rest false = rest
+
+  pub no-13-first : (xs ys : List (Answer Value)) → No13 (xs ++ ys) → No13 xs
+  unfolding No13
+  no-13-first [] ys h = tt
+  no-13-first (x ∷ xs) ys h = (h .0, no-13-first xs ys (h .1))
+
+  pub no-13-rest : (xs ys : List (Answer Value)) → No13 (xs ++ ys) → No13 ys
+  unfolding No13
+  no-13-rest [] ys h = h
+  no-13-rest (x ∷ xs) ys h = no-13-rest xs ys (h .1)
 
 -- ---- along a list
 

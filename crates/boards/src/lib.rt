@@ -3,6 +3,8 @@
 // and the servers' stores, the boards that clients keep to write and the elements that they have received, joined board by board, and of
 // each board as a rig of one board has them. An event is that of a rig of one board, on the parties of the board that it names. Every
 // function is proved, nothing is assumed, and no public function has a `requires`.
+#![tactic(auto)]
+
 mod crash_or_restart;
 mod fresh;
 mod named;
@@ -22,7 +24,7 @@ use config::{Config, Refusal, Room, Verdict};
 use parties::{Answer, Node};
 
 // The parties of one board. Server s and client c stand in the places s - 1 and c - 1; the places past N and C are not in use.
-#[derive(Drop)]
+#[derive(Clone, Copy)]
 pub struct OneBoard {
     pub servers: [Node; 16],
     pub clients: [client::State; 16],
@@ -30,7 +32,7 @@ pub struct OneBoard {
 
 // Board b stands in the place b - 1; the places past the number of boards are not in use. `count` records are in flight, the first of the
 // messages.
-#[derive(Drop)]
+#[derive(Clone, Copy)]
 pub struct Rig {
     pub boards: [OneBoard; 8],
     pub count: usize,
@@ -39,7 +41,7 @@ pub struct Rig {
 // An event as it is called: its code, the party's number, a message's position among those of the board that is named, this board's number, and
 // the length of the board handed in, each of any value. A crash, a restart and an unknown event don't look at the board's number, and the length
 // is that of a write.
-#[derive(Drop)]
+#[derive(Clone, Copy)]
 pub struct Call {
     pub code: u8,
     pub party: u8,
@@ -49,21 +51,21 @@ pub struct Call {
 }
 
 // What the making of a rig leaves.
-#[derive(Drop)]
+#[derive(Clone, Copy)]
 pub struct Made {
     pub verdict: Verdict,
     pub rig: Rig,
 }
 
 // What an event leaves.
-#[derive(Drop)]
+#[derive(Clone, Copy)]
 pub struct Turn {
     pub answer: Answer,
     pub rig: Rig,
 }
 
 // The lengths of the buffers lent to a rig.
-#[derive(Drop)]
+#[derive(Clone, Copy)]
 pub struct Sizes {
     pub messages: usize,
     pub owners: usize,

@@ -13,7 +13,7 @@ use record::{Header, Kind};
 use tag::Tag;
 
 // What an answer is to a client.
-#[derive(Drop)]
+#[derive(Clone, Copy)]
 pub(crate) enum Awaited {
     // It is awaited.
     Answer(Taken),
@@ -22,7 +22,7 @@ pub(crate) enum Awaited {
 }
 
 // How an awaited answer is taken.
-#[derive(Drop)]
+#[derive(Clone, Copy)]
 pub(crate) enum Taken {
     // It tells that the element was cleared, and is not counted.
     Cleared,

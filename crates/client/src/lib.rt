@@ -1,5 +1,7 @@
 // A client: its state by value; the board that it writes, the elements that it has received, its sends and a read's board lent by the
 // host. Every function is proved, nothing is assumed, and no public function has a `requires`.
+#![tactic(auto)]
+
 ghost use Rattle.std.specs.Prelude.{List, ◌≡◌, ℕ};
 ghost use Rattle.std.proofs.Math.Option.{none, some};
 ghost use Rattle.config.specs.Questions.{first_no};
@@ -31,7 +33,7 @@ mod show;
 mod zeros;
 
 // Where a client stands in its operation. A set of servers is the bits of a number: bit s is server s.
-#[derive(Drop)]
+#[derive(Clone, Copy)]
 pub enum Phase {
     Idle,
     // It writes or reads; the highest tag answered so far; the servers counted.
@@ -60,7 +62,7 @@ pub enum Phase {
 // A client: its own number, its operation number, its phase, the length of the board that it keeps to write, in use while it asks to write,
 // and the lengths sent with the elements that it has received, that of server s at s - 1, in use while it finalises a read, of the servers
 // that sent one.
-#[derive(Drop)]
+#[derive(Clone, Copy)]
 pub struct State {
     pub me: Client,
     pub operation: u32,
@@ -70,7 +72,7 @@ pub struct State {
 }
 
 // How an operation ends, if a call ends it. What a read shows is in the lent board: so many bytes, zeros after.
-#[derive(Drop)]
+#[derive(Clone, Copy)]
 pub enum Ended {
     Nothing,
     Written(Tag),
@@ -79,7 +81,7 @@ pub enum Ended {
 }
 
 // What a call leaves: its verdict, the client, how many records stand at the front of the sends, and how the operation ended.
-#[derive(Drop)]
+#[derive(Clone, Copy)]
 pub struct Moved {
     pub verdict: Verdict,
     pub state: State,
@@ -88,7 +90,7 @@ pub struct Moved {
 }
 
 // A fresh client, and the verdict of its making. Where that is a refusal, the client is of no use.
-#[derive(Drop)]
+#[derive(Clone, Copy)]
 pub struct NewState {
     pub verdict: Verdict,
     pub state: State,
@@ -157,7 +159,7 @@ pub fn begin_write(
     if no != 0 {
         return refused(state, no);
     }
-    bytes::copy(board, kept);
+    copies::copy(board, kept);
     zeros::cut(length, kept);
     send::announce(cfg, begun(state, true, length), kept, sends)
 }

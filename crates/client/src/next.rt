@@ -9,7 +9,7 @@ use super::{Ended, HIGHEST_NUMBER, Phase, State, servers};
 use config::{Client, Config};
 use tag::Tag;
 
-#[derive(Drop)]
+#[derive(Clone, Copy)]
 pub(crate) enum Move {
     // It waits for more answers.
     Waits,

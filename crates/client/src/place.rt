@@ -14,7 +14,7 @@ pub(crate) fn place(src: &[u8], from: usize, n: usize, dst: &mut [u8], at: usize
     ensures { dst.new ≡ over at n (taken n (drop from src.now)) dst.old }
 {
     let end = from + n;
-    bytes::copy(&src[from..end], &mut dst[at..]);
+    copies::copy(&src[from..end], &mut dst[at..]);
 }
 
 // Puts the element of an answer, if it has one, in its server's place.

@@ -18,7 +18,7 @@ use record::{Header, Reading};
 use tag::Tag;
 
 // The lengths of the buffers that a step is lent.
-#[derive(Drop)]
+#[derive(Clone, Copy)]
 pub(crate) struct Sizes {
     pub kept: usize,
     pub elements: usize,
@@ -27,7 +27,7 @@ pub(crate) struct Sizes {
 }
 
 // What the first questions of a step tell.
-#[derive(Drop)]
+#[derive(Clone, Copy)]
 pub(crate) enum Asked {
     // The number of the first that is answered no.
     No(u8),

@@ -12,7 +12,7 @@ use record::{Header, Kind};
 use tag::Tag;
 
 // What goes to each server alike, whether each gets its element of a board, and that board's length.
-#[derive(Drop)]
+#[derive(Clone, Copy)]
 pub(crate) struct Broadcast {
     pub kind: Kind,
     pub me: Client,
@@ -84,7 +84,7 @@ fn cut_to_each(cfg: Config, b: Broadcast, board: &[u8], whole: &mut [u8], sends:
     requires { (ToEachPre cfg b board.now sends.old) × (length whole.old ≡ length board.now) }
     ensures { sends.new ≡ records_of cfg (broadcast cfg b (cut b.length board.now)) }
 {
-    bytes::copy(board, whole);
+    copies::copy(board, whole);
     zeros::cut(b.length, whole);
     to_each(cfg, b, whole, sends);
 }

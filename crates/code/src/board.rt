@@ -21,7 +21,7 @@ pub(crate) fn decode(cfg: Config, servers: &[u8], elements: &[u8], buffer: &mut 
 {
     let e = cfg.e;
     if cfg.k == 1 {
-        bytes::copy(&elements[0..e], buffer);
+        copies::copy(&elements[0..e], buffer);
         return;
     }
     interpolate(cfg, servers, elements, buffer);

@@ -56,7 +56,7 @@ fn group(g: usize, square: &[[u8; 16]; 16], choices: &mut [u8])
     while digit < 8 {
         let lanes = chosen(a, b, c, d);
         let at = 64 * digit + 16 * g;
-        bytes::copy(&lanes, &mut choices[at..at + 16]);
+        copies::copy(&lanes, &mut choices[at..at + 16]);
         let half = halved(a);
         a = half;
         let half = halved(b);

@@ -7,7 +7,7 @@ ghost use Rattle.code.specs.inner.Combine.{CombinePost, CombinePre, EachPost, Ea
 use config::Config;
 
 // Where combinations go: so many, the first at the offset, each a distance from the one before.
-#[derive(Drop)]
+#[derive(Clone, Copy)]
 pub(crate) struct Places {
     pub count: usize,
     pub offset: usize,
@@ -139,7 +139,7 @@ pub(crate) fn all(cfg: Config, x: &[u8], choices: &[u8; 512], places: Places, bu
     ensures { CombinePost cfg x.now choices.now places buffer.old buffer.new }
 {
     let mut rows = [0u8; 1024];
-    bytes::copy(x, &mut rows);
+    copies::copy(x, &mut rows);
     let mut table = [0u8; 4096];
     crate::subsets::fill(cfg.e, &rows, &mut table);
     each(cfg.k, cfg.e, choices, &table, places, buffer);

@@ -12,7 +12,7 @@ pub(crate) fn encode(cfg: Config, board: &[u8], s: u8, part: &mut [u8])
     ensures { part.new ≡ element cfg board.now s }
 {
     let mut at = board.len() - cfg.e;
-    bytes::copy(&board[at..], part);
+    copies::copy(&board[at..], part);
     while 0 < at {
         at -= cfg.e;
         crate::row::step(part, s, &board[at..at + cfg.e]);

@@ -1,5 +1,7 @@
 // The code of document 01: the elements of a board, and the board of any k of its elements. Every function is proved, nothing is
 // assumed, and no public function has a `requires`.
+#![tactic(auto)]
+
 ghost use Rattle.code.specs.Decode.{DecodePost};
 ghost use Rattle.code.specs.Encode.{EncodePost};
 ghost use Rattle.code.specs.EncodeAll.{EncodeAllPost};

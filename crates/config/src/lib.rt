@@ -1,6 +1,8 @@
 // The configuration of document 01, with the ranks of document 02, and the boards' shares of the messages in flight: its questions 1 to 5, 21
 // and 22, the quorum, the lengths of buffers, the numbers of servers and clients, and the names of the refusals. Every function is proved,
 // nothing is assumed, and no public function has a `requires`.
+#![tactic(auto)]
+
 ghost use Rattle.std.specs.Prelude.{[], ◌∷◌, ◌++◌, ◌≡◌, min, ◌≤◌, leb};
 ghost use Rattle.config.specs.Config.{most_clients, questions, questions_to5, quorum_of, rank as rank_of, ranks_within, rig_questions};
 ghost use Rattle.config.specs.Lengths.{lengths_of, messages_length};
@@ -39,7 +41,7 @@ const LAST_QUESTION: u8 = 28;
 // N servers, numbered from 1; the elements of any k of them give a board back; a server keeps D tags besides the newest;
 // an element has E bytes; C clients, numbered from 1; the rank of client 1 is the first of the ranks, and those past C are not looked at. The
 // numbers may have any value: the questions are asked of them.
-#[derive(Drop)]
+#[derive(Clone, Copy)]
 pub struct Config {
     pub n: usize,
     pub k: usize,
@@ -51,7 +53,7 @@ pub struct Config {
 
 // The messages in flight: at most M; so many boards share them, numbered from 1, and each has a guaranteed share, that of board 1 first. Shares
 // past the boards are not looked at. The numbers may have any value.
-#[derive(Drop)]
+#[derive(Clone, Copy)]
 pub struct Room {
     pub m: usize,
     pub boards: usize,
@@ -181,7 +183,7 @@ fn messages_length(m: usize) -> usize
 
 // The bytes of a board, of a server's store, of a client's sends, of the elements that a client has received, and of the
 // messages in flight.
-#[derive(Drop)]
+#[derive(Clone, Copy)]
 pub struct Lengths {
     pub board: usize,
     pub store: usize,
@@ -270,11 +272,11 @@ fn within(low: usize, high: usize, x: usize) -> bool
 }
 
 // A server's number, 1 to N of the configuration that it was made for.
-#[derive(Drop)]
+#[derive(Clone, Copy)]
 pub struct Server(u8);
 
 // A client's number, 1 to C of the configuration that it was made for.
-#[derive(Drop)]
+#[derive(Clone, Copy)]
 pub struct Client(u8);
 
 // The first server, which every configuration has.
@@ -283,13 +285,13 @@ pub const FIRST_SERVER: Server = Server(1);
 // The first client, which every configuration has.
 pub const FIRST_CLIENT: Client = Client(1);
 
-#[derive(Drop)]
+#[derive(Clone, Copy)]
 pub enum NewServer {
     Made(Server),
     No(Refusal),
 }
 
-#[derive(Drop)]
+#[derive(Clone, Copy)]
 pub enum NewClient {
     Made(Client),
     No(Refusal),
@@ -335,7 +337,7 @@ impl Client {
 
 // What the questions are about: a refusal names the first that was answered no. 1 to 18, without 15, are document 01's; 19 to 28 are document
 // 02's.
-#[derive(Drop)]
+#[derive(Clone, Copy)]
 pub enum Refusal {
     // 1: N is out of range.
     Servers,
@@ -474,7 +476,7 @@ impl Refusal {
 }
 
 // The answer of a call that gives nothing else back.
-#[derive(Drop)]
+#[derive(Clone, Copy)]
 pub enum Verdict {
     Accepted,
     No(Refusal),

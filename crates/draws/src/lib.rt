@@ -1,22 +1,24 @@
 // The draws of document 02's load: xorshift of 32 bits, from a seed. Every function is proved, nothing is assumed, and no public function
 // has a `requires`.
+#![tactic(auto)]
+
 ghost use Rattle.std.specs.Prelude.{◌≡◌};
 ghost use Rattle.draws.specs.Draws.{NewGeneratorPost, after, default_seed, draw};
 
 use config::Refusal;
 
 // The seed, or the last draw.
-#[derive(Drop)]
+#[derive(Clone, Copy)]
 pub struct Generator(u32);
 
-#[derive(Drop)]
+#[derive(Clone, Copy)]
 pub enum NewGenerator {
     Made(Generator),
     No(Refusal),
 }
 
 // A draw, and the generator that goes on from it.
-#[derive(Drop)]
+#[derive(Clone, Copy)]
 pub struct Next {
     pub draw: u32,
     pub generator: Generator,

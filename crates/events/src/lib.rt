@@ -2,6 +2,8 @@
 // event names, and `changes` is the event on it, for whoever keeps a rig in place. Beside the part four buffers are lent to each call: the
 // messages in flight (80 × M), the servers' stores, the boards that clients keep to write and the elements that they have received, each
 // the parties' parts joined in order of their numbers. Every function is proved, nothing is assumed, and no public function has a `requires`.
+#![tactic(auto)]
+
 mod begin;
 mod crash;
 mod deliver;
@@ -25,7 +27,7 @@ use parties::{Answer, Node, Pair};
 
 // Server s and client c stand in the places s - 1 and c - 1; the places past N and C are not in use. A client that is down says so
 // itself. `count` records are in flight, the first of the messages.
-#[derive(Drop)]
+#[derive(Clone, Copy)]
 pub struct Rig {
     pub servers: [Node; 16],
     pub clients: [client::State; 16],
@@ -34,7 +36,7 @@ pub struct Rig {
 
 // An event as it is called: its code, the party's number, a message's position and the length of the board handed in, each of any value.
 // The length is that of a write; with another event it is not looked at.
-#[derive(Drop)]
+#[derive(Clone, Copy)]
 pub struct Call {
     pub code: u8,
     pub party: u8,
@@ -43,14 +45,14 @@ pub struct Call {
 }
 
 // The places of a server and of a client.
-#[derive(Drop)]
+#[derive(Clone, Copy)]
 pub struct Places {
     pub server: usize,
     pub client: usize,
 }
 
 // What an event can touch of a rig: one server and one client, with their places, and how many records are in flight.
-#[derive(Drop)]
+#[derive(Clone, Copy)]
 pub struct Part {
     pub server: usize,
     pub client: usize,
@@ -74,14 +76,14 @@ impl Part {
 }
 
 // What an event changes: the part that it can touch, as it leaves it. All else of the rig stays.
-#[derive(Drop)]
+#[derive(Clone, Copy)]
 pub struct Change {
     pub answer: Answer,
     pub part: Part,
 }
 
 // An event of a party that names no board: a server or a client crashes, or a server is started again.
-#[derive(Drop)]
+#[derive(Clone, Copy)]
 pub enum CrashOrRestart {
     CrashServer,
     CrashClient,
@@ -108,14 +110,14 @@ impl CrashOrRestart {
 }
 
 // What an event leaves.
-#[derive(Drop)]
+#[derive(Clone, Copy)]
 pub struct Turn {
     pub answer: Answer,
     pub rig: Rig,
 }
 
 // The lengths of the buffers lent to a rig.
-#[derive(Drop)]
+#[derive(Clone, Copy)]
 pub struct Sizes {
     pub messages: usize,
     pub stores: usize,

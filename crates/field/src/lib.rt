@@ -1,5 +1,7 @@
 // The field of 256 elements: the product by tables of the powers of 2 and of logarithms, the inverse, and doubling. Every
 // function is proved and total: none that is `pub` has a `requires`, and nothing is assumed.
+#![tactic(auto)]
+
 ghost use Rattle.std.specs.Prelude.{◌≡◌};
 ghost use Rattle.field.specs.Field.{double, inverse_of, times};
 

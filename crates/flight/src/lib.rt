@@ -3,6 +3,8 @@
 // no room for those that come, all is as it was.
 // Records can also be written in place, into `&mut messages[80 * count..]`: proofs/Laws says what the records then are (`records_written`).
 // `owners` is of the records' boards, which stand beside them.
+#![tactic(auto)]
+
 pub mod owners;
 
 ghost use Rattle.std.specs.Prelude.{◌≡◌, ◌-◌, ◌≤◌, length, drop};
@@ -38,7 +40,7 @@ pub fn take(count: usize, position: usize, messages: &[u8]) -> [u8; RECORD]
     }
     let from = RECORD * position;
     let end = from + RECORD;
-    bytes::copy(&messages[from..end], &mut bytes);
+    copies::copy(&messages[from..end], &mut bytes);
     bytes
 }
 
@@ -74,7 +76,7 @@ pub fn append(count: usize, records: &[u8], messages: &mut [u8]) -> usize
         return count;
     }
     let from = RECORD * count;
-    bytes::copy(records, &mut messages[from..]);
+    copies::copy(records, &mut messages[from..]);
     count + more
 }
 

@@ -10,7 +10,7 @@ pub(crate) fn server(state: server::State, out: &mut [u8])
     ensures { serverBytes.PackPost state out.new }
 {
     let packed = servers::pack(state);
-    bytes::copy(&packed, out);
+    copies::copy(&packed, out);
 }
 
 pub(crate) fn client(state: client::State, out: &mut [u8])
@@ -18,5 +18,5 @@ pub(crate) fn client(state: client::State, out: &mut [u8])
     ensures { clientBytes.PackPost state out.new }
 {
     let packed = clients::pack(state);
-    bytes::copy(&packed, out);
+    copies::copy(&packed, out);
 }

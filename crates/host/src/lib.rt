@@ -2,6 +2,8 @@
 // the bytes of `states`. Each call is that of a crate below, and answers the refusal's number, or 0; on a refusal every buffer and every lent
 // number is as it was. What a call is lent to write overlaps nothing else that it is handed: the language sees to that for its own callers,
 // and a host in C has to. Every function is proved, nothing is assumed, and no public function has a `requires`.
+#![tactic(auto)]
+
 mod keep;
 mod outcome;
 mod told;
@@ -238,7 +240,7 @@ pub extern "C" fn coded_client_step(
     let ended = after.ended;
     keep::client(left, state);
     let tells = outcome::pack(ended, after.sent);
-    bytes::copy(&tells, outcome);
+    copies::copy(&tells, outcome);
     0
 }
 

@@ -8,20 +8,20 @@ use states::{clients, servers};
 // The bytes of a configuration: N, k, D, E and C, and the ranks of 16 clients.
 pub(crate) const CONFIG: usize = 21;
 
-#[derive(Drop)]
+#[derive(Clone, Copy)]
 pub(crate) struct Configured {
     pub(crate) no: u8,
     pub(crate) cfg: Config,
 }
 
-#[derive(Drop)]
+#[derive(Clone, Copy)]
 pub(crate) struct OfServer {
     pub(crate) no: u8,
     pub(crate) cfg: Config,
     pub(crate) state: server::State,
 }
 
-#[derive(Drop)]
+#[derive(Clone, Copy)]
 pub(crate) struct OfClient {
     pub(crate) no: u8,
     pub(crate) cfg: Config,
@@ -36,7 +36,7 @@ pub(crate) fn read(bytes: &[u8]) -> Configured
         return Configured { no: 6, cfg: LEAST };
     }
     let mut ranks = [0u8; 16];
-    bytes::copy(&bytes[5..], &mut ranks);
+    copies::copy(&bytes[5..], &mut ranks);
     let cfg = Config {
         n: wide(bytes[0]),
         k: wide(bytes[1]),

@@ -2,6 +2,8 @@
 // program board's loop. Its contract says that the calls are those of the records in turn, that a list of events (`Runs`) goes on by them,
 // and that the lines are those of its answers. `several::event` is one record of simulate's, which names one of several boards, and its line.
 // Every function is proved, nothing is assumed, and no public function has a `requires`.
+#![tactic(auto)]
+
 mod answer;
 mod event;
 pub mod several;
@@ -37,7 +39,7 @@ pub const PROGRAM_RECORD: usize = 7;
 
 // What running a block leaves: the rig, the count of the next event, how many bytes of the input were taken, and how many of the output
 // are in use.
-#[derive(Drop)]
+#[derive(Clone, Copy)]
 pub struct Ran {
     pub rig: Rig,
     pub count: u64,

@@ -10,7 +10,7 @@ use super::event;
 use config::{Config, Room};
 
 // What an event leaves: the rig, and how many bytes of the output are in use.
-#[derive(Drop)]
+#[derive(Clone, Copy)]
 pub struct Said {
     pub rig: boards::Rig,
     pub used: usize,

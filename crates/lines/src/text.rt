@@ -9,7 +9,7 @@ pub(crate) fn word(w: &[u8], out: &mut [u8], at: usize) -> usize
     requires { at + length w.now ≤ length out.old }
     ensures { Appended out.old at w.now out.new result }
 {
-    at + bytes::copy(w, &mut out[at..])
+    at + copies::copy(w, &mut out[at..])
 }
 
 // A number's decimal digits.

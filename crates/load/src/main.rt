@@ -4,6 +4,8 @@
 // Every function is proved to be safe and to end, but for reading and writing, whose C functions' contracts are assumed. Of what is read and
 // written no contract can say anything. What is proved besides: the blocks are the load's records in turn. That each is written once, and all
 // of them, is tested.
+#![tactic(auto)]
+
 ghost use Rattle.std.specs.Prelude.{◌-◌, ◌≤◌, min, cond, not, ◌&&◌, ◌≡◌, eqb, length, take};
 ghost use Rattle.events.specs.View.{lent};
 ghost use Rattle.draws.specs.Draws.{NewGeneratorPost, default_seed};

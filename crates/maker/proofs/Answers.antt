@@ -52,8 +52,8 @@ module _ (x : Load) (count : ℕ) (out : List ℕ) (l : Lent) {yes : Bool}
         }
 
     module _ (h : yes ≡ true) where
-      none-no : records_no x count out l ≡ 0
-      none-no = no-is ∙ ap six h
+      none_no : records_no x count out l ≡ 0
+      none_no = no-is ∙ ap six h
 
       pub records-long : length out ≡ bytes_for count
       records-long =
@@ -64,7 +64,7 @@ module _ (x : Load) (count : ℕ) (out : List ℕ) (l : Lent) {yes : Bool}
 
       pub records-yes : {y : Load} {out' : List ℕ} {l' : Lent} → Steps x l count out' y l'
           → RecordsPost x count out l (record { verdict = Verdict.Accepted; load = y }) out' l'
-      records-yes steps = record { number = sym none-no; steps = λ _. steps; held = λ ne. absurd (ne none-no) }
+      records-yes steps = record { number = sym none_no; steps = λ _. steps; held = λ ne. absurd (ne none_no) }
 
 -- ---- the maker
 
@@ -99,8 +99,8 @@ module _ {seed count : ℕ} {out : List ℕ} {n : NewGenerator} (new : NewGenera
         by true = refl
         by false = refl
 
-    pub make-done : MakePost seed count out r.verdict out'
-    make-done =
+    pub make_done : MakePost seed count out r.verdict out'
+    make_done =
         record {
           number = made.number ∙ same-no;
           records = λ z. all_made post no (made.steps (same-no ∙ z)) ∙ ap (λ x. load.made count x) (its_seed new is);

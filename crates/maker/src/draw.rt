@@ -7,7 +7,7 @@ use draws::Generator;
 use events::Call;
 
 // An event as it is called, its board byte, and the generator after the draws.
-#[derive(Drop)]
+#[derive(Clone, Copy)]
 pub(crate) struct Drawn {
     pub(crate) call: Call,
     pub(crate) byte: u8,

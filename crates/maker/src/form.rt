@@ -20,5 +20,5 @@ pub(crate) fn put(drawn: Drawn, out: &mut [u8])
         (call.length % 256) as u8,
         (call.length / 256 % 256) as u8,
     ];
-    bytes::copy(&bytes, out);
+    copies::copy(&bytes, out);
 }

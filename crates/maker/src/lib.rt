@@ -1,6 +1,8 @@
 // A load that can be quoted (document 02, L3): event records for the program, drawn from a seed. `make` makes a stated count of them; `begin`
 // and `records` make them some at a time, so that a bounded buffer is enough for any count. Every function is proved, nothing is assumed, and no
 // public function has a `requires`.
+#![tactic(auto)]
+
 mod draw;
 mod form;
 mod step;
@@ -18,14 +20,14 @@ use events::{Rig, Sizes};
 use lines::{PROGRAM, PROGRAM_MESSAGES, PROGRAM_RECORD, PROGRAM_START};
 
 // What the next record goes by: the generator, and the program's rig after the records made so far. Beside it the rig's four buffers are lent.
-#[derive(Drop)]
+#[derive(Clone, Copy)]
 pub struct Load {
     pub generator: Generator,
     pub rig: Rig,
 }
 
 // What a call leaves.
-#[derive(Drop)]
+#[derive(Clone, Copy)]
 pub struct Loaded {
     pub verdict: Verdict,
     pub load: Load,

@@ -11,7 +11,7 @@ use client::NewState;
 use config::{Client, Config, LEAST, NewClient, NewServer, Server, Verdict};
 
 // What the making of a server leaves.
-#[derive(Drop)]
+#[derive(Clone, Copy)]
 pub struct NewNode {
     pub verdict: Verdict,
     pub node: Node,

@@ -1,6 +1,8 @@
 // The parties of a rig that one event can touch, a server and a client: their making, what they do in an event, and question 6 of each in its
 // place. Their parts of the buffers are lent, and what they send goes to a lent buffer: of the messages in flight nothing is known here. Every
 // function is proved, nothing is assumed, and no public function has a `requires`.
+#![tactic(auto)]
+
 pub mod begin;
 pub mod crash;
 pub mod deliver;
@@ -16,21 +18,21 @@ use config::{Client, Refusal};
 use tag::Tag;
 
 // A server, and whether it is up. A crash keeps the state.
-#[derive(Drop)]
+#[derive(Clone, Copy)]
 pub struct Node {
     pub state: server::State,
     pub up: bool,
 }
 
 // The parties that one event can touch.
-#[derive(Drop)]
+#[derive(Clone, Copy)]
 pub struct Pair {
     pub node: Node,
     pub client: client::State,
 }
 
 // An event's answer. The bytes of a board that is read stand in the lent buffer: so many, zeros after.
-#[derive(Drop)]
+#[derive(Clone, Copy)]
 pub enum Answer {
     // No operation ended.
     Nothing,
@@ -70,7 +72,7 @@ impl Answer {
 }
 
 // What an event leaves: its answer, the parties, and how many records stand at the front of the lent buffer for sends.
-#[derive(Drop)]
+#[derive(Clone, Copy)]
 pub struct Acted {
     pub answer: Answer,
     pub pair: Pair,

@@ -1,10 +1,12 @@
 // Compares each of the 65,536 products of the field with that of a shift-and-add multiplier, which uses no table, and writes
 // how many it compared and how many differ.
+#![tactic(auto)]
+
 ghost use Rattle.std.specs.Prelude.{◌≡◌, ◌+◌, ◌*◌, ◌<◌};
 ghost use Rattle.products.specs.Multiplier.{all_differ, differ, reduced, shifted};
 
 // How many products were compared, and how many of them differ.
-#[derive(Drop)]
+#[derive(Clone, Copy)]
 struct Tally {
     compared: u64,
     differ: u64,

@@ -44,8 +44,8 @@ first_stops first rest asked number known e refuses c =
 
 module _ (cfg : Config) (bs : List ℕ) where
   -- reading: by the number of the first question that is answered no
-  pub not-read : (n : ℕ) (why : Refusal) → first_no (read_questions cfg bs) ≡ n → (n ≡ 0 → ⊥) → refusal_number why ≡ n → ReadPost cfg bs (Reading.No why)
-  not-read n why e refuses h =
+  pub not_read : (n : ℕ) (why : Refusal) → first_no (read_questions cfg bs) ≡ n → (n ≡ 0 → ⊥) → refusal_number why ≡ n → ReadPost cfg bs (Reading.No why)
+  not_read n why e refuses h =
       record {
         number = h ∙ sym e;
         message = rw (ne_eqb (first_no (read_questions cfg bs)) 0 (λ z. refuses (sym e ∙ z)));

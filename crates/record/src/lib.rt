@@ -1,6 +1,8 @@
 // The message record, 80 bytes: reading, writing, and the test whether a record is well formed. The element stays in the
 // record, at 16: a header says whether one is present. Every function is proved, nothing is assumed, and no public function
 // has a `requires`.
+#![tactic(auto)]
+
 pub mod layout;
 mod rules;
 
@@ -14,7 +16,7 @@ use config::{Client, Config, NewClient, NewServer, Refusal, Server, Verdict};
 use tag::Tag;
 
 // The nine kinds of message, in the documents' order: their numbers are 1 to 9. The ninth tells a reader that the element was cleared.
-#[derive(Drop)]
+#[derive(Clone, Copy)]
 pub enum Kind {
     Query,
     QueryAnswer,
@@ -28,7 +30,7 @@ pub enum Kind {
 }
 
 // What a record says besides the element's bytes. The length is that of the board which the element is of, 0 where none is present.
-#[derive(Drop)]
+#[derive(Clone, Copy)]
 pub struct Header {
     pub kind: Kind,
     pub client: Client,
@@ -39,7 +41,7 @@ pub struct Header {
     pub length: u16,
 }
 
-#[derive(Drop)]
+#[derive(Clone, Copy)]
 pub enum Reading {
     Message(Header),
     No(Refusal),
@@ -215,7 +217,7 @@ fn put(cfg: Config, h: Header, buf: &mut [u8])
         (n / 256) as u8,
         0,
     ];
-    bytes::copy(&head, buf);
+    copies::copy(&head, buf);
     let end = layout::element_end(cfg, h.present);
     layout::clear(&mut buf[end..]);
 }

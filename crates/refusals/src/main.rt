@@ -1,6 +1,8 @@
 // `rig::event` run on a script: document 01's ten events, events that must be refused, events beside them that must not, and events that show
 // that the rig still works. Each line of the script, of 96 bytes, is an event. One that begins with 2 is handed to a copy of the rig and of
 // its buffers, with what the line says written in; printed are what is special about it, and whether the event has left all as it was.
+#![tactic(auto)]
+
 mod answer;
 mod rigs;
 mod same;

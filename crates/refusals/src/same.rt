@@ -7,7 +7,7 @@ use server::Floor;
 use tag::Tag;
 
 // A phase as numbers: which it is, and what it holds, with 0 for what it does not.
-#[derive(Drop)]
+#[derive(Clone, Copy)]
 struct Flat {
     which: u8,
     writes: bool,

@@ -5,7 +5,7 @@ use config::Config;
 use events::Call;
 
 // What an event is handed besides a rig and buffers, and how long each buffer is lent.
-#[derive(Drop)]
+#[derive(Clone, Copy)]
 pub(crate) struct Given {
     pub cfg: Config,
     pub m: usize,

@@ -2,6 +2,8 @@
 // each call: the messages in flight (80 × M), the servers' stores, the boards that clients keep to write and the elements that
 // they have received, each the parties' parts joined in order of their numbers. Every function is proved, nothing is assumed,
 // and no public function has a `requires`.
+#![tactic(auto)]
+
 mod fresh;
 mod outcome;
 mod within;
@@ -18,7 +20,7 @@ use config::{Config, Refusal, Verdict};
 use events::{Call, CrashOrRestart, Rig, Sizes, Turn};
 
 // What the making of a rig leaves.
-#[derive(Drop)]
+#[derive(Clone, Copy)]
 pub struct Made {
     pub verdict: Verdict,
     pub rig: Rig,

@@ -1,5 +1,7 @@
 // A server: its state by value, its store lent by the host. Every function is proved, nothing is assumed, and no public function
 // has a `requires`.
+#![tactic(auto)]
+
 mod places;
 mod serve;
 mod within;
@@ -15,7 +17,7 @@ use record::{Header, Reading};
 use tag::Tag;
 
 // No floor, or the highest tag that was dropped.
-#[derive(Drop)]
+#[derive(Clone, Copy)]
 pub enum Floor {
     None,
     At(Tag),
@@ -23,7 +25,7 @@ pub enum Floor {
 
 // What a server keeps: its number, the highest finalised tag, the floor, and the first `count` of the tags as the stored ones.
 // The element of tag i stands in the store at i × E, and the length of its board is length i.
-#[derive(Drop)]
+#[derive(Clone, Copy)]
 pub struct State {
     pub me: Server,
     pub count: u8,
@@ -34,7 +36,7 @@ pub struct State {
 }
 
 // What a call leaves: its verdict and the state.
-#[derive(Drop)]
+#[derive(Clone, Copy)]
 pub struct Stepped {
     pub verdict: Verdict,
     pub state: State,
@@ -105,7 +107,7 @@ pub fn fresh(cfg: Config, me: Server, element: &[u8], store: &mut [u8]) -> Stepp
     if !within::server_within(cfg, me) {
         return refused(first(me, 0), Refusal::Missing);
     }
-    bytes::copy(element, store);
+    copies::copy(element, store);
     Stepped {
         verdict: Verdict::Accepted,
         state: first(me, (cfg.k * cfg.e) as u16),
@@ -113,7 +115,7 @@ pub fn fresh(cfg: Config, me: Server, element: &[u8], store: &mut [u8]) -> Stepp
 }
 
 // What the first questions of a step tell.
-#[derive(Drop)]
+#[derive(Clone, Copy)]
 enum Told {
     // The number of the first that is answered no.
     No(u8),
@@ -181,7 +183,7 @@ pub fn step(
 }
 
 // Where the stored element of a tag stands.
-#[derive(Drop)]
+#[derive(Clone, Copy)]
 pub enum Found {
     // The call is refused.
     No(Refusal),

@@ -8,7 +8,7 @@ use config::Config;
 use tag::Tag;
 
 // A tag and its place.
-#[derive(Drop)]
+#[derive(Clone, Copy)]
 pub(crate) struct Least {
     pub tag: Tag,
     pub place: usize,
@@ -59,5 +59,5 @@ pub(crate) fn put(cfg: Config, place: usize, element: &[u8], store: &mut [u8])
 {
     let from = place * cfg.e;
     let end = from + cfg.e;
-    bytes::copy(element, &mut store[from..end]);
+    copies::copy(element, &mut store[from..end]);
 }

@@ -47,7 +47,7 @@ fn at_or_below(cfg: Config, t: Tag, floor: Floor) -> bool
 }
 
 // What an answer says besides what it repeats.
-#[derive(Drop)]
+#[derive(Clone, Copy)]
 pub(crate) struct Reply {
     pub kind: Kind,
     pub tag: Tag,
@@ -195,7 +195,7 @@ fn read_finalise(cfg: Config, s: State, h: Header, store: &[u8], answer: &mut [u
     if place < count {
         let from = place * cfg.e;
         let end = from + cfg.e;
-        bytes::copy(&store[from..end], &mut answer[16..]);
+        copies::copy(&store[from..end], &mut answer[16..]);
         let reply = Reply {
             kind: Kind::ReadFinaliseAnswer,
             tag: t,

@@ -2,6 +2,8 @@
 // ranks of clients 1 to C, a byte each, the number of boards, a byte, the share of each board, 2 bytes, and the starting boards, V bytes each;
 // then come the events, in records of 7 + V bytes: code, party, position (2 bytes), the number of the board, board, length (2 bytes). A making
 // that is refused has the line of count 0, and so has a head of which a part is cut short.
+#![tactic(auto)]
+
 use config::{Config, Room};
 
 fn main() {

@@ -25,8 +25,8 @@ module _ {A : Type 0} (cfg : Config) (holds : Bool) (told blank : A) where
   refused : (n : ℕ) → refusal ≡ n → (n ≡ 0 → ⊥) → Answer n blank
   refused n e some = (sym e, rw (ne_eqb refusal 0 (λ z. some (sym e ∙ z))))
 
-  pub not-asked : (asked number : ℕ) → asked ≡ first_no (questions cfg) → (asked ≡ 0 → ⊥) → number ≡ clamped asked → Answer number blank
-  not-asked asked number e some c =
+  pub not_asked : (asked number : ℕ) → asked ≡ first_no (questions cfg) → (asked ≡ 0 → ⊥) → number ≡ clamped asked → Answer number blank
+  not_asked asked number e some c =
       let f = first_stops (questions cfg) (ask 6 holds ∷ []) asked number (questions_numbered cfg) e some c in
       rw f.1 (refused asked f.0 some)
 

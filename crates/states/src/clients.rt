@@ -14,14 +14,14 @@ use tag::Tag;
 pub const LENGTH: usize = 56;
 
 // What unpacking gives: its verdict and the state. Where that is a refusal, the state is of no use.
-#[derive(Drop)]
+#[derive(Clone, Copy)]
 pub struct Unpacked {
     pub verdict: Verdict,
     pub state: State,
 }
 
 // A phase as numbers, 0 for what it does not have: which it is, whether it writes, its tag, the servers counted, those that sent an element.
-#[derive(Drop)]
+#[derive(Clone, Copy)]
 pub struct Numbers {
     pub which: u8,
     pub writes: bool,
@@ -42,7 +42,7 @@ pub fn pack(state: State) -> [u8; 56]
         let from = 8 * i;
         let end = from + 8;
         let r = row(state, x, i);
-        bytes::copy(&r, &mut out[from..end]);
+        copies::copy(&r, &mut out[from..end]);
         i += 1;
     }
     out

@@ -1,5 +1,7 @@
 // The states of servers and clients as bytes of fixed layout, so that a host can keep and send them: little-endian, zeros where nothing is
 // kept. Every function is proved, nothing is assumed, and no public function has a `requires`.
+#![tactic(auto)]
+
 pub mod clients;
 pub mod servers;
 

@@ -12,7 +12,7 @@ use tag::Tag;
 pub const LENGTH: usize = 88;
 
 // What unpacking gives: its verdict and the state. Where that is a refusal, the state is of no use.
-#[derive(Drop)]
+#[derive(Clone, Copy)]
 pub struct Unpacked {
     pub verdict: Verdict,
     pub state: State,
@@ -28,7 +28,7 @@ pub fn pack(state: State) -> [u8; 88]
         let from = 8 * i;
         let end = from + 8;
         let r = row(state, i);
-        bytes::copy(&r, &mut out[from..end]);
+        copies::copy(&r, &mut out[from..end]);
         i += 1;
     }
     out

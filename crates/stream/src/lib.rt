@@ -3,6 +3,8 @@
 // are assumed; no public function has a `requires`. Of what is read and written no contract can say anything. What is proved besides, for board: the
 // buffers that a run leaves, from a making that is not refused, are those that some list of events leaves (`Runs`), and the bytes behind those that
 // a block took are kept for the next. Which events these are, and that their lines are written, is tested.
+#![tactic(auto)]
+
 mod input;
 pub mod several;
 
@@ -44,7 +46,7 @@ pub fn run(cfg: Config, m: usize, start: &[u8]) {
 }
 
 // The lengths of the buffers lent to a rig.
-#[derive(Drop)]
+#[derive(Clone, Copy)]
 struct Lengths {
     messages: usize,
     stores: usize,

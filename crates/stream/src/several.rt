@@ -108,7 +108,7 @@ fn blocks(
 
 // What the records of a block leave: the rig, the count of the next event, how many bytes of the input were taken, and how many of the output
 // are in use.
-#[derive(Drop)]
+#[derive(Clone, Copy)]
 struct Ran {
     rig: boards::Rig,
     count: u64,

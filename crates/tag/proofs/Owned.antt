@@ -13,7 +13,7 @@ use denote.Struct.Field.{Field, array_field}
 use Rattle.tag.specs.declared.Tag.{Tag}
 use Rattle.tag.specs.contracts.Tag as tag
 
-pub each_at : (R : RattleType) (xs : List R.Denot) (us : List Val) → shadow (each R.Denot R.own xs us)
+pub each_at : (R : RattleType) (xs : List R.Denot) (us : List Val) → shadow (each R.Denot R.own_val xs us)
     → (j : ℕ) → j < length xs → (d : R.Denot) → (u : Val) × Is R (get_or xs j d) (u ∷ [])
 each_at R [] us h j l d = absurd (omega (arith, l))
 each_at R (x ∷ xs) [] h j l d = absurd h

@@ -1,12 +1,14 @@
 // Tags: which are allowed, and their order, by number, rank and client. Every function is proved, nothing is assumed, and no public function
 // has a `requires`.
+#![tactic(auto)]
+
 ghost use Rattle.std.specs.Prelude.{◌≡◌};
 ghost use Rattle.tag.specs.Tag.{above, allowed, higher, same};
 
 use config::Config;
 
 // A tag: a number, and a client number.
-#[derive(Drop)]
+#[derive(Clone, Copy)]
 pub struct Tag {
     pub number: u32,
     pub client: u8,

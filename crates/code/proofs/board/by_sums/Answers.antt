@@ -1,0 +1,34 @@
+-- `code::board::by_sums` meets its contract.
+use mathlib.Core.Path.{◌∙◌}
+use native.Mathlib.Omega.{arith}
+use borrow.Author.Rules.{rules}
+use lib.ListN.{length}
+use Rattle.laws.specs.Bytes.{Bytes}
+use Rattle.code.specs.inner.Choice.{square_of}
+use Rattle.code.proofs.CombinedRows.{rows_combined, x_length}
+use Rattle.code.proofs.board.by_sums.Goals as goal
+
+pub all-requires : goal.all-requires
+all-requires c =
+    let a = c.args in
+    let h = c.requires in
+    record {
+      valid = h.valid;
+      rows_length = x_length a.cfg a.inverse.now a.elements.now (length a.buffer.now) h;
+      each =
+          record {
+            width = h.valid.e_high;
+            small = c.of-choices.ensures.small;
+            count_high = omega (arith, h.valid.k_high, h.valid.n_high);
+            fits = omega arith;
+            room = omega (arith, h.buffer_length);
+          };
+    }
+
+pub returns : goal.returns
+returns c =
+    let a = c.args in
+    let h = c.requires in
+    let bytes : Bytes a.elements.now = λ i. (c.shared_slice_known-1.given i).fits in
+    c.all.ensures (square_of a.inverse.now) c.of-choices.ensures.chosen h.bytes
+    ∙ rows_combined a.cfg a.inverse.now a.elements.now (length a.buffer.now) h bytes a.buffer.now h.buffer_length

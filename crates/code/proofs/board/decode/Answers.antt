@@ -1,0 +1,13 @@
+-- `code::board::decode` meets its contract.
+use mathlib.Core.Path.{refl, ◌∙◌}
+use Rattle.code.proofs.Single.{enough, part_small, single}
+use borrow.Author.Rules.{rules}
+use Rattle.code.proofs.board.decode.Goals as goal
+
+pub slice_bounds-copy-end : goal.slice_bounds-copy-end
+slice_bounds-copy-end c = let x = c.args in enough x.cfg x.servers.now x.elements.now x.buffer.now c.requires c.if-cfg-eq1.true
+
+pub returns-then-cfg-eq1 : goal.returns-then-cfg-eq1
+returns-then-cfg-eq1 c =
+    let x = c.args in
+    (c.copy.ensures.whole (part_small x.cfg x.servers.now x.elements.now x.buffer.now c.requires c.if-cfg-eq1.true)).1 ∙ single x.cfg x.servers.now x.elements.now x.buffer.now c.requires c.if-cfg-eq1.true (λ i. (c.shared_slice_known-2-1.given i).fits) _ refl

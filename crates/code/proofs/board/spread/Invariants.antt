@@ -1,0 +1,16 @@
+-- `code::board::spread` meets its contract: the rows before i have their multiples added, the others are as they were.
+use Prim.Native.Nat.{◌+◌, ◌*◌, ◌-◌, ◌≤◌}
+use mathlib.Core.Path.{◌≡◌, sym, ap, ◌∙◌}
+use native.Mathlib.Omega.{arith}
+use lib.ListN.{length}
+use Rattle.code.proofs.Filled.{filled, length_filled}
+use Rattle.code.proofs.Lent.{lent_row_length}
+use Rattle.code.proofs.Spreading.{each, row_fits, spread_none, spread_more, spread_all}
+use Rattle.code.proofs.board.spread.Given as goal
+
+abbrev pub invariant-loop-i : goal.invariant-loop-i
+invariant-loop-i l =
+    (l.i ≤ l.k) × (length l.board ≡ l.k * length l.x) × (l.board ≡ filled (each l.inverse l.r l.x l.initial.board) (l.i * length l.x) l.initial.board)
+
+abbrev pub decreases-loop-i : goal.decreases-loop-i
+decreases-loop-i l = l.k - l.i

@@ -1,0 +1,15 @@
+-- `code::choice::of` meets its contract: the choices of the groups before g stand.
+use Prim.Native.Nat.{◌≤◌, ◌-◌}
+use mathlib.Core.Path.{◌≡◌, refl, subst}
+use borrow.Author.Rules.{rules}
+use native.Mathlib.Omega.{arith}
+use lib.ListN.{length}
+use Rattle.code.specs.inner.Choice.{square_of}
+use Rattle.code.proofs.ChoiceLaws.{Chosen, chosen_all, chosen_next}
+use Rattle.code.proofs.choice.of.Given as goal
+
+abbrev pub invariant-loop-g : goal.invariant-loop-g
+invariant-loop-g l = (l.g ≤ 4) × (length l.choices ≡ 512) × Chosen (square_of l.square) l.g l.choices
+
+abbrev pub decreases-loop-g : goal.decreases-loop-g
+decreases-loop-g l = 4 - l.g

@@ -1,0 +1,21 @@
+-- `code::combine::each` meets its contract: the first t combinations are in their places.
+use Prim.Native.Nat.{ℕ, ◌+◌, ◌*◌, ◌-◌, ◌<◌, ◌≤◌}
+use mathlib.Core.Path.{◌≡◌, refl, ap, subst, ◌∙◌}
+use mathlib.Core.List.{List}
+use borrow.Author.Rules.{rules}
+use native.Mathlib.Omega.{arith}
+use lib.ListN.{length}
+use Rattle.laws.proofs.Parts.{lent_length}
+use Rattle.code.specs.Laid.{laid}
+use Rattle.code.specs.inner.Combine.{OnePost, Table, combination}
+use Rattle.code.proofs.LaidLaws.{back_long, laid_next, place_fits}
+use Rattle.code.proofs.combine.each.Given as goal
+
+abbrev pub invariant-loop-t : goal.invariant-loop-t
+invariant-loop-t l =
+    (l.t ≤ l.places.count) × (length l.buffer ≡ length l.initial.buffer)
+    × ((c : ℕ → ℕ → ℕ) (x : List ℕ) → l.k ≤ 16 → ((r : ℕ) → r < l.places.count → Table l.k l.e r (c r) x l.choices l.table)
+    → l.buffer ≡ laid (λ r. combination l.k l.e x (c r)) l.e l.places.offset l.places.distance l.t l.initial.buffer)
+
+abbrev pub decreases-loop-t : goal.decreases-loop-t
+decreases-loop-t l = l.places.count - l.t

@@ -1,0 +1,24 @@
+-- `code::combine::one` meets its contract.
+use Prim.Native.Nat.{◌+◌}
+use native.Mathlib.Omega.{arith}
+use lib.ListN.{length}
+use Rattle.code.proofs.Combining.{combined_one}
+use borrow.Author.Rules.{rules}
+use Rattle.code.proofs.combine.one.Goals as goal
+
+pub last-requires : goal.last-requires
+last-requires c =
+    let h = c.requires in
+    let t = c.args.t in (
+      (h.1 t (omega arith), h.1 (16 + t) (omega arith)),
+      (h.1 (32 + t) (omega arith), h.1 (48 + t) (omega arith)),
+      h.2,
+    )
+
+pub returns : goal.returns
+returns c =
+    let a = c.args in
+    let h = c.requires in
+    let row = c.upper-row in
+    combined_one a.k a.t a.choices.now a.table.now h.0 h.1 row.result row.ensures (length a.part.now) h.2 _
+    c.last.ensures

@@ -1,0 +1,14 @@
+-- `code::combine::upper` meets its contract: the row is the combination without its b last digits.
+use Prim.Native.Nat.{◌+◌, ◌*◌, ◌-◌, ◌≤◌}
+use mathlib.Core.Path.{◌≡◌, subst}
+use borrow.Author.Rules.{rules}
+use native.Mathlib.Omega.{arith}
+use Rattle.code.specs.inner.Combine.{Without}
+use Rattle.code.proofs.Combining.{without_all, without_narrow, without_wide}
+use Rattle.code.proofs.combine.upper.Given as goal
+
+abbrev pub invariant-loop-b : goal.invariant-loop-b
+invariant-loop-b l = (1 ≤ l.b) × (l.b ≤ 8) × Without l.k l.t l.choices l.table l.row l.b
+
+abbrev pub decreases-loop-b : goal.decreases-loop-b
+decreases-loop-b l = l.b

@@ -1,0 +1,22 @@
+-- `code::inverse::scale` meets its contract: the rows before i are scaled.
+use Prim.Native.Nat.{ℕ, ◌≤◌, ◌-◌}
+use mathlib.Core.Path.{◌≡◌, ap, ◌∙◌}
+use mathlib.Core.List.{List, []}
+use borrow.Author.Rules.{rules}
+use native.Mathlib.Omega.{arith}
+use lib.ListN.{length, get_or, length-set}
+use Rattle.code.specs.inner.Lanes.{scaled_lanes}
+use Rattle.code.proofs.Advanced.{multiplied_at}
+use Rattle.code.proofs.Filled.{filled, filled_none, filled_at, was, turn}
+use Rattle.code.proofs.inverse.scale.Given as goal
+
+-- row i
+unfoldable pub each : List (List ℕ) → List ℕ → ℕ → List ℕ
+each rows d i = scaled_lanes (get_or rows i []) d
+
+abbrev pub invariant-loop-i : goal.invariant-loop-i
+invariant-loop-i l =
+    (l.i ≤ l.k) × (length l.rows ≡ 16) × (length l.initial.rows ≡ 16) × (l.rows ≡ filled (each l.initial.rows l.d) l.i l.initial.rows)
+
+abbrev pub decreases-loop-i : goal.decreases-loop-i
+decreases-loop-i l = l.k - l.i

@@ -1,0 +1,45 @@
+-- `code::question::encode` meets its contract: each answer is the first no.
+use mathlib.Core.Path.{sym, ◌∙◌}
+use native.Mathlib.Nat.{lt_of_le_of_lt}
+use native.Mathlib.Omega.{arith}
+use borrow.Author.Tests.{not-true, not-false}
+use lib.Dec.{lit<}
+use Rattle.config.proofs.Valid.{valid}
+use Rattle.code.proofs.Asked.{rows_small}
+use Rattle.code.proofs.Encodable.{refused, wrong_board, wrong_part, no-server, some_server}
+use borrow.Author.Rules.{rules}
+use Rattle.code.proofs.question.encode.Goals as goal
+
+pub returns-then-no-ne0 : goal.returns-then-no-ne0
+returns-then-no-ne0 c =
+    let x = c.args in
+    refused x.cfg x.board x.s x.part c.ask-no.result c.ask-no.ensures c.if-no-ne0.true
+
+pub overflow_mul-cfg : goal.overflow_mul-cfg
+overflow_mul-cfg c =
+    let v = valid c.args.cfg (sym c.ask-no.ensures ∙ c.if-no-ne0.false) in
+    record { fits = lt_of_le_of_lt (rows_small (omega (arith, v.k_high, v.n_high)) (omega (arith, v.e_high))) (lit< tt) }
+
+pub returns-then-board-cfg : goal.returns-then-board-cfg
+returns-then-board-cfg c =
+    let x = c.args in
+    wrong_board x.cfg x.board x.s x.part (sym c.ask-no.ensures ∙ c.if-no-ne0.false) c.if-board-cfg.true
+
+pub returns-then-part-cfg : goal.returns-then-part-cfg
+returns-then-part-cfg c =
+    let x = c.args in
+    wrong_part x.cfg x.board x.s x.part (sym c.ask-no.ensures ∙ c.if-no-ne0.false) c.if-part-cfg.true
+
+pub returns-then-not-server_exists : goal.returns-then-not-server_exists
+returns-then-not-server_exists c =
+    let d = c in
+    let x = d.args in
+    no-server x.cfg x.board x.s x.part (sym d.ask-no.ensures ∙ d.if-no-ne0.false) d.if-board-cfg.false d.if-part-cfg.false
+    (sym c.server_exists.ensures ∙ not-true _ c.if-not-server_exists.true-raw)
+
+pub returns : goal.returns
+returns c =
+    let d = c in
+    let x = d.args in
+    some_server x.cfg x.board x.s x.part (sym d.ask-no.ensures ∙ d.if-no-ne0.false) d.if-board-cfg.false d.if-part-cfg.false
+    (sym c.server_exists.ensures ∙ not-false _ c.if-not-server_exists.false-raw)

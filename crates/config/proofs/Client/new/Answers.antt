@@ -1,0 +1,19 @@
+use mathlib.Core.Path.{refl}
+use borrow.Author.Rules.{rules}
+use Rattle.config.specs.Config.{questions}
+use Rattle.config.specs.Number.{client_questions}
+use Rattle.config.specs.Questions.{numbered}
+use Rattle.config.proofs.Number.{made, not_made}
+use Rattle.config.proofs.Client.new.Goals as goal
+
+pub returns-then-no-ne0 : goal.returns-then-no-ne0
+unfolding numbered questions client_questions
+returns-then-no-ne0 c =
+    let a = c.args in
+    not_made (client_questions a.cfg a.c) a.c c.ask_then-no.ensures refl c.if-no-ne0.true c.of.ensures
+
+pub returns : goal.returns
+unfolding client_questions
+returns c =
+    let a = c.args in
+    made (client_questions a.cfg a.c) a.c c.ask_then-no.ensures c.if-no-ne0.false

@@ -1,0 +1,23 @@
+-- The shares of the boards passed are taken from M: with what is left they are M. Assumes nothing.
+use mathlib.Core.Path.{◌≡◌, sym, ap, ◌∙◌}
+use Prim.Native.Nat.{ℕ, ◌+◌, ◌-◌, ◌≤◌}
+use native.Mathlib.Omega.{arith}
+use native.Mathlib.Nat.{add-sub_cancel}
+use borrow.Author.Rules.{rules}
+use borrow.Author.Tests.{le-leb, lt-leb}
+use lib.ListN.{get_or}
+use Rattle.laws.specs.Below.{sum_below}
+use Rattle.laws.proofs.Below.{sum_grows, sum_next}
+use Rattle.config.specs.declared.Room.{Room}
+use Rattle.config.specs.Room.{share_of, shares_sum}
+use Rattle.config.proofs.shares_fit.Given as goal
+
+-- the share at place i
+abbrev pub here : Room → ℕ → ℕ
+here room i = share_of room (i + 1)
+
+abbrev pub invariant-loop-board : goal.invariant-loop-board
+invariant-loop-board l = (l.board ≤ l.room.boards) × (sum_below l.board (here l.room) + l.left ≡ l.room.m)
+
+abbrev pub decreases-loop-board : goal.decreases-loop-board
+decreases-loop-board l = l.room.boards - l.board

@@ -1,0 +1,14 @@
+use mathlib.Core.Path.{◌≡◌, refl, sym, ◌∙◌}
+use Prim.Native.Nat.{◌-◌, ◌≤◌}
+use lib.ListN.{length}
+use borrow.Author.Rules.{rules}
+use Rattle.record.specs.Record.{all_zero}
+use Rattle.record.proofs.Bytes.{zero_from, zero_more, zero_end}
+use Rattle.record.proofs.layout.zero.Given as goal
+
+-- the answer from the start is the answer from here
+abbrev pub invariant-loop-i : goal.invariant-loop-i
+invariant-loop-i l = (l.i ≤ length l.part) × (all_zero l.part ≡ zero_from l.any l.i l.part)
+
+abbrev pub decreases-loop-i : goal.decreases-loop-i
+decreases-loop-i l = length l.part - l.i

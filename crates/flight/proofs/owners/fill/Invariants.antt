@@ -1,0 +1,15 @@
+-- Those from the first place on have the board, as far as the loop has come. Assumes nothing.
+use Prim.Native.Nat.{◌-◌, ◌≤◌}
+use mathlib.Core.Path.{◌≡◌, refl, sym, ap, subst, ◌∙◌}
+use native.Mathlib.Omega.{arith}
+use lib.ListN.{length, set, length-set}
+use Rattle.flight.specs.Owners.{FilledPost}
+use Rattle.flight.proofs.Moves.{filled_to, filled_next, filled_none, filled_there, unfilled}
+use Rattle.flight.proofs.owners.fill.Given as goal
+
+abbrev pub invariant-loop-i : goal.invariant-loop-i
+invariant-loop-i l =
+    (l.from ≤ l.i) × (l.i ≤ l.to) × (l.owners ≡ filled_to l.initial.owners l.from l.to l.board l.i) × (length l.owners ≡ length l.initial.owners)
+
+abbrev pub decreases-loop-i : goal.decreases-loop-i
+decreases-loop-i l = l.to - l.i

@@ -1,0 +1,16 @@
+use Rattle.std.proofs.Common.{◌≡◌, ℕ, ◌-◌, ◌≤◌, sym, ap, ◌∙◌, rules}
+use native.Mathlib.Nat.{sub-zero}
+use borrow.Author.Tests.{not-true, not-false}
+use Rattle.tag.specs.Tag.{allowed}
+use Rattle.server.specs.Within.{every}
+use Rattle.server.specs.View.{each, tag_at}
+use Rattle.server.proofs.Each.{every_end, every_no, every_yes}
+use Rattle.server.proofs.within.each_allowed.Given as goal
+
+-- the answer from the start is the answer from here
+abbrev pub invariant-loop-i : goal.invariant-loop-i
+invariant-loop-i l =
+    (l.i ≤ l.count) × (every (allowed l.clients) (each (tag_at l.tags) 0 l.count) ≡ every (allowed l.clients) (each (tag_at l.tags) l.i (l.count - l.i)))
+
+abbrev pub decreases-loop-i : goal.decreases-loop-i
+decreases-loop-i l = l.count - l.i

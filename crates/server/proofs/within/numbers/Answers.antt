@@ -1,0 +1,5 @@
+use Rattle.std.proofs.Common.{sym, rules}
+use Rattle.server.proofs.within.numbers.Goals as goal
+
+pub returns-then-quick : goal.returns-then-quick
+returns-then-quick c = sym (c.quick.ensures c.if-quick.true)

@@ -18,8 +18,8 @@ use Rattle.server.specs.contracts.State as state
 
 pub eight_places : (s : State) (vs : List Val) → Is state.the_row s vs → (length s.tags ≡ 8) × (length s.lengths ≡ 8)
 eight_places s vs p = (
-  sym (length-map s.tags _) ∙ p.1.1.1.1.1.1.0.1.0.1,
-  sym (length-map s.lengths _) ∙ p.1.1.1.1.1.1.1.0.1.0.1,
+   p.1.1.1.1.1.1.0.1.0.1,
+  p.1.1.1.1.1.1.1.0.1.0.1,
 )
 
 pub tags_numbers : (n : ℕ) (ts : List Tag) (vs : List Val) → Is (array_field tag.the_field n).row (map (tag.the_field).into ts) vs

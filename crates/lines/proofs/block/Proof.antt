@@ -57,8 +57,8 @@ loop-holds c =
     let a = s.args in
     record {
       ran = none_ran a.cfg a.m a.t3 (lent a.messages.now a.stores.now a.boards.now a.elements.now) a.count s.ranges.count.fits a.input.now a.output.now;
-      servers = server_places a.t3 _ s.well-formed.1.1.0;
-      clients = client_places a.t3 _ s.well-formed.1.1.0;
+      servers = server_places a.t3 _ s.well_formed.1.1.0;
+      clients = client_places a.t3 _ s.well_formed.1.1.0;
       reads = length-take-le c.before.before.before.board-length.result _ (few c.before.before.before);
       outputs = refl;
       messages = refl;
@@ -126,7 +126,7 @@ wrapping-add-u64-requires : tie.Need-wrapping-add-u64-requires invariant-loop de
 wrapping-add-u64-requires c κs = search rules
 
 add-taken : tie.Need-overflow-add-taken invariant-loop decreases-loop
-add-taken c = let t = turn c.before.before.before.before.before.before.before.before.before.before.before.before.before.before.before.before.before.before.before.before.before.before.before.before.before.before.before.before.before.before.before.before.before in omega (arith, t.whole, t.takes, c.before.before.before.before.before.before.before.before.before.before.before.before.before.before.before.before.before.before.before.before.before.before.before.before.before.before.before.before.before.before.before.before.before.before.before.before.before.before.before.before.before.before.before.before.before.before.well-formed.1.1.1.1.0.0)
+add-taken c = let t = turn c.before.before.before.before.before.before.before.before.before.before.before.before.before.before.before.before.before.before.before.before.before.before.before.before.before.before.before.before.before.before.before.before.before in omega (arith, t.whole, t.takes, c.before.before.before.before.before.before.before.before.before.before.before.before.before.before.before.before.before.before.before.before.before.before.before.before.before.before.before.before.before.before.before.before.before.before.before.before.before.before.before.before.before.before.before.before.before.before.well_formed.1.1.1.1.0.0)
 
 loop-less : tie.Need-loop-smaller invariant-loop decreases-loop
 loop-less c = let t = turn c.before.before.before.before.before.before.before.before.before.before.before.before.before.before.before.before.before.before.before.before.before.before.before.before.before.before.before.before.before.before.before.before.before in omega (arith, t.whole, t.takes)

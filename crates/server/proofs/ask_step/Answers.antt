@@ -4,15 +4,12 @@ use Rattle.server.specs.declared.Told.{Told}
 use Rattle.server.specs.inner.Receive.{ReceivePost}
 use Rattle.server.proofs.Handed.{kind_asked}
 use Rattle.server.proofs.ask_step.Goals as goal
-use Rattle.server.proofs.ask_step.Goals.{After-receive-told, Start}
+use Rattle.server.proofs.ask_step.Goals.{After-receive-told}
 
 -- what the first questions told
 module _ (c : After-receive-told) where
-  abbrev s : Start
-  s = c
-
-  told : {t : Told} → c.receive-told.result ≡ t → ReceivePost s.args.cfg s.args.state s.args.handed.now s.args.store s.args.answer t
-  told e = subst (ReceivePost s.args.cfg s.args.state s.args.handed.now s.args.store s.args.answer) e c.receive-told.ensures
+  told : {t : Told} → c.receive-told.result ≡ t → ReceivePost c.args.cfg c.args.state c.args.handed.now c.args.store c.args.answer t
+  told e = subst (ReceivePost c.args.cfg c.args.state c.args.handed.now c.args.store c.args.answer) e c.receive-told.ensures
 
 pub returns-then-not-is_for_server : goal.returns-then-not-is_for_server
 returns-then-not-is_for_server c = let t = c in

@@ -4,24 +4,21 @@ use Rattle.server.specs.declared.Found.{Found}
 use Rattle.server.specs.Calls.{FindPost, LendPost}
 use Rattle.server.proofs.Lending.{lent_at, lent_fits, lent_low, lent_no, lent_nowhere}
 use Rattle.server.proofs.lend.Goals as goal
-use Rattle.server.proofs.lend.Goals.{After-find-found, Start}
+use Rattle.server.proofs.lend.Goals.{After-find-found}
 
 -- what was found
 module _ (c : After-find-found) where
-  abbrev s : Start
-  s = c
-
   abbrev store : List ℕ
-  store = s.args.store.now
+  store = c.args.store.now
 
   abbrev Finds : Found → Type 0
-  Finds = FindPost s.args.cfg s.args.state s.args.tag (length store)
+  Finds = FindPost c.args.cfg c.args.state c.args.tag (length store)
 
   found : {r : Found} → c.find-found.result ≡ r → Finds r
   found e = subst Finds e c.find-found.ensures
 
-  small : Small s.args.tag
-  small = omega (arith, s.good.1.1.0)
+  small : Small c.args.tag
+  small = omega arith
 
 pub overflow_add-end : goal.overflow_add-end
 overflow_add-end c = let t = c in

@@ -4,15 +4,12 @@ use Rattle.server.specs.inner.Receive.{ReceivePost}
 use Rattle.server.proofs.Handed.{step_request}
 use Rattle.server.proofs.Stepping.{step_refused, step_served}
 use Rattle.server.proofs.step.Goals as goal
-use Rattle.server.proofs.step.Goals.{After-receive-told, Start}
+use Rattle.server.proofs.step.Goals.{After-receive-told}
 
 -- what the first questions told
 module _ (c : After-receive-told) where
-  abbrev s : Start
-  s = c
-
   abbrev Tells : Told → Type 0
-  Tells = ReceivePost s.args.cfg s.args.state s.args.handed.now (length s.args.store.now) (length s.args.answer.now)
+  Tells = ReceivePost c.args.cfg c.args.state c.args.handed.now (length c.args.store.now) (length c.args.answer.now)
 
   told : {t : Told} → c.receive-told.result ≡ t → Tells t
   told e = subst Tells e c.receive-told.ensures

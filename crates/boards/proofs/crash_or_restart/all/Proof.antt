@@ -36,7 +36,7 @@ loop-holds : tie.Need-loop-init invariant-loop decreases-loop
 loop-holds c =
     let s = c.before.before.before.before.before in
     let a = s.args in
-    let some : 0 < length a.t3.boards = omega (arith, board_places a.t3 _ s.well-formed.1.1.0) in
+    let some : 0 < length a.t3.boards = omega (arith, board_places a.t3 _ s.well_formed.1.1.0) in
     turn_next a.cfg a.room (as_one a.call) a.t3 a.t3 0 (turn_none a.cfg a.room (as_one a.call) a.t3) (omega (arith, s.requires.0)) some
     (c.before.before.one.ensures ∙ read_at a.t3 0 _ _ some) (by_code c.before.before.before.before.which.result a.call c.before.before.before.before.which.ensures c.before.crash-or-restart.ensures) c.put.ensures
 
@@ -67,7 +67,7 @@ loop-again c =
     let a = s.args in
     let l = c.before.before.before.before.before.before.loop in
     let below = c.before.before.before.before.if1.true in
-    let low : l.i < length a.t3.boards = omega (arith, below, s.requires.1, board_places a.t3 _ s.well-formed.1.1.0) in
+    let low : l.i < length a.t3.boards = omega (arith, below, s.requires.1, board_places a.t3 _ s.well_formed.1.1.0) in
     turn_next a.cfg a.room (as_one a.call) a.t3 l.left l.i l.invariant below low
     (c.before.before.one2.ensures ∙ read_at a.t3 l.i _ _ low) (by_code c.before.before.before.before.before.before.before.before.before.before.before.which.result a.call c.before.before.before.before.before.before.before.before.before.before.before.which.ensures c.before.crash-or-restart2.ensures) c.put2.ensures
 
@@ -77,7 +77,7 @@ returns c =
     let a = s.args in
     let l = c.before.before.loop in
     turn_all a.cfg a.room a.call a.t3 l.left l.i l.invariant (omega (arith, c.if1.false))
-    (c.before.before.before.before.before.one.ensures ∙ read_at a.t3 0 _ _ (omega (arith, board_places a.t3 _ s.well-formed.1.1.0)))
+    (c.before.before.before.before.before.one.ensures ∙ read_at a.t3 0 _ _ (omega (arith, board_places a.t3 _ s.well_formed.1.1.0)))
     (by_code c.before.before.before.before.before.before.before.which.result a.call c.before.before.before.before.before.before.before.which.ensures c.before.before.before.before.crash-or-restart.ensures)
 
 pub all-spec : {M : Type 1} → statement M

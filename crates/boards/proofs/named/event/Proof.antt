@@ -51,7 +51,7 @@ lend-requires : tie.Need-lend-requires
 lend-requires c κs =
     let s = c.before.before.before.before.before.before.before.before.before.before.before.before.before.before.before.before.before.before.before.before in
     let a = s.args in
-    let low : a.call.board - 1 < length a.t3.boards = omega (arith, place_low a.cfg a.room a.t3 a.call a.board.now a.read.now (lent a.messages.now a.owners.now a.stores.now a.boards.now a.elements.now) s.requires, board_places a.t3 _ s.well-formed.1.1.0) in
+    let low : a.call.board - 1 < length a.t3.boards = omega (arith, place_low a.cfg a.room a.t3 a.call a.board.now a.read.now (lent a.messages.now a.owners.now a.stores.now a.boards.now a.elements.now) s.requires, board_places a.t3 _ s.well_formed.1.1.0) in
     lend_pre a.cfg a.room a.t3 a.call a.board.now a.read.now (lent a.messages.now a.owners.now a.stores.now a.boards.now a.elements.now) s.requires
     (record { place = c.before.before.before.before.before.before.before.before.before.before.before.place_of.ensures; limits = c.before.before.before.before.before.before.before.before.before.limit.ensures; mosts = c.before.before.before.before.before.before.before.at_least_one.ensures; counts = c.before.before.before.before.before.before.before.before.in-flight.ensures; rig = c.before.before.before.before.before.one.ensures ∙ read_at a.t3 _ _ _ low })
 
@@ -59,7 +59,7 @@ settle-requires : tie.Need-settle-requires
 settle-requires c κs =
     let s = c.before.before.before.before.before.before.before.before.before.before.before.before.before.before.before.before.before.before.before.before.before.before.before.before.before.before.before.before.before.before.before.before in
     let a = s.args in
-    let low : a.call.board - 1 < length a.t3.boards = omega (arith, place_low a.cfg a.room a.t3 a.call a.board.now a.read.now (lent a.messages.now a.owners.now a.stores.now a.boards.now a.elements.now) s.requires, board_places a.t3 _ s.well-formed.1.1.0) in
+    let low : a.call.board - 1 < length a.t3.boards = omega (arith, place_low a.cfg a.room a.t3 a.call a.board.now a.read.now (lent a.messages.now a.owners.now a.stores.now a.boards.now a.elements.now) s.requires, board_places a.t3 _ s.well_formed.1.1.0) in
     settles a.cfg a.room a.t3 a.call a.board.now a.read.now (lent a.messages.now a.owners.now a.stores.now a.boards.now a.elements.now) s.requires
     (record { place = c.before.before.before.before.before.before.before.before.before.before.before.before.before.before.before.before.before.before.before.before.before.before.before.place_of.ensures; limits = c.before.before.before.before.before.before.before.before.before.before.before.before.before.before.before.before.before.before.before.before.before.limit.ensures; mosts = c.before.before.before.before.before.before.before.before.before.before.before.before.before.before.before.before.before.before.before.at_least_one.ensures; counts = c.before.before.before.before.before.before.before.before.before.before.before.before.before.before.before.before.before.before.before.before.in-flight.ensures; rig = c.before.before.before.before.before.before.before.before.before.before.before.before.before.before.before.before.before.one.ensures ∙ read_at a.t3 _ _ _ low })
     c.before.before.before.before.before.before.before.before.before.before.before.lend.ensures
@@ -86,10 +86,10 @@ returns : tie.Need-returns
 returns c =
     let s = c.before.before.before.before.before.before.before.before.before.before.before.before.before.before.before.before.before.before.before.before.before.before.before.before.before.before.before.before.before.before.before.before.before.before.before in
     let a = s.args in
-    let low : a.call.board - 1 < length a.t3.boards = omega (arith, place_low a.cfg a.room a.t3 a.call a.board.now a.read.now (lent a.messages.now a.owners.now a.stores.now a.boards.now a.elements.now) s.requires, board_places a.t3 _ s.well-formed.1.1.0) in
+    let low : a.call.board - 1 < length a.t3.boards = omega (arith, place_low a.cfg a.room a.t3 a.call a.board.now a.read.now (lent a.messages.now a.owners.now a.stores.now a.boards.now a.elements.now) s.requires, board_places a.t3 _ s.well_formed.1.1.0) in
     event_done a.cfg a.room a.t3 a.call a.board.now a.read.now (lent a.messages.now a.owners.now a.stores.now a.boards.now a.elements.now) s.requires
     (record { place = c.before.before.before.before.before.before.before.before.before.before.before.before.before.before.before.before.before.before.before.before.before.before.before.before.before.before.place_of.ensures; limits = c.before.before.before.before.before.before.before.before.before.before.before.before.before.before.before.before.before.before.before.before.before.before.before.before.limit.ensures; mosts = c.before.before.before.before.before.before.before.before.before.before.before.before.before.before.before.before.before.before.before.before.before.before.at_least_one.ensures; counts = c.before.before.before.before.before.before.before.before.before.before.before.before.before.before.before.before.before.before.before.before.before.before.before.in-flight.ensures; rig = c.before.before.before.before.before.before.before.before.before.before.before.before.before.before.before.before.before.before.before.before.one.ensures ∙ read_at a.t3 _ _ _ low })
-    c.before.before.before.before.before.before.before.before.before.before.before.before.before.before.lend.ensures c.before.before.settle.ensures (board_places a.t3 _ s.well-formed.1.1.0)
+    c.before.before.before.before.before.before.before.before.before.before.before.before.before.before.lend.ensures c.before.before.settle.ensures (board_places a.t3 _ s.well_formed.1.1.0)
 
 pub event-spec : {M : Type 1} → statement M
 event-spec =

@@ -63,7 +63,7 @@ returns c =
     let y = s.args.t3 in
     let i = c.before.before.before.before.before.before.before.before.loop.i in
     let low = c.before.before.before.before.before.before.if1.true in
-    let read = alike_read x y i _ _ (omega (arith, low, s.requires.c_high)) (client_places x _ s.well-formed.1.0) (client_places y _ s.well-formed.1.1.0) in
+    let read = alike_read x y i _ _ (omega (arith, low, s.requires.c_high)) (client_places x _ s.well_formed.1.0) (client_places y _ s.well_formed.1.1.0) in
     sym (below_no s.args.cfg.c (alikeAt x y) i low (sym read ∙ sym (c.before.same.ensures ∙ ap₂ same c.before.before.before.is_up.ensures c.before.before.is-up2.ensures) ∙ not-true _ c.if2.true))
 
 add-i : tie.Need-overflow-add-i invariant-loop decreases-loop
@@ -79,7 +79,7 @@ loop-again c =
     let y = s.args.t3 in
     let i = c.before.before.before.before.before.before.before.before.loop.i in
     let low = c.before.before.before.before.before.before.if1.true in
-    let read = alike_read x y i _ _ (omega (arith, low, s.requires.c_high)) (client_places x _ s.well-formed.1.0) (client_places y _ s.well-formed.1.1.0) in (
+    let read = alike_read x y i _ _ (omega (arith, low, s.requires.c_high)) (client_places x _ s.well_formed.1.0) (client_places y _ s.well_formed.1.1.0) in (
       omega (arith, low),
       below_next i (alikeAt x y) c.before.before.before.before.before.before.before.before.loop.invariant.1 (sym read ∙ sym (c.before.same.ensures ∙ ap₂ same c.before.before.before.is_up.ensures c.before.before.is-up2.ensures) ∙ not-false _ c.if2.false),
     )

@@ -60,7 +60,7 @@ returns c =
     let a = s.args in
     let i = c.before.before.before.before.before.loop.i in
     let below = c.before.before.before.if1.true in
-    let read = board-read a.cfg a.room a.t3 i _ _ (omega (arith, below, boards_high a.room (room_is a.cfg a.room s.requires))) (board_places a.t3 _ s.well-formed.1.1.0) in
+    let read = board-read a.cfg a.room a.t3 i _ _ (omega (arith, below, boards_high a.room (room_is a.cfg a.room s.requires))) (board_places a.t3 _ s.well_formed.1.1.0) in
     sym (below_no a.room.boards (board_within a.cfg a.room a.t3) i below (sym read ∙ sym c.before.board.ensures ∙ not-true _ c.if2.true))
 
 add-i : tie.Need-overflow-add-i invariant-loop decreases-loop
@@ -75,7 +75,7 @@ loop-again c =
     let a = s.args in
     let l = c.before.before.before.before.before.loop in
     let below = c.before.before.before.if1.true in
-    let read = board-read a.cfg a.room a.t3 l.i _ _ (omega (arith, below, boards_high a.room (room_is a.cfg a.room s.requires))) (board_places a.t3 _ s.well-formed.1.1.0) in (
+    let read = board-read a.cfg a.room a.t3 l.i _ _ (omega (arith, below, boards_high a.room (room_is a.cfg a.room s.requires))) (board_places a.t3 _ s.well_formed.1.1.0) in (
       omega (arith, below),
       below_next l.i (board_within a.cfg a.room a.t3) l.invariant.1 (sym read ∙ sym c.before.board.ensures ∙ not-false _ c.if2.false),
     )

@@ -8,7 +8,7 @@ use Rattle.host.proofs.outcome.row.Tie as tie
 
 returns : tie.Need-returns
 unfolding outcome_row four_bytes two_bytes
-returns c = row_tells _ _ _ _ _ (omega (arith, c.before.well-formed.1.1.1.0)) (omega (arith, c.before.well-formed.1.1.0)) (rw c.four_bytes.ensures)
+returns c = row_tells _ _ _ _ _ (omega (arith, c.before.well_formed.1.1.1.0)) (omega (arith, c.before.well_formed.1.1.0)) (rw c.four_bytes.ensures)
 
 pub row-spec : {M : Type 1} → statement M
 row-spec =

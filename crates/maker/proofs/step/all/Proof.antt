@@ -40,7 +40,7 @@ add-end : tie.Need-overflow-add-end invariant-loop decreases-loop
 add-end c =
     let s = c.before.before.before.before.before.before.before in
     let i = c.before.loop.invariant in
-    omega (arith, i.place, i.same, c.loop-test.true, s.requires, s.well-formed.1.1.0.0)
+    omega (arith, i.place, i.same, c.loop-test.true, s.requires, s.well_formed.1.1.0.0)
 
 sub-step : tie.Need-overflow-sub-step invariant-loop decreases-loop
 sub-step c = omega arith

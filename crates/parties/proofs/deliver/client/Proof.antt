@@ -31,7 +31,7 @@ returns c store =
     let a = s.args in
     let y = c.before.before.before.before.before.before.before.before.before.step in
     not_awaited a.cfg a.pair _ store _ _ _ _ _ _ _ (λ i. omega (arith, c.before.before.before.before.before.before.before.before.before.before.before.before.before.before.before.before.before.before.shared-slice-known.given i))
-    (client_numbered a.pair _ s.well-formed.1.0) y.result y.ensures y.auto.1.1.1.1.0
+    (client_numbered a.pair _ s.well_formed.1.0) y.result y.ensures y.auto.1.1.1.1.0
     (eqb-true _ 14 (sym c.before.before.not_awaited.ensures ∙ c.before.if1.true)) _ c.quiet.ensures
 
 moved-requires : tie.Need-moved-requires
@@ -52,7 +52,7 @@ returns-2 c store =
     let a = s.args in
     let y = c.before.before.before.before.before.before.before.before.before.step in
     moved_act a.cfg a.pair _ store _ _ _ _ _ _ _ (λ i. omega (arith, c.before.before.before.before.before.before.before.before.before.before.before.before.before.before.before.before.before.before.shared-slice-known.given i))
-    (client_numbered a.pair _ s.well-formed.1.0) y.result y.ensures y.auto.1.1.1.1.0
+    (client_numbered a.pair _ s.well_formed.1.0) y.result y.ensures y.auto.1.1.1.1.0
     (eqb-false _ 14 (sym c.before.before.not_awaited.ensures ∙ c.before.if1.false)) _ c.moved.ensures
 
 pub client-spec : {M : Type 1} → statement M

@@ -27,7 +27,7 @@ returns c kept es read =
     let a = s.args in
     let qs = step_questions a.cfg a.pair.node.state a.handed.now (length a.store.now) (length a.answer.now) in
     down_refused a.cfg a.pair _ _ [] _ [] kept es read (λ i. omega (arith, c.before.before.before.before.before.before.before.before.before.before.shared-slice-known.given i))
-    (server_numbered a.pair _ s.well-formed.1.0) _
+    (server_numbered a.pair _ s.well_formed.1.0) _
     (refusal_is qs (step_numbered a.cfg a.pair.node.state a.handed.now (length a.store.now) (length a.answer.now)) c.before.before.before.ask-step.ensures c.before.before.if2.true c.before.of.ensures)
     _ c.refused.ensures
 
@@ -39,7 +39,7 @@ returns-2 c kept es read =
     let s = c.before.before.before.before.before.before.before.before.before.before in
     let a = s.args in
     gone a.cfg a.pair _ _ [] _ [] kept es read (λ i. omega (arith, c.before.before.before.before.before.before.before.before.before.shared-slice-known.given i))
-    (server_numbered a.pair _ s.well-formed.1.0) (sym c.before.before.ask-step.ensures ∙ c.before.if2.false)
+    (server_numbered a.pair _ s.well_formed.1.0) (sym c.before.before.ask-step.ensures ∙ c.before.if2.false)
     (not-true _ c.before.before.before.if1.true) _ c.quiet.ensures
 
 step-requires : tie.Need-step-requires
@@ -60,7 +60,7 @@ returns-3 c kept es read =
     let a = s.args in
     let y = c.before.before.before.before.before.step in
     stepped_act a.cfg a.pair _ _ _ _ _ kept es read (λ i. omega (arith, c.before.before.before.before.before.before.before.before.before.before.before.before.before.before.shared-slice-known.given i))
-    (server_numbered a.pair _ s.well-formed.1.0) (not-false _ c.before.before.before.before.before.before.before.before.if1.false) y.result y.ensures _ c.stepped.ensures
+    (server_numbered a.pair _ s.well_formed.1.0) (not-false _ c.before.before.before.before.before.before.before.before.if1.false) y.result y.ensures _ c.stepped.ensures
 
 pub server-spec : {M : Type 1} → statement M
 server-spec =

@@ -30,8 +30,8 @@ returns c =
     subst (λ (p : Part). PartAtPost r s.args.places p) (sym c.of.ensures)
     (record {
       part = record {
-        node = at_get_d r.servers _ _ (omega (arith, s.requires.0, server_places r _ s.well-formed.0));
-        client = at_get_d r.clients _ _ (omega (arith, s.requires.1, client_places r _ s.well-formed.0));
+        node = at_get_d r.servers _ _ (omega (arith, s.requires.0, server_places r _ s.well_formed.0));
+        client = at_get_d r.clients _ _ (omega (arith, s.requires.1, client_places r _ s.well_formed.0));
         count = refl;
       };
       server = refl;

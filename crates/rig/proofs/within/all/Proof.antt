@@ -46,7 +46,7 @@ returns c =
     let i = c.before.before.before.before.before.loop.i in
     let low : i ≤ 15 = omega (arith, c.before.before.before.before.loop-test.true, c.before.before.before.before.before.before.places.ensures) in
     sym (place_no s.args.cfg r i
-    (sym (place_read s.args.cfg r i _ _ (omega (arith, low, server_places r _ s.well-formed.1.0)) (omega (arith, low, client_places r _ s.well-formed.1.0)))
+    (sym (place_read s.args.cfg r i _ _ (omega (arith, low, server_places r _ s.well_formed.1.0)) (omega (arith, low, client_places r _ s.well_formed.1.0)))
     ∙ sym c.before.place.ensures ∙ not-true _ c.if1.true))
 
 add-i : tie.Need-overflow-add-i invariant-loop decreases-loop
@@ -63,7 +63,7 @@ loop-again c =
     let low : i ≤ 15 = omega (arith, c.before.before.before.before.loop-test.true, c.before.before.before.before.before.before.places.ensures) in (
       omega (arith, c.before.before.before.before.loop-test.true),
       below_next i (place_yes s.args.cfg r) c.before.before.before.before.before.loop.invariant.1
-          (sym (place_read s.args.cfg r i _ _ (omega (arith, low, server_places r _ s.well-formed.1.0)) (omega (arith, low, client_places r _ s.well-formed.1.0)))
+          (sym (place_read s.args.cfg r i _ _ (omega (arith, low, server_places r _ s.well_formed.1.0)) (omega (arith, low, client_places r _ s.well_formed.1.0)))
           ∙ sym c.before.place.ensures ∙ not-false _ c.if1.false),
     )
 

@@ -5,6 +5,7 @@ use Rattle.server.specs.inner.Places.{least_from}
 use Rattle.server.specs.View.{each, tag_at}
 use Rattle.server.proofs.Each.{least_end, least_lower, least_other}
 use Rattle.server.proofs.places.lowest.Goals as goal
+use Rattle.server.proofs.places.lowest.Goals.{then-above, else-above}
 
 pub loop-i-init : goal.loop-i-init
 loop-i-init c =
@@ -19,12 +20,12 @@ loop-i-preserved c =
     let rest = each (tag_at a.tags) (l.i + 1) (a.count - (l.i + 1)) in (
       search rules,
       l.invariant.1
-          ∙ ⊎_elim
-          (λ w. least_lower (tag_at a.tags) l.i a.count a.cfg l.tag l.place h (sym c.above.ensures ∙ w.0.taken)
-          ∙ ap₂ {A = Tag} (λ (u : Tag) (p : ℕ). least_from a.cfg u p (l.i + 1) rest) (sym w.1) (sym w.2))
-          (λ w. least_other (tag_at a.tags) l.i a.count a.cfg l.tag l.place h (sym c.above.ensures ∙ w.0.left)
-          ∙ ap₂ {A = Tag} (λ (u : Tag) (p : ℕ). least_from a.cfg u p (l.i + 1) rest) (sym w.1) (sym w.2))
-          c.if-above.branch,
+          ∙ elim c.if-above.branch [
+        | then-above w ↦ least_lower (tag_at a.tags) l.i a.count a.cfg l.tag l.place h (sym c.above.ensures ∙ w.if-above.true)
+          ∙ ap₂ {A = Tag} (λ (u : Tag) (p : ℕ). least_from a.cfg u p (l.i + 1) rest) (sym w.tag-is) (sym w.place-is)
+        | else-above w ↦ least_other (tag_at a.tags) l.i a.count a.cfg l.tag l.place h (sym c.above.ensures ∙ w.if-above.false)
+          ∙ ap₂ {A = Tag} (λ (u : Tag) (p : ℕ). least_from a.cfg u p (l.i + 1) rest) (sym w.tag-is) (sym w.place-is)
+      ],
     )
 
 pub returns : goal.returns

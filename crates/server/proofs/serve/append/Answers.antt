@@ -5,4 +5,4 @@ use Rattle.server.proofs.serve.append.Goals as goal
 
 pub returns : goal.returns
 unfolding appended
-returns c = record { state = refl; store = c.put.ensures; eight = eight_places c.args.s _ c.well-formed.1.0 }
+returns c = record { state = refl; store = c.put.ensures; eight = eight_places c.args.s _ c.well_formed.1.0 }

@@ -14,7 +14,7 @@ returns-in_default c = ap (λ (f : Floor). at_or_below_floor (key c.args.cfg) c.
 pub returns : goal.returns
 returns c =
     let a = c.args in
-    let f = c.in-At.floor in
+    let f = c.in-At.f in
     let st : Small a.t = omega arith in
     let sf : Small f = omega arith in
     ap not c.above.ensures ∙ at-or-below-floor a.cfg c.requires a.t f st sf

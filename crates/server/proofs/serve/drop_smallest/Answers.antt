@@ -36,7 +36,7 @@ module _ (cfg : Config) (s : State) (t : Tag) (n : ℕ) (element before after : 
 pub returns-then-count-place : goal.returns-then-count-place
 returns-then-count-place c =
     let a = c.args in
-    itself a.cfg a.s a.t a.length _ _ _ _ c.lowest-low.ensures (eight_places a.s _ c.well-formed.1.0) c.if-count-place.true refl
+    itself a.cfg a.s a.t a.length _ _ _ _ c.lowest-low.ensures (eight_places a.s _ c.well_formed.1.0) c.if-count-place.true refl
 
 pub put-requires : goal.put-requires
 put-requires c =
@@ -53,4 +53,4 @@ put-requires c =
 pub returns : goal.returns
 returns c =
     let a = c.args in
-    another a.cfg a.s a.t a.length _ _ _ _ c.lowest-low.ensures (eight_places a.s _ c.well-formed.1.0) c.if-count-place.false c.put.ensures
+    another a.cfg a.s a.t a.length _ _ _ _ c.lowest-low.ensures (eight_places a.s _ c.well_formed.1.0) c.if-count-place.false c.put.ensures

@@ -11,5 +11,5 @@ returns c =
     let b = c in
     let s = b.args.s in
     let st : Small b.args.t = omega arith in
-    let highest = c.higher.ensures ∙ higher_key b.args.cfg b.requires s.highest b.args.t (highest_small s _ b.well-formed.1.0) st in
+    let highest = c.higher.ensures ∙ higher_key b.args.cfg b.requires s.highest b.args.t (highest_small s _ b.well_formed.1.0) st in
     λ i. record { me = s.me; highest = highest i; floor = s.floor; count = s.count; tags = s.tags; lengths = s.lengths }

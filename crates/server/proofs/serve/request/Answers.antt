@@ -23,7 +23,7 @@ keep-element cfg s t n bs store after r k = subst (λ (l : List ℕ). KeepPost c
 pub respond-requires : goal.respond-requires
 respond-requires c =
     let s = c in
-    let n : s.args.s.highest.number ≤ highest_number = omega (arith, s.well-formed.1.0) in
+    let n : s.args.s.highest.number ≤ highest_number = omega (arith, s.well_formed.1.0) in
     query_reply c.args.cfg c.args.s c.args.h c.args.handed.now c.args.store.now c.args.answer.now s.requires _ refl n _ c.bare.ensures _ s.requires.answer_eighty
 
 pub keep-after-requires : goal.keep-after-requires

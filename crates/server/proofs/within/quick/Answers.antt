@@ -64,7 +64,7 @@ pub returns-then-not-floor_full : goal.returns-then-not-floor_full
 returns-then-not-floor_full c = λ e. absurd (true≢false (sym e))
 
 pub returns-in_default : goal.returns-in_default
-returns-in_default c =
+returns-in_default c e =
     let h = c in
     let a = h.args in
     by-full _ _ h.server_within.ensures h.if-not-server_within.false-raw
@@ -76,7 +76,7 @@ pub eight-requires : goal.eight-requires
 eight-requires c = c.requires.c_high
 
 pub returns-then-count-eq8 : goal.returns-then-count-eq8
-returns-then-count-eq8 c =
+returns-then-count-eq8 c e =
     let h = c in
     let a = h.args in
     by-full _ _ h.server_within.ensures h.if-not-server_within.false-raw
@@ -90,7 +90,7 @@ risen-requires c =
     (p.c_high, omega (arith, p.d_high, c.if-cfg-count.false))
 
 pub returns : goal.returns
-returns c =
+returns c e =
     let h = c in
     let a = h.args in
     by-full _ _ h.server_within.ensures h.if-not-server_within.false-raw

@@ -35,7 +35,7 @@ returns c =
     let n = c.before.before.numbers_of in
     let bytes : l.out ≡ packed x =
     rows_all (row_at x n.result) 7 l.i l.out l.invariant.1 (omega arith) ∙ packed_rows x n.result ∙ ap (packed_with x) n.ensures in
-    record { bytes = bytes; back = ap state_of bytes ∙ back x (fitting x _ s.well-formed.0) (subst NumbersFit n.ensures (numbers_fit n.result _ n.type-inv)) }
+    record { bytes = bytes; back = ap state_of bytes ∙ back x (fitting x _ s.well_formed.0) (subst NumbersFit n.ensures (numbers_fit n.result _ n.type-inv)) }
 
 pub pack-spec : {M : Type 1} → statement M
 pack-spec = tie.close (tie.spec invariant-loop decreases-loop (λ c κs. search rules) loop-holds (λ c. search rules) (λ c. search rules) (λ c κs. search rules) (λ c. search rules) (λ c. search rules) (λ c. search rules) (λ c. search rules) (λ c κs. search rules) (λ c. search rules) (λ c. search rules) loop-again returns)

@@ -31,7 +31,7 @@ returns c =
     let l = c.before.loop in
     let s = c.before.before.args.state in
     let bytes : l.out ≡ packed s = rows_all (row_at s) 11 l.i l.out l.invariant.1 (omega arith) ∙ packed_rows s in
-    record { bytes = bytes; back = ap state_of bytes ∙ back s (fitting s _ c.before.before.well-formed.0) }
+    record { bytes = bytes; back = ap state_of bytes ∙ back s (fitting s _ c.before.before.well_formed.0) }
 
 pub pack-spec : {M : Type 1} → statement M
 pack-spec = tie.close (tie.spec invariant-loop decreases-loop loop-holds (λ c. search rules) (λ c. search rules) (λ c κs. search rules) (λ c. search rules) (λ c. search rules) (λ c. search rules) (λ c. search rules) (λ c κs. search rules) (λ c. search rules) (λ c. search rules) loop-again returns)

@@ -24,7 +24,7 @@ wrapping-add-u64-requires : tie.Need-wrapping-add-u64-requires invariant-loop de
 wrapping-add-u64-requires c κs = search rules
 
 add-taken : tie.Need-overflow-add-taken invariant-loop decreases-loop
-add-taken c = omega (arith, record_there c.before.before.before.before.before.before.before.before.before.before.before.before.before.before.before.before.event.ensures c.before.before.if1.false, c.before.before.before.before.before.before.before.before.before.before.before.before.before.before.before.before.before.before.before.before.before.before.before.before.before.event-length.ensures, c.before.before.before.before.before.before.before.before.before.before.before.before.before.before.before.before.before.before.before.before.before.before.before.before.before.before.before.before.before.before.before.before.before.well-formed.1.1.1.1.0.0)
+add-taken c = omega (arith, record_there c.before.before.before.before.before.before.before.before.before.before.before.before.before.before.before.before.event.ensures c.before.before.if1.false, c.before.before.before.before.before.before.before.before.before.before.before.before.before.before.before.before.before.before.before.before.before.before.before.before.before.event-length.ensures, c.before.before.before.before.before.before.before.before.before.before.before.before.before.before.before.before.before.before.before.before.before.before.before.before.before.before.before.before.before.before.before.before.before.well_formed.1.1.1.1.0.0)
 
 loop-less : tie.Need-loop-smaller invariant-loop decreases-loop
 loop-less c = omega (arith, record_there c.before.before.before.before.before.before.before.before.before.before.before.before.before.before.before.before.event.ensures c.before.before.if1.false, c.before.before.before.before.before.before.before.before.before.before.before.before.before.before.before.before.before.before.before.before.before.before.before.before.before.event-length.ensures)

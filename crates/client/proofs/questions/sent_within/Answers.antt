@@ -1,0 +1,60 @@
+use mathlib.Core.Path.{◌≡◌, refl, sym, ap, ◌∙◌}
+use mathlib.Core.Bool.{Bool, true, cond}
+use mathlib.Core.List.{List}
+use Prim.Native.Nat.{ℕ, ◌+◌, ◌-◌, ◌≤◌}
+use native.Mathlib.Omega.{arith}
+use borrow.Author.Rules.{rules}
+use borrow.Author.Tests.{not-true, not-false}
+use lib.Dec.{leb}
+use lib.ListN.{get_or}
+use Rattle.laws.specs.Below.{all_below}
+use Rattle.laws.proofs.Below.{below_next, below_no}
+use Rattle.config.specs.declared.Config.{Config}
+use Rattle.config.specs.Config.{board_length}
+use Rattle.config.proofs.Sizes.{board_small}
+use Rattle.client.specs.Servers.{member}
+use Rattle.client.proofs.questions.sent_within.Invariants.{here}
+use Rattle.client.proofs.questions.sent_within.Goals as goal
+
+pub overflow_mul-v : goal.overflow_mul-v
+overflow_mul-v c = omega (arith, board_small c.args.cfg c.requires)
+
+pub loop-i-init : goal.loop-i-init
+unfolding all_below
+loop-i-init c = (omega arith, refl)
+
+pub overflow_cast-i : goal.overflow_cast-i
+overflow_cast-i c = record { fits = omega (arith, c.loop-i.invariant.0, c.requires.n_high) }
+
+pub has-requires : goal.has-requires
+has-requires c = omega (arith, c.loop-i.invariant.0, c.requires.n_high)
+
+pub offset_bounds-lengths-i : goal.offset_bounds-lengths-i
+offset_bounds-lengths-i c = record { fits = omega (arith, c.loop-i.invariant.0, c.requires.n_high) }
+
+pub bounds-lengths-i : goal.bounds-lengths-i
+bounds-lengths-i c = omega (arith, c.loop-i.invariant.0, c.requires.n_high)
+
+pub returns-then-not-length_within : goal.returns-then-not-length_within
+returns-then-not-length_within c =
+    let s = c in
+    let i = c.loop-i.i in
+    sym (below_no s.args.cfg.n (here s.args.cfg s.args.sent s.args.lengths) i (omega arith)
+    (ap (λ (b : Bool). cond b (leb (get_or s.args.lengths i 0) (board_length s.args.cfg)) true) (sym c.has.ensures)
+    ∙ sym c.length_within.ensures ∙ not-true _ c.if-not-length_within.true-raw))
+
+pub loop-i-preserved : goal.loop-i-preserved
+loop-i-preserved c =
+    let s = c in (
+      omega arith,
+      below_next c.loop-i.i (here s.args.cfg s.args.sent s.args.lengths) c.loop-i.invariant.1
+          (ap (λ (b : Bool). cond b (leb (get_or s.args.lengths c.loop-i.i 0) (board_length s.args.cfg)) true) (sym c.has.ensures)
+          ∙ sym c.length_within.ensures ∙ not-false _ c.if-not-length_within.false-raw),
+    )
+
+pub returns : goal.returns
+returns c =
+    let l = c.loop-i in
+    let s = c in
+    let end : l.i ≡ s.args.cfg.n = omega (arith, l.invariant.0) in
+    sym l.invariant.1 ∙ ap (λ (n : ℕ). all_below n (here s.args.cfg s.args.sent s.args.lengths)) end

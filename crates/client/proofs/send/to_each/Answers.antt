@@ -1,0 +1,94 @@
+use mathlib.Core.Path.{◌≡◌, refl, ◌∙◌, ap}
+use mathlib.Core.List.{List, ◌++◌, append-nil}
+use Prim.Native.Nat.{ℕ, ◌+◌, ◌-◌, ◌*◌, ◌≤◌}
+use native.Mathlib.Numerals.{add-one}
+use native.Mathlib.Omega.{arith}
+use borrow.Author.Rules.{rules}
+use borrow.Rule.Slice.PartMut.{same_len_mid}
+use lib.ListN.{length, take, drop, drop_of_length-le}
+use Rattle.laws.proofs.Parts.{lent_length}
+use Rattle.config.specs.declared.Config.{Config}
+use Rattle.record.specs.Record.{record_of}
+use Rattle.protocol.specs.Boards.{BoardMessage}
+use Rattle.protocol.specs.Number.{to_each}
+use Rattle.client.specs.declared.send.Broadcast.{Broadcast}
+use Rattle.client.specs.Send.{records_of}
+use Rattle.client.specs.inner.Send.{message_to}
+use Rattle.client.proofs.Sending.{filled_message, sent_more, unsent}
+use Rattle.client.proofs.send.to_each.Goals as goal
+
+-- the servers 1 to s have their records
+record Now (cfg : Config) (b : Broadcast) (board sends₀ sends : List ℕ) (s : ℕ) : Type 0 where
+  done : sends ≡ records_of cfg (to_each s (message_to cfg b board)) ++ drop (80 * s) sends₀
+  high : s ≤ cfg.n
+  same : length sends ≡ length sends₀
+
+-- once all have theirs, the buffer holds nothing else
+all : (cfg : Config) (f : ℕ → BoardMessage) (s : ℕ) (sends₀ sends : List ℕ) → sends ≡ records_of cfg (to_each s f) ++ drop (80 * s) sends₀
+    → s ≡ cfg.n → length sends₀ ≡ 80 * cfg.n → sends ≡ records_of cfg (to_each cfg.n f)
+all cfg f s sends₀ sends done end room =
+    done ∙ ap (λ (l : List ℕ). records_of cfg (to_each s f) ++ l) (drop_of_length-le sends₀ {i = 80 * s} (omega arith)) ∙ append-nil (records_of cfg (to_each s f))
+    ∙ ap (λ (i : ℕ). records_of cfg (to_each i f)) end
+
+pub loop-s-init : goal.loop-s-init
+unfolding to_each records_of
+loop-s-init c = record { done = refl; high = omega arith; same = refl }
+
+pub overflow_mul-at : goal.overflow_mul-at
+overflow_mul-at c = omega (arith, c.loop-s-test.true, c.requires.goes.valid.n_high)
+
+pub overflow_add-end : goal.overflow_add-end
+overflow_add-end c = omega (arith, c.loop-s-test.true, c.requires.goes.valid.n_high)
+
+pub overflow_add-s : goal.overflow_add-s
+overflow_add-s c = omega (arith, c.loop-s-test.true, c.requires.goes.valid.n_high)
+
+pub overflow_cast-s : goal.overflow_cast-s
+overflow_cast-s c = omega (arith, c.loop-s-test.true, c.requires.goes.valid.n_high)
+
+pub slice_bounds-address-end : goal.slice_bounds-address-end
+slice_bounds-address-end c = omega (arith, c.loop-s-test.true, c.loop-s.invariant.same, c.requires.room)
+
+pub address-requires : goal.address-requires
+address-requires c =
+    let s = c in
+    let l = c.loop-s in
+    record {
+      goes = s.requires.goes;
+      low = omega arith;
+      high = omega (arith, c.loop-s-test.true);
+      room = lent_length l.sends (80 * l.s) 80 (omega (arith, c.loop-s-test.true, l.invariant.same, c.fill.auto.sends, s.requires.room));
+    }
+
+pub loop-s-smaller : goal.loop-s-smaller
+loop-s-smaller c = omega (arith, c.loop-s-test.true)
+
+pub loop-s-preserved : goal.loop-s-preserved
+loop-s-preserved c =
+    let s = c in
+    let a = s.args in
+    let e = c.fill in
+    let l = c.loop-s in
+    let o = c.address in
+    let below = c.loop-s-test.true in
+    let f = message_to a.cfg a.b a.board.now in
+    let first = e.new.1.1.1.0 in
+    let room : 80 * l.s + 80 ≤ length first = omega (arith, below, e.auto.1.1.1.0, s.requires.room) in
+    let holds = unsent a.cfg f l.s first l.sends l.invariant.done l.invariant.same room ∙ ap (λ (bs : List ℕ). take 80 (drop (80 * l.s) bs)) e.ensures in
+    let one = o.ensures ∙ ap (record_of a.cfg) (filled_message a.cfg a.b a.board.now a.sends.now s.requires l.s below (add-one l.s) holds) in
+    record {
+      done = rw (add-one l.s) (sent_more a.cfg f l.s first l.sends l.invariant.done l.invariant.same room _ one);
+      high = omega (arith, below);
+      same = same_len_mid (80 * l.s) (80 * l.s + 80 - 80 * l.s) l.sends o.new.1.1.1.0 o.auto.1.1.1.0 ∙ l.invariant.same;
+    }
+
+pub shape_of-sends : goal.shape_of-sends
+shape_of-sends c = c.loop-s.invariant.same ∙ c.fill.auto.sends
+
+pub returns : goal.returns
+returns c =
+    let s = c in
+    let e = c.fill in
+    let l = c.loop-s in
+    all s.args.cfg (message_to s.args.cfg s.args.b s.args.board.now) l.s e.new.1.1.1.0 l.sends l.invariant.done
+    (omega (arith, l.invariant.high, c.loop-s-test.false)) (e.auto.1.1.1.0 ∙ s.requires.room)

@@ -8,4 +8,4 @@ use Rattle.client.specs.declared.State.{State}
 use Rattle.client.specs.contracts.State as state
 
 pub sixteen_places : (x : State) (vs : List Val) → Is state.the_row x vs → length x.lengths ≡ 16
-sixteen_places x vs p = sym (length-map x.lengths _) ∙ p.1.1.1.1.1.1.0.1.0.1
+sixteen_places x vs p = p.1.1.1.1.1.1.0.1.0.1

@@ -54,23 +54,43 @@ module _ (c : Else-no-ne0) where
       yes_next 19 (leb c.args.length (board_length c.args.cfg)) (begin_questions (bare c.args.cfg c.args.state)) (omega arith)
       (passes _ _ _ _ pass).3
 
+pub begin_write-no-requires : goal.begin_write-no-requires
+unfolding numbered
+begin_write-no-requires c = search rules
+
+pub refused-requires : goal.refused-requires
+unfolding numbered
+refused-requires c = search rules
+
 pub returns-then-no-ne0 : goal.returns-then-no-ne0
+unfolding numbered
 returns-then-no-ne0 c es = begin-refused _ _ _ _ (begin-numbered _ _) _ _ es _ c.begin_write-no.ensures c.if-no-ne0.true c.refused.ensures
 
-pub copy-requires : goal.copy-requires
-copy-requires c = le_of_eq (copy-length (goal.at.copy-requires c).Else-no-ne0)
+pub cut-requires : goal.cut-requires
+unfolding numbered
+cut-requires c = search rules
 
 pub begun-requires : goal.begun-requires
+unfolding numbered
 begun-requires c = operation-below _ _ (then (goal.at.begun-requires c).Else-no-ne0).1
 
 pub announce-requires : goal.announce-requires
+unfolding numbered
 announce-requires c = let e = c in rw c.begun.ensures (announces _ _ (passes _ _ _ _ (pass (goal.at.announce-requires c).Else-no-ne0)).2 true _ (then (goal.at.announce-requires c).Else-no-ne0).0 (passes _ _ _ _ (pass (goal.at.announce-requires c).Else-no-ne0)).0 _ _ (sends-length (goal.at.announce-requires c).Else-no-ne0))
+
+pub shape_of-kept : goal.shape_of-kept
+unfolding numbered
+shape_of-kept c = search rules
+
+pub shape_of-sends : goal.shape_of-sends
+unfolding numbered
+shape_of-sends c = search rules
 
 pub returns : goal.returns
 returns c es = let e = c in
-    let a = (s (goal.at.returns c).Else-no-ne0).args in
+    let a = e.args in
     let n = a.length in
-    let copy = (c.copy.ensures.whole (search rules)).1 ∙ copied a.board.now a.kept.now _ refl (sym (copy-length (goal.at.returns c).Else-no-ne0)) in
+    let copy = (c.copy.ensures.whole (le_of_eq (copy-length (goal.at.returns c).Else-no-ne0))).1 ∙ copied a.board.now a.kept.now _ refl (sym (copy-length (goal.at.returns c).Else-no-ne0)) in
     let same = c.cut.ensures ∙ ap (cut n) copy in
     begun _ _ _ _ (pass (goal.at.returns c).Else-no-ne0) (some (board_of n a.board.now)) a.kept.now _ es a.sends.now refl refl refl same
     (asks _ a.state (passes _ _ _ _ (pass (goal.at.returns c).Else-no-ne0)).2 true n (then (goal.at.returns c).Else-no-ne0).0 _ _ _ es _ []

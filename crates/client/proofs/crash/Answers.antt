@@ -22,6 +22,7 @@ use Rattle.client.specs.inner.Outcome.{RefusedPost}
 use Rattle.client.proofs.Asked.{call_numbered, others, stopped}
 use borrow.Author.Rules.{rules}
 use Rattle.client.specs.contracts.Phase as phase
+use borrow.Enum.Refused.{opened}
 use Rattle.client.proofs.crash.Goals as goal
 
 module _ (cfg : Config) (x : State) where
@@ -48,17 +49,44 @@ module _ (cfg : Config) (x : State) where
         nothing = h.ended;
       }
 
+pub ask-no-requires : goal.ask-no-requires
+unfolding first_no
+ask-no-requires c = search rules
+
+pub refused-requires : goal.refused-requires
+unfolding first_no
+refused-requires c = search rules
+
 pub returns-then-no-ne0 : goal.returns-then-no-ne0
+unfolding first_no
 returns-then-no-ne0 c = refused _ _ (stopped _ _ c.ask-no.ensures c.if-no-ne0.true true _) c.if-no-ne0.true c.refused.ensures
 
+pub enum_told-1 : goal.enum_told-1
+unfolding first_no
+enum_told-1 c = search rules
+
+pub in_phase-requires : goal.in_phase-requires
+unfolding first_no
+in_phase-requires c = search rules
+
+pub accepted-requires : goal.accepted-requires
+unfolding first_no
+accepted-requires c = search rules
+
 pub returns-in_default : goal.returns-in_default
+unfolding first_no
 returns-in_default c = let a = c in
     let none = others _ _ a.ask-no.ensures c.if-no-ne0.false refl _
-    (sym (first_no_yes 9 _ [] (up a.args.cfg a.args.state _ refl c.in_default.is))) in
+    (sym (first_no_yes 9 _ [] (up a.args.cfg a.args.state _ refl (opened c.in_default.in_default-own.keys2)))) in
     rw (c.accepted.ensures, c.in_phase.ensures)
     (record { number = none; state = rw (eq-eqb _ 0 (sym none)); sent = refl; nothing = refl })
 
+pub refused-requires-2 : goal.refused-requires-2
+unfolding first_no
+refused-requires-2 c = search rules
+
 pub returns : goal.returns
+unfolding first_no
 returns c = let a = c in
     refused _ _ (others _ _ a.ask-no.ensures c.if-no-ne0.false refl _
     (sym (first_no_no 9 _ [] (down a.args.cfg a.args.state c.in-Down.is))))

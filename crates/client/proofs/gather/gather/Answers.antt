@@ -12,14 +12,8 @@ use Rattle.protocol.specs.Number.{present}
 use Rattle.client.specs.Servers.{sent_by}
 use Rattle.client.specs.inner.Gather.{GatherPost, GatherPre, bytes_at, lowest}
 use Rattle.client.proofs.Gathering.{gathered_all, gathered_more}
+use Rattle.client.proofs.gather.gather.Invariants.{Now}
 use Rattle.client.proofs.gather.gather.Goals as goal
-
--- the servers 1 to s are done
-record Now (cfg : Config) (sent : ℕ) (es numbers₀ packed₀ numbers packed : List ℕ) (found s : ℕ) : Type 0 where
-  done : GatherPost cfg (lowest cfg es sent s) numbers₀ numbers packed₀ packed found
-  high : s ≤ cfg.n
-  same_numbers : length numbers ≡ length numbers₀
-  same-packed : length packed ≡ length packed₀
 
 none_yet : (cfg : Config) (sent : ℕ) (es numbers packed : List ℕ) → GatherPost cfg (lowest cfg es sent 0) numbers numbers packed packed 0
 unfolding present joined
@@ -85,8 +79,8 @@ loop-s-preserved c =
           (gathered_more s.args.cfg s.args.sent s.args.elements.now s.args.numbers.now s.args.packed.now l.s l.found
           p.result l.numbers _ l.packed _ l.invariant.done (rw (add-one l.s) at p.ensures) s.requires.elements below s.requires.numbers_room);
       high = omega (arith, below);
-      same_numbers = p.auto.1.1.1.1.1.0 ∙ l.invariant.same_numbers;
-      same-packed = p.auto.1.1.1.1.1.1.0 ∙ l.invariant.same-packed;
+      same_numbers = p.auto.numbers ∙ l.invariant.same_numbers;
+      same-packed = p.auto.packed ∙ l.invariant.same-packed;
     }
 
 pub shape_of-numbers : goal.shape_of-numbers

@@ -12,6 +12,7 @@ use Rattle.client.specs.declared.Phase.{Phase}
 use Rattle.client.specs.declared.Phase.TheVariants.{Idle, Asking, PreWriting, FinalisingWrite, FinalisingRead, Down}
 use Rattle.client.specs.State.{lengths_within}
 use Rattle.client.specs.contracts.Phase as phase
+use borrow.Enum.Refused.{opened}
 use Rattle.client.proofs.questions.lengths_within.Goals as goal
 
 -- of the other phases nothing is asked
@@ -38,4 +39,4 @@ unfolding lengths_within
 returns-in-FinalisingRead c = rw c.in-FinalisingRead.is c.sent_within.ensures
 
 pub returns-in_default : goal.returns-in_default
-returns-in_default c = none-used c.args.cfg c.args.x.phase _ _ c.in_default.is
+returns-in_default c = none-used c.args.cfg c.args.x.phase _ _ (opened c.in_default.in_default-own.keys3)

@@ -22,7 +22,7 @@ module _ (c : Else-not-b) where
   has = ap (λ (b : Broadcast). b.element) (sym c.opening-b.ensures) ∙ not-false _ c.if-not-b.false
 
   v_bytes : length c.args.board.now ≤ 1024
-  v_bytes = omega (arith, whole c.args.cfg c.args.x c.args.board.now c.args.sends.now c.pre has, board_small c.args.cfg c.pre.valid)
+  v_bytes = omega (arith, whole c.args.cfg c.args.x c.args.board.now c.args.sends.now c.requires has, board_small c.args.cfg c.requires.valid)
 
 pub to_each-requires : goal.to_each-requires
 to_each-requires c = let s = c in
@@ -37,9 +37,9 @@ returns-then-not-b c = let o = c in
       move = c.accepted.ensures;
       out =
           rw (sym o.opening-b.ensures)
-          (fills (records_of s.args.cfg (broadcast s.args.cfg o.opening-b.result (cut s.args.x.length s.args.board.now))) s.args.sends.now t.new.1.1.1.0
+          (fills (records_of s.args.cfg (broadcast s.args.cfg o.opening-b.result (cut s.args.x.length s.args.board.now))) s.args.sends.now t.new.sends
           (t.ensures ∙ ap (records_of s.args.cfg) (unlooked s.args.cfg s.args.x s.args.board.now s.args.sends.now s.requires o.opening-b.result _ none))
-          t.auto.1.1.1.0);
+          t.auto.sends);
     }
 
 pub slice_bounds-whole-end : goal.slice_bounds-whole-end
@@ -50,7 +50,7 @@ slice_bounds-cut_to_each-end c = sym (length-take-le _ _ (v_bytes (goal.at.slice
 
 pub cut_to_each-requires : goal.cut_to_each-requires
 cut_to_each-requires c = let e = c in (
-      rw c.opening-b.ensures (sends_each (s (goal.at.cut_to_each-requires c).Else-not-b).args.cfg (s (goal.at.cut_to_each-requires c).Else-not-b).args.x (s (goal.at.cut_to_each-requires c).Else-not-b).args.board.now (s (goal.at.cut_to_each-requires c).Else-not-b).args.sends.now (s (goal.at.cut_to_each-requires c).Else-not-b).requires (s (goal.at.cut_to_each-requires c).Else-not-b).args.board.now (λ h. refl)),
+      rw c.opening-b.ensures (sends_each e.args.cfg e.args.x e.args.board.now e.args.sends.now e.requires e.args.board.now (λ h. refl)),
       length-take-le _ _ (v_bytes (goal.at.cut_to_each-requires c).Else-not-b),
     )
 
@@ -58,12 +58,12 @@ pub returns : goal.returns
 returns c = let e = c in
     let o = c in
     let t = c.cut_to_each in
-    let a = (s (goal.at.returns c).Else-not-b).args in
+    let a = e.args in
     let n : o.opening-b.result.length ≡ a.x.length = ap (λ (b : Broadcast). b.length) o.opening-b.ensures ∙ its_length a.x a.x.phase (has (goal.at.returns c).Else-not-b) in
     record {
       move = c.accepted-2.ensures;
       out =
           rw (sym o.opening-b.ensures)
           (fills (records_of a.cfg (broadcast a.cfg o.opening-b.result (cut a.x.length a.board.now))) a.sends.now _
-          (t.ensures ∙ ap (λ (k : ℕ). records_of a.cfg (broadcast a.cfg o.opening-b.result (cut k a.board.now))) n) t.auto.1.1.1.1.0);
+          (t.ensures ∙ ap (λ (k : ℕ). records_of a.cfg (broadcast a.cfg o.opening-b.result (cut k a.board.now))) n) t.auto.sends);
     }

@@ -23,15 +23,12 @@ module _ (c : After-cut) where
   whole : c.cut.new.board ≡ cut c.args.b.length c.args.board.now
   whole =
       c.cut.ensures
-      ∙ ap (cut c.args.b.length) ((c.copy.ensures.whole (search rules)).1 ∙ copied c.args.board.now c.args.whole.now _ refl c.pre.1)
-
-pub copy-requires : goal.copy-requires
-copy-requires c = le_of_eq (sym c.requires.1)
+      ∙ ap (cut c.args.b.length) ((c.copy.ensures.whole (search rules)).1 ∙ copied c.args.board.now c.args.whole.now _ refl c.requires.1)
 
 pub to_each-requires : goal.to_each-requires
 to_each-requires c = let k = c in
-    with-board _ (ap length (whole (goal.at.to_each-requires c).After-cut) ∙ length_cut (s (goal.at.to_each-requires c).After-cut).args.b.length (s (goal.at.to_each-requires c).After-cut).args.board.now) (s (goal.at.to_each-requires c).After-cut).requires.0
+    with-board _ (ap length (whole (goal.at.to_each-requires c).After-cut) ∙ length_cut k.args.b.length k.args.board.now) k.requires.0
 
 pub returns : goal.returns
 returns c = let k = c in
-    c.to_each.ensures ∙ ap (λ (bs : List ℕ). records_of (s (goal.at.returns c).After-cut).args.cfg (broadcast (s (goal.at.returns c).After-cut).args.cfg (s (goal.at.returns c).After-cut).args.b bs)) (whole (goal.at.returns c).After-cut)
+    c.to_each.ensures ∙ ap (λ (bs : List ℕ). records_of k.args.cfg (broadcast k.args.cfg k.args.b bs)) (whole (goal.at.returns c).After-cut)

@@ -15,13 +15,8 @@ use Rattle.client.specs.declared.send.Broadcast.{Broadcast}
 use Rattle.client.specs.Send.{records_of}
 use Rattle.client.specs.inner.Send.{message_to}
 use Rattle.client.proofs.Sending.{filled_message, sent_more, unsent}
+use Rattle.client.proofs.send.to_each.Invariants.{Now}
 use Rattle.client.proofs.send.to_each.Goals as goal
-
--- the servers 1 to s have their records
-record Now (cfg : Config) (b : Broadcast) (board sends₀ sends : List ℕ) (s : ℕ) : Type 0 where
-  done : sends ≡ records_of cfg (to_each s (message_to cfg b board)) ++ drop (80 * s) sends₀
-  high : s ≤ cfg.n
-  same : length sends ≡ length sends₀
 
 -- once all have theirs, the buffer holds nothing else
 all : (cfg : Config) (f : ℕ → BoardMessage) (s : ℕ) (sends₀ sends : List ℕ) → sends ≡ records_of cfg (to_each s f) ++ drop (80 * s) sends₀
@@ -72,14 +67,14 @@ loop-s-preserved c =
     let o = c.address in
     let below = c.loop-s-test.true in
     let f = message_to a.cfg a.b a.board.now in
-    let first = e.new.1.1.1.0 in
-    let room : 80 * l.s + 80 ≤ length first = omega (arith, below, e.auto.1.1.1.0, s.requires.room) in
+    let first = e.new.sends in
+    let room : 80 * l.s + 80 ≤ length first = omega (arith, below, e.auto.sends, s.requires.room) in
     let holds = unsent a.cfg f l.s first l.sends l.invariant.done l.invariant.same room ∙ ap (λ (bs : List ℕ). take 80 (drop (80 * l.s) bs)) e.ensures in
     let one = o.ensures ∙ ap (record_of a.cfg) (filled_message a.cfg a.b a.board.now a.sends.now s.requires l.s below (add-one l.s) holds) in
     record {
       done = rw (add-one l.s) (sent_more a.cfg f l.s first l.sends l.invariant.done l.invariant.same room _ one);
       high = omega (arith, below);
-      same = same_len_mid (80 * l.s) (80 * l.s + 80 - 80 * l.s) l.sends o.new.1.1.1.0 o.auto.1.1.1.0 ∙ l.invariant.same;
+      same = same_len_mid (80 * l.s) (80 * l.s + 80 - 80 * l.s) l.sends o.new.buffer o.auto.buffer ∙ l.invariant.same;
     }
 
 pub shape_of-sends : goal.shape_of-sends
@@ -90,5 +85,5 @@ returns c =
     let s = c in
     let e = c.fill in
     let l = c.loop-s in
-    all s.args.cfg (message_to s.args.cfg s.args.b s.args.board.now) l.s e.new.1.1.1.0 l.sends l.invariant.done
-    (omega (arith, l.invariant.high, c.loop-s-test.false)) (e.auto.1.1.1.0 ∙ s.requires.room)
+    all s.args.cfg (message_to s.args.cfg s.args.b s.args.board.now) l.s e.new.sends l.sends l.invariant.done
+    (omega (arith, l.invariant.high, c.loop-s-test.false)) (e.auto.sends ∙ s.requires.room)

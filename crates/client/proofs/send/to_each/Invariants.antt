@@ -17,6 +17,12 @@ use Rattle.client.specs.inner.Send.{message_to}
 use Rattle.client.proofs.Sending.{filled_message, sent_more, unsent}
 use Rattle.client.proofs.send.to_each.Given as goal
 
+-- the servers 1 to s have their records
+pub record Now (cfg : Config) (b : Broadcast) (board sends₀ sends : List ℕ) (s : ℕ) : Type 0 where
+  pub done : sends ≡ records_of cfg (to_each s (message_to cfg b board)) ++ drop (80 * s) sends₀
+  pub high : s ≤ cfg.n
+  pub same : length sends ≡ length sends₀
+
 abbrev pub invariant-loop-s : goal.invariant-loop-s
 invariant-loop-s l = Now l.cfg l.b l.board l.initial.sends l.sends l.s
 

@@ -13,7 +13,16 @@ use Rattle.client.proofs.servers.put.Goals as goal
 one_bit : (s : ℕ) → s < 32 → (1 * 2 ^ s) % 4294967296 ≡ 2 ^ s
 one_bit s h = shl_exact {a = 1} 1 s 32 (lit< tt) (omega arith) ∙ one-mul (2 ^ s)
 
+pub overflow_shl-bit : goal.overflow_shl-bit
+unfolding put_of
+overflow_shl-bit c = search rules
+
+pub has-requires : goal.has-requires
+unfolding put_of
+has-requires c = search rules
+
 pub returns-then-there : goal.returns-then-there
+unfolding put_of
 returns-then-there c = rw (sym c.has.ensures ∙ c.if-has.true, c.if-there.true)
 
 pub overflow_sub-result : goal.overflow_sub-result
@@ -23,6 +32,7 @@ overflow_sub-result c =
     (member_le a.s a.set (sym c.has.ensures ∙ c.if-has.true))
 
 pub returns-then-has : goal.returns-then-has
+unfolding put_of
 returns-then-has c = rw (one_bit _ c.requires, sym c.has.ensures ∙ c.if-has.true, c.if-there.false)
 
 pub overflow_add-result : goal.overflow_add-result
@@ -32,7 +42,9 @@ overflow_add-result c =
     (record { fits = put_lt 32 a.s a.set c.requires c.ranges.set.fits (sym c.has.ensures ∙ c.if-has.false) })
 
 pub returns-then-there-2 : goal.returns-then-there-2
+unfolding put_of
 returns-then-there-2 c = rw (one_bit _ c.requires, sym c.has.ensures ∙ c.if-has.false, c.if-there-2.true)
 
 pub returns : goal.returns
+unfolding put_of
 returns c = rw (sym c.has.ensures ∙ c.if-has.false, c.if-there-2.false)

@@ -8,14 +8,8 @@ use native.Mathlib.Decide.{ℕ_discrete}
 use borrow.Author.Rules.{rules}
 use Rattle.protocol.specs.Boards.{cut}
 use Rattle.protocol.proofs.Cut.{cut_is, cut_set}
+use Rattle.client.proofs.zeros.cut.Invariants.{Now}
 use Rattle.client.proofs.zeros.cut.Goals as goal
-
--- zeros from n up to i; cut at n, the bytes are what they were
-record Now (n : ℕ) (board₀ board : List ℕ) (i : ℕ) : Type 0 where
-  from : n ≤ i
-  same : length board ≡ length board₀
-  alike : cut n board ≡ cut n board₀
-  zeros : (j : ℕ) → n ≤ j → j < i → ◌≡◌ {A = ℕ} (get_or board j 0) 0
 
 pub loop-i-init : goal.loop-i-init
 loop-i-init c = record { from = search rules; same = refl; alike = refl; zeros = λ j lo hi. absurd (omega arith) }

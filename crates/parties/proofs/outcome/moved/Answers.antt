@@ -6,7 +6,7 @@ use Rattle.parties.proofs.outcome.moved.Goals as goal
 pub returns-in_default : goal.returns-in_default
 returns-in_default c =
     let a = c.args in
-    ap (λ z. record { answer = z; pair = record { node = a.pair.node; client = a.y.state }; sent = a.y.sent }) c.Ended-by.ensures
+    ap (λ z. record { answer = z; pair = record { node = a.pair.node; client = a.y.state }; sent = a.y.sent }) c.ended_by.ensures
     ∙ sym (ap (λ v. moved_on v a.pair a.y) c.in_default.is)
 
 pub returns : goal.returns

@@ -1,0 +1,49 @@
+use Prim.Native.Nat.{◌*◌}
+use mathlib.Core.Path.{sym, ◌∙◌}
+use mathlib.Core.List.{[]}
+use native.Mathlib.Omega.{arith}
+use borrow.Author.Rules.{rules}
+use Rattle.laws.proofs.Parts.{lent_is, over_lent}
+use Rattle.events.proofs.begin.Laws.{asked_yes, read_acted, read_refused}
+use Rattle.events.proofs.outcome.Laws.{sent_room}
+use Rattle.events.proofs.begin.read.Goals as goal
+
+pub asked-no-requires : goal.asked-no-requires
+asked-no-requires c = let s = c in (s.requires.part.valid, s.requires.part.few)
+
+pub returns-then-no-ne0 : goal.returns-then-no-ne0
+returns-then-no-ne0 c =
+    let a = c.args in
+    read_refused a.cfg a.m a.part a.call a.messages.now c.refused.result c.asked-no.result c.of.result
+    c.if-no-ne0.true c.of.ensures c.refused.ensures c.asked-no.ensures
+
+pub overflow_mul-from : goal.overflow_mul-from
+overflow_mul-from c = let s = c in omega (arith, s.requires.part.few)
+
+pub overflow_mul-end : goal.overflow_mul-end
+overflow_mul-end c = let s = c in omega (arith, s.requires.part.valid.n_high)
+
+pub overflow_add-end : goal.overflow_add-end
+overflow_add-end c = let s = c in omega (arith, s.requires.part.few, s.requires.part.valid.n_high)
+
+pub slice_bounds-read-end : goal.slice_bounds-read-end
+slice_bounds-read-end c =
+    let s = c in
+    let a = s.args in
+    omega (arith, s.requires.long, (asked_yes a.cfg a.m a.part a.call.party (sym c.if-no-ne0.false ∙ c.asked-no.ensures)).1)
+
+pub overflow_add-count : goal.overflow_add-count
+overflow_add-count c =
+    let s = c in
+    omega (arith, sent_room s.requires.part.valid.e_high (c.read-acted.ensures [] [] [] []), c.messages-1.given.0, s.requires.part.few, s.requires.part.valid.n_high)
+
+pub returns : goal.returns
+returns c =
+    let s = c in
+    let a = s.args in
+    let n = a.part.count in
+    let w = c.read-acted in
+    read_acted a.cfg a.m a.part a.call a.messages.now c.acted.result (sym c.if-no-ne0.false ∙ c.asked-no.ensures)
+    s.requires.long w.result _ w.new.sends _ c.acted.ensures (lent_is a.messages.now (80 * n) (80 * a.cfg.n))
+    (over_lent (80 * n) (80 * a.cfg.n) w.new.sends a.messages.now)
+    c.messages-1.given.0 w.ensures

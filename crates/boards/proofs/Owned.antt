@@ -14,10 +14,10 @@ use Rattle.boards.specs.contracts.OneBoard as one
 use Rattle.boards.specs.contracts.Rig as rig
 
 pub board_places : (r : Rig) (vs : List Val) → Is rig.the_row r vs → length r.boards ≡ 8
-board_places r vs p = array_length one.the_field 8 r.boards _ p.1.1.0
+board_places r vs p = array_length one.the_row 8 r.boards _ p.1.1.0
 
 pub server_places : (x : OneBoard) (vs : List Val) → Is one.the_row x vs → length x.servers ≡ 16
-server_places x vs p = array_length node.the_field 16 x.servers _ p.1.1.0
+server_places x vs p = array_length node.the_row 16 x.servers _ p.1.1.0
 
 pub client_places : (x : OneBoard) (vs : List Val) → Is one.the_row x vs → length x.clients ≡ 16
-client_places x vs p = array_length client.the_field 16 x.clients _ p.1.1.1.0
+client_places x vs p = array_length client.the_row 16 x.clients _ p.1.1.1.0

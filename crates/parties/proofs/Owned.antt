@@ -10,7 +10,7 @@ use mir.Val.{Val}
 use denote.Array.{Array}
 use denote.Laws.{Is}
 use denote.Plain.{UInt}
-use denote.Struct.Field.{Field, array_field}
+use denote.RattleType.{RattleType}
 use Rattle.tag.proofs.Owned.{each_at, tag_number}
 use Rattle.laws.specs.Bytes.{Bytes}
 use Rattle.server.proofs.Owned.{tags_numbers}
@@ -22,8 +22,8 @@ use Rattle.parties.specs.contracts.Pair as pair
 use Rattle.parties.proofs.Formed.{NumberedPhase, NumberedServer}
 
 -- how many values an array has
-pub array_length : (F : Field) (n : ℕ) (xs : List F.Value) (vs : List Val) → Is (array_field F n).row (map F.into xs) vs → length xs ≡ n
-array_length F n xs vs p = sym (length-map xs F.into) ∙ p.1.0.1
+pub array_length : (R : RattleType) (n : ℕ) (xs : List R.Denot) (vs : List Val) → Is (Array R n) xs vs → length xs ≡ n
+array_length R n xs vs p = p.1.0.1
 
 -- a record's bytes
 pub bytes_are : (n : ℕ) (bs : List ℕ) (vs : List Val) → Is (Array (UInt w8) n) bs vs → Bytes bs

@@ -11,7 +11,7 @@ use Rattle.events.specs.declared.Rig.{Rig}
 use Rattle.events.specs.contracts.Rig as rig
 
 pub server_places : (r : Rig) (vs : List Val) → Is rig.the_row r vs → length r.servers ≡ 16
-server_places r vs p = array_length node.the_field 16 r.servers _ p.1.1.0
+server_places r vs p = array_length node.the_row 16 r.servers _ p.1.1.0
 
 pub client_places : (r : Rig) (vs : List Val) → Is rig.the_row r vs → length r.clients ≡ 16
-client_places r vs p = array_length client.the_field 16 r.clients _ p.1.1.1.0
+client_places r vs p = array_length client.the_row 16 r.clients _ p.1.1.1.0

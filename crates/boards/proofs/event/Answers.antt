@@ -1,0 +1,55 @@
+use native.Mathlib.Omega.{arith}
+use borrow.Author.Rules.{rules}
+use Rattle.config.proofs.Rooms.{boards_high, boards_low, room_is}
+use Rattle.boards.specs.View.{lent}
+use Rattle.boards.proofs.Codes.{no_code}
+use Rattle.boards.proofs.Entering.{accepted, code_zero, early_refused, long_yes, named_pre, rig_yes, unknown}
+use Rattle.boards.proofs.OnEveryBoard.{every_event}
+use Rattle.boards.proofs.event.Goals as goal
+
+pub returns-then-no-ne0 : goal.returns-then-no-ne0
+returns-then-no-ne0 c =
+    let a = c.args in
+    let l = lent a.messages.now a.owners.now a.stores.now a.boards.now a.elements.now in
+    early_refused a.cfg a.room a.rig a.call a.board.now a.read.now l c.ask-no.ensures c.if-no-ne0.true c.of.ensures c.unturned.ensures
+
+pub returns-then-call-lt1 : goal.returns-then-call-lt1
+returns-then-call-lt1 c =
+    let a = c.args in
+    let l = lent a.messages.now a.owners.now a.stores.now a.boards.now a.elements.now in
+    unknown a.cfg a.room a.rig a.call a.board.now a.read.now l c.ask-no.ensures c.if-no-ne0.false (code_zero a.call.code c.if-call-lt1.true) c.unturned-then-call-lt1.ensures
+
+pub returns-then-call-gt8 : goal.returns-then-call-gt8
+returns-then-call-gt8 c =
+    let a = c.args in
+    let l = lent a.messages.now a.owners.now a.stores.now a.boards.now a.elements.now in
+    unknown a.cfg a.room a.rig a.call a.board.now a.read.now l c.ask-no.ensures c.if-no-ne0.false (no_code a.call.code c.if-call-gt8.true) c.unturned-then-call-gt8.ensures
+
+pub all-requires : goal.all-requires
+all-requires c =
+    let a = c.args in
+    let l = lent a.messages.now a.owners.now a.stores.now a.boards.now a.elements.now in
+    let taken = room_is a.cfg a.room (accepted a.cfg a.room a.rig a.call a.board.now a.read.now l c.ask-no.ensures c.if-no-ne0.false) in
+    (boards_low a.room taken, boards_high a.room taken, c.if-call-gt5.true, omega (arith, c.if-call-gt8.false))
+
+pub returns-then-call-gt5 : goal.returns-then-call-gt5
+returns-then-call-gt5 c =
+    let a = c.args in
+    let l = lent a.messages.now a.owners.now a.stores.now a.boards.now a.elements.now in
+    let asked = c.ask-no.ensures in
+    let none = c.if-no-ne0.false in
+    every_event a.cfg a.room a.rig a.call a.board.now a.read.now l _
+    (accepted a.cfg a.room a.rig a.call a.board.now a.read.now l asked none)
+    (long_yes a.cfg a.room a.rig a.call a.board.now a.read.now l asked none)
+    (rig_yes a.cfg a.room a.rig a.call a.board.now a.read.now l asked none)
+    c.if-call-gt5.true (omega (arith, c.if-call-gt8.false))
+    c.all.ensures
+
+pub event-requires : goal.event-requires
+event-requires c =
+    let a = c.args in
+    let l = lent a.messages.now a.owners.now a.stores.now a.boards.now a.elements.now in
+    named_pre a.cfg a.room a.rig a.call a.board.now a.read.now l c.ask-no.ensures c.if-no-ne0.false (omega (arith, c.if-call-lt1.false)) (omega (arith, c.if-call-gt5.false))
+
+pub returns : goal.returns
+returns c = c.event.ensures

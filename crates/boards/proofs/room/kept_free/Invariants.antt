@@ -1,0 +1,16 @@
+-- What the boards passed lack is added up. Assumes nothing.
+use Prim.Native.Nat.{◌-◌, ◌≤◌}
+use mathlib.Core.Path.{◌≡◌, ap, ◌∙◌}
+use native.Mathlib.Omega.{arith}
+use lib.ListN.{take}
+use Rattle.laws.specs.Below.{sum_below}
+use Rattle.laws.proofs.Below.{sum_next}
+use Rattle.config.specs.Room.{kept_free, lacking}
+use Rattle.boards.proofs.Kept.{kept_part}
+use Rattle.boards.proofs.room.kept_free.Given as goal
+
+abbrev pub invariant-loop-i : goal.invariant-loop-i
+invariant-loop-i l = (l.i ≤ l.room.boards) × (l.free ≡ sum_below l.i (lacking l.room l.b (take l.count l.owners)))
+
+abbrev pub decreases-loop-i : goal.decreases-loop-i
+decreases-loop-i l = l.room.boards - l.i

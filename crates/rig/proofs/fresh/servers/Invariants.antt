@@ -1,0 +1,31 @@
+use Prim.Native.Nat.{ℕ, ◌+◌, ◌-◌, ◌*◌, ◌≤◌}
+use mathlib.Core.Path.{◌≡◌, refl, subst, ◌∙◌}
+use mathlib.Core.List.{List}
+use native.Mathlib.Omega.{arith}
+use borrow.Author.Rules.{rules}
+use borrow.Rule.Slice.PartMut.{same_len_mid}
+use lib.ListN.{length, take, drop, length-set}
+use Rattle.laws.proofs.Parts.{lent_length, part_fits}
+use Rattle.config.specs.declared.Config.{Config}
+use Rattle.config.proofs.Questions.{within_true}
+use Rattle.config.proofs.Sizes.{store_small}
+use Rattle.config.specs.Config.{store_length}
+use Rattle.parties.specs.declared.Node.{Node}
+use Rattle.rig.specs.inner.Fresh.{FreshServers}
+use Rattle.parties.proofs.Making.{server_passes}
+use Rattle.rig.proofs.Making.{servers_more}
+use Rattle.events.proofs.Lengths.{stores_small}
+use Rattle.rig.proofs.fresh.servers.Given as goal
+
+-- the servers of the places below i are fresh
+pub record Now (cfg : Config) (start stores₀ stores : List ℕ) (nodes : List Node) (i : ℕ) : Type 0 where
+  pub high : i ≤ cfg.n
+  pub fresh : FreshServers cfg start i nodes stores
+  pub places : length nodes ≡ 16
+  pub same : length stores ≡ length stores₀
+
+abbrev pub invariant-loop-i : goal.invariant-loop-i
+invariant-loop-i l = Now l.cfg l.start l.initial.stores l.stores l.nodes l.i
+
+abbrev pub decreases-loop-i : goal.decreases-loop-i
+decreases-loop-i l = l.cfg.n - l.i

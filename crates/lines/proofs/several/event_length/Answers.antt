@@ -1,0 +1,9 @@
+-- `lines::several::event_length` meets its contract. Assumes nothing.
+use Rattle.std.proofs.Common.{arith, rules}
+use Rattle.lines.proofs.Events.{board_few}
+use Rattle.lines.proofs.several.event_length.Goals as goal
+
+pub overflow_add-result : goal.overflow_add-result
+overflow_add-result c =
+    let s = c.args in
+    omega (arith, c.board_length.ensures, board_few s.cfg s.m)

@@ -5,11 +5,11 @@ use native.Mathlib.Decide.{dec_lt}
 use lib.ListN.{length-map, get_or-eq_default}
 use mir.Val.{Val}
 use denote.Laws.{Is}
-use denote.Struct.Field.{array_field}
+use denote.Array.{Array}
 use Rattle.tag.specs.declared.Tag.{Tag}
 use Rattle.tag.specs.Tag.{start}
 use Rattle.tag.proofs.Order.{Small}
-use Rattle.tag.proofs.Owned.{field_at, tag_number}
+use Rattle.tag.proofs.Owned.{each_at, tag_number}
 use Rattle.tag.specs.contracts.Tag as tag
 use Rattle.record.specs.Record.{highest_number}
 use Rattle.server.specs.declared.State.{State}
@@ -22,10 +22,10 @@ eight_places s vs p = (
   p.1.1.1.1.1.1.1.0.1.0.1,
 )
 
-pub tags_numbers : (n : ℕ) (ts : List Tag) (vs : List Val) → Is (array_field tag.the_field n).row (map (tag.the_field).into ts) vs
+pub tags_numbers : (n : ℕ) (ts : List Tag) (vs : List Val) → Is (Array tag.the_row n) ts vs
     → (j : ℕ) → (tag_at ts j).number ≤ highest_number
 tags_numbers n ts vs p j = elim (dec_lt j (length ts)) as (λ _. (tag_at ts j).number ≤ highest_number) [
-  | yes l ↦ let e = field_at tag.the_field n ts vs p j l start in tag_number (tag_at ts j) _ e.1
+  | yes l ↦ let e = each_at tag.the_row ts p.0 p.1.1 j l start in tag_number (tag_at ts j) _ e.1
   | no l ↦ let e : tag_at ts j ≡ start = get_or-eq_default ts start {n = j} (omega (arith, l)) in omega (arith, ap (λ (t : Tag). t.number) e)
 ]
 

@@ -34,5 +34,5 @@ module _ {A : Type 0} (cfg : Config) (holds : Bool) (told blank : A) where
     pub not-state : holds ≡ false → Answer 6 blank
     not-state h = refused 6 (last_no (questions cfg) 6 holds (questions_numbered cfg) passed h) (λ z. omega arith)
 
-    pub is_state : holds ≡ true → Answer 0 told
-    is_state h = let e = last_yes (questions cfg) 6 holds (questions_numbered cfg) passed h in (sym e, rw (eq-eqb refusal 0 e))
+    pub state_told : holds ≡ true → Answer 0 told
+    state_told h = let e = last_yes (questions cfg) 6 holds (questions_numbered cfg) passed h in (sym e, rw (eq-eqb refusal 0 e))

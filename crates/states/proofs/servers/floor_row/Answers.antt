@@ -1,0 +1,10 @@
+use Rattle.states.specs.Servers.{floor_row}
+use Rattle.states.proofs.servers.floor_row.Goals as goal
+
+pub returns-in-None : goal.returns-in-None
+unfolding floor_row
+returns-in-None c = rw c.in-None.is
+
+pub returns-in-At : goal.returns-in-At
+unfolding floor_row
+returns-in-At c = rw c.in-At.is c.tag_row.ensures

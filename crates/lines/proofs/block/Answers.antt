@@ -132,7 +132,7 @@ loop-read-preserved c =
               put = refl;
             };
             says = c.line-used.ensures.0;
-            counts = c.wrapping_add_u64-count.ensures;
+            counts = c.wrapping_add_u64-count.ensures.value;
           });
       servers = length-set at.rig.servers _ _ ∙ i.servers;
       clients = length-set at.rig.clients _ _ ∙ i.clients;

@@ -4,6 +4,6 @@
 
 use lines::{PROGRAM, PROGRAM_MESSAGES, PROGRAM_START};
 
-fn main() {
-    stream::run(PROGRAM, PROGRAM_MESSAGES, &PROGRAM_START);
+fn main(rt: HostRuntime) {
+    stream::run(rt.stdin(), PROGRAM, PROGRAM_MESSAGES, &PROGRAM_START);
 }

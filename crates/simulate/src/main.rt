@@ -5,15 +5,16 @@
 #![tactic(auto)]
 
 use config::{Config, Room};
+use std::io::Stdin;
 
-fn main() {
+fn main(rt: HostRuntime) {
     let mut header = [0u8; 7];
     if io::read_full(0, &mut header) < 7 {
         stream::short();
         return;
     }
     let cfg = configured(header[0], header[1], header[2], header[3], header[4]);
-    begin(cfg, lines::little(header[5], header[6]));
+    begin(rt.stdin(), cfg, lines::little(header[5], header[6]));
 }
 
 // The configuration of the header's first five bytes, before the ranks are read.
@@ -29,7 +30,7 @@ fn configured(n: u8, k: u8, d: u8, e: u8, c: u8) -> Config {
 }
 
 // Questions 1 to 5 come before the ranks are read.
-fn begin(mut cfg: Config, m: usize) {
+fn begin(stdin: Stdin, mut cfg: Config, m: usize) {
     let no = cfg.ask_rig(m);
     if no != 0 {
         stream::refused(no);
@@ -42,11 +43,11 @@ fn begin(mut cfg: Config, m: usize) {
         return;
     }
     cfg.ranks = ranks;
-    several(cfg, m);
+    several(stdin, cfg, m);
 }
 
 // Question 21 comes before the number of boards is read.
-fn several(cfg: Config, m: usize) {
+fn several(stdin: Stdin, cfg: Config, m: usize) {
     let no = cfg.ask_rig(m);
     if no != 0 {
         stream::refused(no);
@@ -57,7 +58,7 @@ fn several(cfg: Config, m: usize) {
         stream::short();
         return;
     }
-    share(cfg, counted(m, number[0]));
+    share(stdin, cfg, counted(m, number[0]));
 }
 
 // The room of a number of boards, before the shares are read.
@@ -70,7 +71,7 @@ fn counted(m: usize, boards: u8) -> Room {
 }
 
 // Question 22 of the number of boards comes before the shares are read.
-fn share(cfg: Config, mut room: Room) {
+fn share(stdin: Stdin, cfg: Config, mut room: Room) {
     let no = cfg.ask_room(room);
     if no != 0 {
         stream::refused(no);
@@ -84,7 +85,7 @@ fn share(cfg: Config, mut room: Room) {
     }
     let each = shares(bytes);
     room.shares = each;
-    start(cfg, room);
+    start(stdin, cfg, room);
 }
 
 // The shares of their bytes, 2 each.
@@ -99,7 +100,7 @@ fn shares(bytes: [u8; 16]) -> [usize; 8] {
 }
 
 // Question 22 of the shares comes before the starting boards are looked at.
-fn start(cfg: Config, room: Room) {
+fn start(stdin: Stdin, cfg: Config, room: Room) {
     let no = cfg.ask_room(room);
     if no != 0 {
         stream::refused(no);
@@ -108,14 +109,14 @@ fn start(cfg: Config, room: Room) {
     let mut boards = [0u8; 8192];
     let v = cfg.k * cfg.e;
     let long = room.boards * v;
-    play(cfg, room, &mut boards[..long]);
+    play(stdin, cfg, room, &mut boards[..long]);
 }
 
 // Reads the starting boards into a buffer of their length, and runs the events.
-fn play(cfg: Config, room: Room, boards: &mut [u8]) {
+fn play(stdin: Stdin, cfg: Config, room: Room, boards: &mut [u8]) {
     if io::read_full(0, boards) < boards.len() {
         stream::short();
         return;
     }
-    stream::several::run(cfg, room, boards);
+    stream::several::run(stdin, cfg, room, boards);
 }

@@ -1,14 +1,16 @@
 // The buffer of the input. What is not used yet stands at its front.
 ghost use Rattle.std.specs.Prelude.{◌≡◌, ◌+◌, ◌-◌, ◌≤◌, length, take, drop};
 
+use std::io::{Read, Stdin};
+
 // Reads behind the front till the buffer is filled up to a size or the input ends, and answers how far it is filled.
-pub(crate) fn filled(front: usize, size: usize, input: &mut [u8]) -> usize
+pub(crate) fn filled(stdin: Stdin, front: usize, size: usize, input: &mut [u8]) -> usize
     requires { front ≤ length input.old }
     ensures { (front ≤ result) × (result ≤ length input.old) × (take front input.new ≡ take front input.old) }
 {
     let mut end = front;
     while end < size {
-        let more = more_at(end, input);
+        let more = more_at(stdin, end, input);
         if more == 0 {
             break;
         }
@@ -17,14 +19,16 @@ pub(crate) fn filled(front: usize, size: usize, input: &mut [u8]) -> usize
     end
 }
 
-// Reads once into the buffer from a place on, and answers how many bytes came: 0 at the end of the input.
-fn more_at(at: usize, input: &mut [u8]) -> usize
+// Reads once into the buffer from a place on, and answers how many bytes came: 0 at the end of the input, and where the read fails.
+fn more_at(mut stdin: Stdin, at: usize, input: &mut [u8]) -> usize
     requires { at ≤ length input.old }
     ensures { (at + result ≤ length input.old) × (take at input.new ≡ take at input.old) }
 {
     let part = &mut input[at..];
-    let got = libc::read(0, part);
-    io::count(got, part)
+    match stdin.read(part) {
+        Ok(more) => more,
+        Err(_) => 0,
+    }
 }
 
 // Moves what is behind the bytes taken, up to an end, to the front, and answers how much it is.

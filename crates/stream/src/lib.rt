@@ -16,10 +16,11 @@ ghost use Rattle.stream.specs.inner.Went.{RunTo, WentOn};
 
 use config::{Config, Verdict};
 use events::Rig;
+use std::io::Stdin;
 
 // Makes a rig of a starting board and runs the events of standard input on it, one line an event. A making that is refused has the
 // line of count 0.
-pub fn run(cfg: Config, m: usize, start: &[u8]) {
+pub fn run(stdin: Stdin, cfg: Config, m: usize, start: &[u8]) {
     let no = cfg.ask_rig(m);
     if no != 0 {
         refused(no);
@@ -35,6 +36,7 @@ pub fn run(cfg: Config, m: usize, start: &[u8]) {
     let board_end = long.boards;
     let element_end = long.elements;
     begin(
+        stdin,
         cfg,
         m,
         start,
@@ -81,6 +83,7 @@ pub fn refused(no: u8) {
 
 // Makes the rig in buffers of its lengths, and runs the events.
 fn begin(
+    stdin: Stdin,
     cfg: Config,
     m: usize,
     start: &[u8],
@@ -101,6 +104,7 @@ fn begin(
     let mut input = io::large_buffer();
     let mut output = io::large_buffer();
     blocks(
+        stdin,
         cfg,
         m,
         rig,
@@ -115,6 +119,7 @@ fn begin(
 
 // Reads blocks, has their records run and writes their lines, till the input ends or a write fails. Answers the count of the next event.
 fn blocks(
+    stdin: Stdin,
     cfg: Config,
     m: usize,
     mut rig: Rig,
@@ -132,7 +137,7 @@ fn blocks(
     let mut end = 0;
     let mut turns = u64::MAX;
     while turns > 0 {
-        end = input::filled(end, size, input);
+        end = input::filled(stdin, end, size, input);
         let ran = lines::block(
             cfg,
             m,

@@ -6,10 +6,11 @@ ghost use Rattle.std.specs.Prelude.{◌≤◌, length};
 
 use super::input;
 use config::{Config, Room, Verdict};
+use std::io::Stdin;
 
 // Makes a rig of starting boards and runs the events of standard input on it, one line an event. A making that is refused has the line of
 // count 0.
-pub fn run(cfg: Config, room: Room, start: &[u8]) {
+pub fn run(stdin: Stdin, cfg: Config, room: Room, start: &[u8]) {
     let long = boards::lengths(cfg, room);
     let mut messages = io::large_buffer();
     let mut owners = [0u8; 512];
@@ -22,6 +23,7 @@ pub fn run(cfg: Config, room: Room, start: &[u8]) {
     let board_end = long.boards;
     let element_end = long.elements;
     begin(
+        stdin,
         cfg,
         room,
         start,
@@ -35,6 +37,7 @@ pub fn run(cfg: Config, room: Room, start: &[u8]) {
 
 // Makes the rig in buffers of its lengths, and runs the events.
 fn begin(
+    stdin: Stdin,
     cfg: Config,
     room: Room,
     start: &[u8],
@@ -54,6 +57,7 @@ fn begin(
     let mut input = io::large_buffer();
     let mut output = io::large_buffer();
     blocks(
+        stdin,
         cfg,
         room,
         rig,
@@ -69,6 +73,7 @@ fn begin(
 
 // Reads blocks, has their records run and writes their lines, till the input ends or a write fails.
 fn blocks(
+    stdin: Stdin,
     cfg: Config,
     room: Room,
     mut rig: boards::Rig,
@@ -85,7 +90,7 @@ fn blocks(
     let mut end = 0;
     let mut turns = u64::MAX;
     while turns > 0 {
-        end = input::filled(end, size, input);
+        end = input::filled(stdin, end, size, input);
         let ran = records(
             cfg,
             room,

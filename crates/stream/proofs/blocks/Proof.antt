@@ -20,11 +20,11 @@ record Inv (cfg : Config) (m : ℕ) (rig₀ : Rig) (l₀ : Lent) (input₀ out�
   elements : length l.elements ≡ length l₀.elements
 
 abbrev invariant-loop : tie.invariant-loop
-invariant-loop cfg m rig₀ input₀ output₀ messages₀ stores₀ boards₀ elements₀ size count₀ end₀ turns₀ rig input output messages stores boards elements count end turns =
+invariant-loop stdin cfg m rig₀ input₀ output₀ messages₀ stores₀ boards₀ elements₀ size count₀ end₀ turns₀ rig input output messages stores boards elements count end turns =
     Inv cfg m rig₀ (lent messages₀ stores₀ boards₀ elements₀) input₀ output₀ rig (lent messages stores boards elements) input output count end
 
 abbrev decreases-loop : tie.decreases-loop
-decreases-loop cfg m rig₀ input₀ output₀ messages₀ stores₀ boards₀ elements₀ size count₀ end₀ turns₀ rig input output messages stores boards elements count end turns = turns
+decreases-loop stdin cfg m rig₀ input₀ output₀ messages₀ stores₀ boards₀ elements₀ size count₀ end₀ turns₀ rig input output messages stores boards elements count end turns = turns
 
 event-length-requires : tie.Need-event-length-requires invariant-loop decreases-loop
 event-length-requires c κs = search rules

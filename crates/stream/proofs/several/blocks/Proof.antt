@@ -4,11 +4,11 @@ use Rattle.stream.proofs.several.blocks.Statement.{statement}
 use Rattle.stream.proofs.several.blocks.Tie as tie
 
 abbrev invariant-loop : tie.invariant-loop
-invariant-loop cfg room rig₀ input₀ output₀ messages₀ owners₀ stores₀ boards₀ elements₀ size count₀ end₀ turns₀ rig input output messages owners stores boards elements count end turns =
+invariant-loop stdin cfg room rig₀ input₀ output₀ messages₀ owners₀ stores₀ boards₀ elements₀ size count₀ end₀ turns₀ rig input output messages owners stores boards elements count end turns =
     (end ≤ length input₀) × (length input ≡ length input₀) × (length output ≡ length output₀) × (length messages ≡ length messages₀) × (length owners ≡ length owners₀) × (length stores ≡ length stores₀) × (length boards ≡ length boards₀) × (length elements ≡ length elements₀)
 
 abbrev decreases-loop : tie.decreases-loop
-decreases-loop cfg room rig₀ input₀ output₀ messages₀ owners₀ stores₀ boards₀ elements₀ size count₀ end₀ turns₀ rig input output messages owners stores boards elements count end turns = turns
+decreases-loop stdin cfg room rig₀ input₀ output₀ messages₀ owners₀ stores₀ boards₀ elements₀ size count₀ end₀ turns₀ rig input output messages owners stores boards elements count end turns = turns
 
 event-length-requires : tie.Need-event-length-requires invariant-loop decreases-loop
 event-length-requires c κs = search rules

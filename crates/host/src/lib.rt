@@ -1,7 +1,7 @@
-// The steps for hosts in C and Rust, as a static library: a slice is a pointer and a length. A configuration is 21 bytes, and a party's state is
-// the bytes of `states`. Each call is that of a crate below, and answers the refusal's number, or 0; on a refusal every buffer and every lent
-// number is as it was. What a call is lent to write overlaps nothing else that it is handed: the language sees to that for its own callers,
-// and a host in C has to. Every function is proved, nothing is assumed, and no public function has a `requires`.
+// The steps for hosts in C and Rust, which `host_c` exports. A configuration is 21 bytes, and a party's state is the bytes of `states`. Each call is
+// that of a crate below, and answers the refusal's number, or 0; on a refusal every buffer and every lent number is as it was. What a call is lent
+// to write overlaps nothing else that it is handed: the language sees to that. Every function is proved, nothing is assumed, and no public function
+// has a `requires`.
 #![tactic(auto)]
 
 mod keep;
@@ -17,8 +17,7 @@ use states::{clients, servers};
 use tag::Tag;
 
 // The lengths of buffers: of a board, of a server's store, of the elements that a client has received, and of its sends.
-#[unsafe(no_mangle)]
-pub extern "C" fn coded_lengths(
+pub fn coded_lengths(
     config: &[u8],
     board: &mut usize,
     store: &mut usize,
@@ -41,8 +40,7 @@ pub extern "C" fn coded_lengths(
 }
 
 // A fresh server of a number: its state, and its element of the starting board in its store.
-#[unsafe(no_mangle)]
-pub extern "C" fn coded_server_fresh(
+pub fn coded_server_fresh(
     config: &[u8],
     s: u8,
     element: &[u8],
@@ -75,8 +73,7 @@ pub extern "C" fn coded_server_fresh(
 }
 
 // A server's step on a record; its answer goes into a lent record.
-#[unsafe(no_mangle)]
-pub extern "C" fn coded_server_step(
+pub fn coded_server_step(
     config: &[u8],
     state: &mut [u8],
     message: &[u8],
@@ -103,8 +100,7 @@ pub extern "C" fn coded_server_step(
 }
 
 // Where in its store a server keeps the element of a tag: the store's length where the tag is not stored.
-#[unsafe(no_mangle)]
-pub extern "C" fn coded_server_element(
+pub fn coded_server_element(
     config: &[u8],
     state: &[u8],
     number: u32,
@@ -135,8 +131,7 @@ pub extern "C" fn coded_server_element(
 }
 
 // A fresh client of a number: its state.
-#[unsafe(no_mangle)]
-pub extern "C" fn coded_client_fresh(config: &[u8], c: u8, state: &mut [u8]) -> u8
+pub fn coded_client_fresh(config: &[u8], c: u8, state: &mut [u8]) -> u8
     ensures { ClientFreshPost config.now c state.old state.new result }
 {
     let asked = told::config(config);
@@ -157,8 +152,7 @@ pub extern "C" fn coded_client_fresh(config: &[u8], c: u8, state: &mut [u8]) -> 
 }
 
 // A client begins to write a board of a length; the board goes into the kept one, the queries into the sends.
-#[unsafe(no_mangle)]
-pub extern "C" fn coded_client_write(
+pub fn coded_client_write(
     config: &[u8],
     state: &mut [u8],
     length: u16,
@@ -186,8 +180,7 @@ pub extern "C" fn coded_client_write(
 }
 
 // A client begins to read; the queries go into the sends.
-#[unsafe(no_mangle)]
-pub extern "C" fn coded_client_read(config: &[u8], state: &mut [u8], sends: &mut [u8]) -> u8
+pub fn coded_client_read(config: &[u8], state: &mut [u8], sends: &mut [u8]) -> u8
     ensures { ClientReadPost config.now state.old sends.old state.new sends.new result }
 {
     let asked = told::client(config, state);
@@ -208,8 +201,7 @@ pub extern "C" fn coded_client_read(config: &[u8], state: &mut [u8], sends: &mut
 }
 
 // A client's step on a record: what it sends goes into the sends, a read's board into the lent one, and the outcome says what there is.
-#[unsafe(no_mangle)]
-pub extern "C" fn coded_client_step(
+pub fn coded_client_step(
     config: &[u8],
     state: &mut [u8],
     message: &[u8],
@@ -245,8 +237,7 @@ pub extern "C" fn coded_client_step(
 }
 
 // The element of a server.
-#[unsafe(no_mangle)]
-pub extern "C" fn coded_encode(config: &[u8], board: &[u8], s: u8, element: &mut [u8]) -> u8
+pub fn coded_encode(config: &[u8], board: &[u8], s: u8, element: &mut [u8]) -> u8
     ensures { EncodePost config.now board.now s element.old element.new result }
 {
     let asked = told::read(config);
@@ -258,8 +249,7 @@ pub extern "C" fn coded_encode(config: &[u8], board: &[u8], s: u8, element: &mut
 }
 
 // The elements of all servers, each in its record of `distance` bytes of a lent buffer, `offset` bytes behind the record's start.
-#[unsafe(no_mangle)]
-pub extern "C" fn coded_encode_all(
+pub fn coded_encode_all(
     config: &[u8],
     board: &[u8],
     offset: usize,
@@ -277,13 +267,7 @@ pub extern "C" fn coded_encode_all(
 }
 
 // The board of elements.
-#[unsafe(no_mangle)]
-pub extern "C" fn coded_decode(
-    config: &[u8],
-    servers: &[u8],
-    elements: &[u8],
-    board: &mut [u8],
-) -> u8
+pub fn coded_decode(config: &[u8], servers: &[u8], elements: &[u8], board: &mut [u8]) -> u8
     ensures { DecodePost config.now servers.now elements.now board.old board.new result }
 {
     let asked = told::read(config);

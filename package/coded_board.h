@@ -1,4 +1,4 @@
-// The coded board store's calls for C: the archive is target/staticlib/libhost.a, made by `rt staticlib host`.
+// The coded board store's calls for C: the archive is target/staticlib/libhost.a, made by `package/archive`.
 //
 // A board is one block of bytes, kept as coded elements on N servers and used by C clients, over a network that
 // reorders, loses and repeats messages. These calls are a server's step, a client's step and the code. A call takes

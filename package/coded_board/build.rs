@@ -17,7 +17,7 @@ fn main() {
     // Under a name of the crate's own, so that the file may have any.
     if let Err(why) = fs::copy(&archive, out.join("libcoded_board_calls.a")) {
         eprintln!("coded_board: no archive of calls at {}: {why}", archive.display());
-        eprintln!("coded_board: make it with `rt staticlib host`, or name one in {NAMED}");
+        eprintln!("coded_board: make it with `package/archive`, or name one in {NAMED}");
         process::exit(1);
     }
     println!("cargo:rustc-link-search=native={}", out.display());

@@ -14,7 +14,7 @@ const LISTS: u64 = 2400;
 fn program() -> PathBuf {
     let folder = PathBuf::from(env!("CARGO_MANIFEST_DIR"));
     let named = std::env::var_os("CODED_BOARD_SIMULATE").map(PathBuf::from);
-    folder.join(named.unwrap_or("../../target/bin/simulate".into()))
+    folder.join(named.unwrap_or("../../crates/simulate/out/simulate".into()))
 }
 
 /// What `simulate` prints of an input.

@@ -3,14 +3,13 @@ use mathlib.Core.Path.{◌≡◌, refl, sym, ap, ap₂, ◌∙◌, fun_ext}
 use mathlib.Core.Bool.{Bool, true, false, cond, true≢false}
 use mathlib.Core.Option.{none, some}
 use mathlib.Core.List.{List, [], ◌∷◌, ◌++◌, append-nil, append_assoc}
-use Prim.Native.Nat.{ℕ, suc, ◌+◌, ◌-◌, ◌*◌, ◌≤◌, ◌<◌}
+use Prim.Native.Nat.{ℕ, suc, ◌+◌, ◌-◌, ◌*◌, ◌≤◌}
 use native.Mathlib.Omega.{arith}
 use borrow.Author.Tests.{eq-eqb, le-leb}
-use lib.ListN.{length, get_or, take, drop, length-append, length-drop}
-use lib.Seq.{drop_at, ext_get_or, get_or-drop, get_or-take}
+use lib.ListN.{length, take, drop, length-append, length-drop}
 use Rattle.laws.specs.Parts.{over}
 use Rattle.laws.proofs.Bools.{and_left}
-use Rattle.laws.proofs.Parts.{lent_is, over_lent, taken_length}
+use Rattle.laws.proofs.Parts.{over_lent, over_there}
 use Rattle.config.specs.declared.Config.{Config}
 use Rattle.config.specs.declared.Server.{Server}
 use Rattle.config.specs.declared.Verdict.{Verdict}
@@ -20,9 +19,9 @@ use Rattle.config.specs.Questions.{within}
 use Rattle.tag.specs.declared.Tag.{Tag}
 use Rattle.tag.specs.Tag.{allowed, start}
 use Rattle.code.specs.Element.{element}
-use Rattle.code.specs.EncodeAll.{EncodeAllPost, with_elements}
-use Rattle.code.proofs.AllAround.{elements_byte, elements-length, encodes_all}
-use Rattle.code.proofs.Decoding.{element-at, length_element}
+use Rattle.code.specs.Encode.{EncodePost}
+use Rattle.code.proofs.Around.{encodes_over}
+use Rattle.code.proofs.Decoding.{length_element}
 use Rattle.record.specs.declared.Header.{Header}
 use Rattle.record.specs.declared.Kind.{Kind}
 use Rattle.record.specs.declared.Kind.TheVariants.{PreWrite, Query, ReadFinalise, WriteFinalise}
@@ -41,7 +40,7 @@ use Rattle.client.specs.Quorum.{OwnTag}
 use Rattle.client.specs.Send.{records_of}
 use Rattle.client.specs.Servers.{within_servers}
 use Rattle.client.specs.State.{phase_within, tag_within}
-use Rattle.client.specs.inner.Send.{AnnouncePre, Opens, Sendable, ToEachPre, addressed, broadcast, broadcast_of, filled, message_to, opening_of, with_element_of}
+use Rattle.client.specs.inner.Send.{AnnouncePre, Opens, Sendable, ToEachPre, ToOnePre, addressed, broadcast, broadcast_of, filled, message_to, opening_of, with_element_of}
 use Rattle.client.proofs.Fronts.{over_front}
 use Rattle.client.proofs.Phases.{phase_in, self_in, tag_in}
 
@@ -78,62 +77,38 @@ module _ (cfg : Config) (b : Broadcast) (ok : Sendable cfg b) (server : Server) 
   unfolding with_element
   written after r post = (was_written cfg (header_to b server) buffer ok.valid long (of-config cfg (header_to b server) buffer goes) ok.fits after r post).1
 
--- ---- the elements in their records
+-- ---- the element in its record
 
 -- nothing to encode
-pub none_filled : (cfg : Config) (each : Bool) (board sends : List ℕ) → each ≡ false → sends ≡ filled cfg each board sends
-none_filled cfg each board sends h = sym (ap (λ (b : Bool). filled cfg b board sends) h)
+pub none_filled : (cfg : Config) (each : Bool) (s : ℕ) (board buffer : List ℕ) → each ≡ false → buffer ≡ filled cfg each s board buffer
+none_filled cfg each s board buffer h = sym (ap (λ (b : Bool). filled cfg b s board buffer) h)
 
-module _ (cfg : Config) (b : Broadcast) (board sends : List ℕ) (ok : ToEachPre cfg b board sends) where
-  abbrev elements : List ℕ
-  elements = with_elements cfg board 16 80 sends
+module _ (cfg : Config) (b : Broadcast) (s : ℕ) (board buffer : List ℕ) (ok : ToOnePre cfg b s board buffer) where
+  room : 16 + cfg.e ≤ length buffer
+  room = omega (arith, ok.room, ok.goes.valid.e_high)
 
-  -- an element goes into its record
-  fits : 16 + cfg.e ≤ 80
-  fits = omega (arith, ok.goes.valid.e_high)
+  lent : 16 + cfg.e - 16 ≡ cfg.e
+  lent = omega arith
 
-  holds_all : cfg.n * 80 ≤ length sends
-  holds_all = omega (arith, ok.room)
+  -- encoded at 16, as the code puts back what it lends
+  pub encoded : b.element ≡ true → (part : List ℕ) (r : Verdict) → EncodePost cfg board s (take (16 + cfg.e - 16) (drop 16 buffer)) part r
+      → take 16 buffer ++ (part ++ drop (16 + cfg.e - 16) (drop 16 buffer)) ≡ filled cfg b.element s board buffer
+  encoded has part r post =
+      encodes_over cfg board s 16 (16 + cfg.e - 16) buffer part r (omega (arith, room)) post ok.goes.valid (ok.board-length has) lent ok.low ok.high
+      ∙ ap (λ (n : ℕ). over 16 n (element cfg board s) buffer) lent
+      ∙ sym (ap (λ (each : Bool). filled cfg each s board buffer) has)
 
-  pub encoded : b.element ≡ true → (after : List ℕ) (r : Verdict) → EncodeAllPost cfg board 16 80 sends after r → after ≡ filled cfg b.element board sends
-  encoded has after r post =
-      encodes_all cfg board 16 80 sends after r post ok.goes.valid (ok.board-length has) fits ok.room
-      ∙ sym (ap (λ (each : Bool). filled cfg each board sends) has)
-
-  -- record t, from 0, has the element of server t + 1
-  module _ (t : ℕ) (below : t < cfg.n) where
-    abbrev record_in : List ℕ → List ℕ
-    record_in l = take 80 (drop (80 * t) l)
-
-    placed : element_in cfg (record_in elements) ≡ element cfg board (suc t)
-    placed =
-        let same = elements-length cfg board 16 80 sends fits holds_all in
-        let long = taken_length elements (80 * t) 80 (omega (arith, same, ok.room)) in
-        let size = taken_length (record_in elements) 16 cfg.e (omega (arith, long, fits)) in
-        ext_get_or 0 (element_in cfg (record_in elements)) (element cfg board (suc t)) (size ∙ sym (length_element cfg board (suc t)))
-        (λ j h. byte j (omega (arith, h, size)))
-      where
-        byte : (j : ℕ) → j < cfg.e → get_or (element_in cfg (record_in elements)) j 0 ≡ get_or (element cfg board (suc t)) j 0
-        byte j h =
-            let at : 80 * t + (16 + j) ≡ t * 80 + (16 + j) = omega arith in
-            get_or-take cfg.e (drop 16 (record_in elements)) j 0 h
-            ∙ get_or-drop 16 (record_in elements) j 0
-            ∙ get_or-take 80 (drop (80 * t) elements) (16 + j) 0 (omega (arith, fits))
-            ∙ get_or-drop (80 * t) elements (16 + j) 0
-            ∙ ap (λ (i : ℕ). get_or elements i 0) at
-            ∙ elements_byte cfg board 16 80 sends fits holds_all t j below h
-            ∙ sym (element-at cfg board (suc t) j h)
-
-    -- the message with what stands there is that to server t + 1
-    pub filled_message : {next : ℕ} {buffer : List ℕ} → next ≡ suc t → buffer ≡ record_in (filled cfg b.element board sends)
-        → addressed cfg b next buffer ≡ message_to cfg b board (suc t)
-    filled_message is holds = ap₂ (addressed cfg b) is holds ∙ go b.element
-      where
-        go : (each : Bool)
-            → with_element_of b (suc t) (cond each (some (element_with b.length (element_in cfg (record_in (filled cfg each board sends))))) none)
-            ≡ with_element_of b (suc t) (cond each (some (element_with b.length (element cfg board (suc t)))) none)
-        go true = ap (λ (e : List ℕ). with_element_of b (suc t) (some (element_with b.length e))) placed
-        go false = refl
+  -- the message is then that to server s
+  pub filled_message : addressed cfg b s (filled cfg b.element s board buffer) ≡ message_to cfg b board s
+  filled_message = go b.element
+    where
+      go : (each : Bool)
+          → with_element_of b s (cond each (some (element_with b.length (element_in cfg (filled cfg each s board buffer)))) none)
+          ≡ with_element_of b s (cond each (some (element_with b.length (element cfg board s))) none)
+      go true =
+          ap (λ (e : List ℕ). with_element_of b s (some (element_with b.length e)))
+          (over_there 16 cfg.e (element cfg board s) buffer (length_element cfg board s) room)
+      go false = refl
 
 -- ---- one record more
 
@@ -143,27 +118,22 @@ records_more cfg [] m = append-nil (record_of cfg m)
 records_more cfg (x ∷ ms) m =
     ap (λ (r : List ℕ). record_of cfg x ++ r) (records_more cfg ms m) ∙ sym (append_assoc (record_of cfg x) (records_of cfg ms) (record_of cfg m))
 
-module _ (cfg : Config) (f : ℕ → BoardMessage) (i : ℕ) (sends₀ sends : List ℕ) (sofar : sends ≡ records_of cfg (to_each i f) ++ drop (80 * i) sends₀)
-    (same : length sends ≡ length sends₀) (room : 80 * i + 80 ≤ length sends₀) where
+module _ (cfg : Config) (f : ℕ → BoardMessage) (i : ℕ) (sends₀ sends part : List ℕ)
+    (sofar : sends ≡ records_of cfg (to_each i f) ++ drop (80 * i) sends₀) (same : length sends ≡ length sends₀) (room : 80 * i + 80 ≤ length sends₀)
+    {next : ℕ} (is : next ≡ suc i) (one : part ≡ record_of cfg (f next)) where
   abbrev sent : List ℕ
   sent = records_of cfg (to_each i f)
 
   sent_long : length sent ≡ 80 * i
   sent_long = omega (arith, ap length sofar, length-append sent (drop (80 * i) sends₀), length-drop (80 * i) sends₀)
 
-  -- the next record, as the code lends it, is as it was
-  pub unsent : take (80 * i + 80 - 80 * i) (drop (80 * i) sends) ≡ take 80 (drop (80 * i) sends₀)
-  unsent =
-      lent_is sends (80 * i) 80
-      ∙ ap (take 80) (ap (drop (80 * i)) sofar ∙ drop_at sent (drop (80 * i) sends₀) (80 * i) sent_long)
-
-  pub sent_more : (part : List ℕ) → part ≡ record_of cfg (f (suc i))
-      → take (80 * i) sends ++ (part ++ drop (80 * i + 80 - 80 * i) (drop (80 * i) sends)) ≡ records_of cfg (to_each (suc i) f) ++ drop (80 * suc i) sends₀
+  pub sent_more : take (80 * i) sends ++ (part ++ drop (80 * i + 80 - 80 * i) (drop (80 * i) sends))
+      ≡ records_of cfg (to_each (suc i) f) ++ drop (80 * suc i) sends₀
   unfolding to_each
-  sent_more part one =
+  sent_more =
       let end : 80 * i + 80 ≡ 80 * suc i = omega arith in
       over_lent (80 * i) 80 part sends
-      ∙ ap₂ (over (80 * i) 80) one sofar
+      ∙ ap₂ (over (80 * i) 80) (one ∙ ap (λ (s : ℕ). record_of cfg (f s)) is) sofar
       ∙ over_front sent sends₀ (80 * i) sent_long 80 (record_of cfg (f (suc i)))
       ∙ ap₂ (λ (l : List ℕ) (n : ℕ). l ++ drop n sends₀) (sym (records_more cfg (to_each i f) (f (suc i)))) end
 

@@ -2,7 +2,7 @@
 use mathlib.Core.Path.{◌≡◌, refl, sym, ap, ap₂, ◌∙◌, subst, fun_ext}
 use mathlib.Core.Bool.{Bool, true, false, cond, ◌&&◌}
 use mathlib.Core.Option.{none, some}
-use mathlib.Core.List.{List, []}
+use mathlib.Core.List.{List}
 use Prim.Native.Nat.{ℕ, ◌+◌}
 use native.Mathlib.Omega.{arith}
 use borrow.Author.Tests.{leb-true, ne_eqb}
@@ -14,7 +14,6 @@ use Rattle.laws.proofs.Bools.{and_right}
 use Rattle.config.specs.declared.Config.{Config}
 use Rattle.config.specs.Config.{board_length}
 use Rattle.config.specs.Number.{client_number}
-use Rattle.config.specs.Questions.{within}
 use Rattle.tag.specs.declared.Tag.{Tag}
 use Rattle.tag.specs.Tag.{allowed}
 use Rattle.protocol.specs.Boards.{BoardEnded, BoardMoved, BoardPhase, cut, decode, encode}

@@ -3,7 +3,7 @@ ghost use Rattle.std.specs.Prelude.{◌≡◌, length};
 ghost use Rattle.record.specs.Record.{record_of};
 ghost use Rattle.protocol.specs.Boards.{cut};
 ghost use Rattle.client.specs.Send.{records_of};
-ghost use Rattle.client.specs.inner.Send.{AddressPre, AnnouncePost, AnnouncePre, ToEachPre, addressed, broadcast, broadcast_of, filled, opening_of};
+ghost use Rattle.client.specs.inner.Send.{AddressPre, AnnouncePost, AnnouncePre, ToEachPre, ToOnePre, addressed, broadcast, broadcast_of, filled, message_to, opening_of};
 
 use super::outcome::accepted;
 use super::{Ended, Moved, Phase, State, zeros};
@@ -94,25 +94,34 @@ fn to_each(cfg: Config, b: Broadcast, board: &[u8], sends: &mut [u8])
     requires { ToEachPre cfg b board.now sends.old }
     ensures { sends.new ≡ records_of cfg (broadcast cfg b board.now) }
 {
-    fill(cfg, b, board, sends);
     let mut s = 0;
     while s < cfg.n {
         let at = RECORD * s;
         let end = at + RECORD;
         s += 1;
-        address(cfg, b, s as u8, &mut sends[at..end]);
+        to_one(cfg, b, s as u8, board, &mut sends[at..end]);
     }
 }
 
-// Encodes the element of each server, if the message has one, where it stands in its record.
-fn fill(cfg: Config, b: Broadcast, board: &[u8], sends: &mut [u8])
-    requires { ToEachPre cfg b board.now sends.old }
-    ensures { sends.new ≡ filled cfg b.element board.now sends.old }
+// Writes the record of a message to server s.
+fn to_one(cfg: Config, b: Broadcast, s: u8, board: &[u8], buffer: &mut [u8])
+    requires { ToOnePre cfg b s board.now buffer.old }
+    ensures { buffer.new ≡ record_of cfg (message_to cfg b board.now s) }
+{
+    fill(cfg, b, s, board, buffer);
+    address(cfg, b, s, buffer);
+}
+
+// Encodes the element of server s, if the message has one, where it stands in its record.
+fn fill(cfg: Config, b: Broadcast, s: u8, board: &[u8], buffer: &mut [u8])
+    requires { ToOnePre cfg b s board.now buffer.old }
+    ensures { buffer.new ≡ filled cfg b.element s board.now buffer.old }
 {
     if !b.element {
         return;
     }
-    code::encode_all(cfg, board, 16, RECORD, sends);
+    let end = 16 + cfg.e;
+    code::encode(cfg, board, s, &mut buffer[16..end]);
 }
 
 // Writes the record of a message to server s, all but the element.

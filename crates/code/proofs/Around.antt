@@ -66,6 +66,14 @@ module _ (cfg : Config) (board : List ℕ) (s start n : ℕ) (before part : List
   number : verdict_number r ≡ first_no (encode_questions cfg (length board) s n)
   number = post.number ∙ ap (λ (m : ℕ). first_no (encode_questions cfg (length board) s m)) lent_long
 
+  -- by equation, where what the questions ask is so
+  pub encodes_over : Valid cfg → length board ≡ board_length cfg → n ≡ cfg.e → 1 ≤ s → s ≤ cfg.n
+      → back ≡ over start n (element cfg board s) before
+  encodes_over valid lb lp low high =
+      is_over
+      ∙ ap (λ (l : List ℕ). over start n l before)
+      (encodes cfg board s (take n (drop start before)) part r post valid lb (lent_long ∙ lp) low high)
+
   around_over : AroundPost cfg board s start n before (over start n part before) r
   around_over =
       record {

@@ -13,7 +13,7 @@ use borrow.Author.Tests.{eq-eqb, eqb-true, le-leb, leb-true, lt-ltb, le-ltb, ltb
 use borrow.Table.Steps.{cases}
 use lib.Dec.{eqb, ltb}
 use lib.ListN.{length, take, drop, get_or, get_elem?, replicate, length-drop, length-replicate}
-use lib.Seq.{paste, length-paste, take_all, take-append-le, drop-append-le, drop-drop, take-take, drop_at, get_or-drop, get_or-take, length-take-le}
+use lib.Seq.{paste, length-paste, take_all, drop-drop, take-take, drop_at, get_or-drop, get_or-take, length-take-le}
 use Rattle.laws.specs.Lists.{to_list, without}
 use Rattle.laws.proofs.Bools.{and_left, and_right}
 use Rattle.laws.proofs.Lists.{at_past, drop_take, without_past, without_seam}

@@ -1,6 +1,6 @@
 -- Records of 80 bytes that stand one behind the other in a lent buffer, of which so many are in use. Where there is no such record, or no
 -- room for those that come, all is as it was. What the buffers here mean for the records is shown in proofs/Laws.
-use Rattle.std.specs.Prelude.{ℕ, zero, suc, ◌+◌, ◌-◌, ◌*◌, ◌/◌, ◌%◌, Bool, cond, ◌&&◌, ◌≡◌, List, [], ◌∷◌, eqb, leb, ltb, length, take, drop, replicate}
+use Rattle.std.specs.Prelude.{ℕ, ◌+◌, ◌-◌, ◌*◌, ◌/◌, ◌%◌, Bool, cond, ◌&&◌, ◌≡◌, List, eqb, leb, ltb, length, take, drop, replicate}
 use Rattle.std.proofs.Math.Seq.{paste}
 unfoldable pub use Rattle.record.specs.Records.{records}
 

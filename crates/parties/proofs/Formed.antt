@@ -13,7 +13,6 @@ use lib.Seq.{length-take-le}
 use Rattle.laws.proofs.Bools.{and_left, and_right}
 use Rattle.config.specs.declared.Config.{Config}
 use Rattle.config.specs.Config.{board_length, store_length}
-use Rattle.config.specs.Questions.{within}
 use Rattle.tag.specs.declared.Tag.{Tag}
 use Rattle.tag.specs.Tag.{allowed}
 use Rattle.record.specs.Record.{highest_number}
@@ -30,9 +29,6 @@ use Rattle.client.specs.State as clientView
 use Rattle.client.specs.State.{Slots, lengths_within, phase_of, phase_within, slots, state_within, tag_within, to_write}
 use Rattle.client.proofs.Phases.{lengths-in, phase_in}
 use Rattle.protocol.specs.Boards.{Board}
-use Rattle.protocol.specs.Client as client
-use Rattle.protocol.specs.Server as server
-use Rattle.protocol.specs.Server.{others, store}
 use Rattle.protocol.proofs.Formed.{BoardFits, PhaseFits, ServerFits, StoreFits, TagFits}
 
 -- the number of the phase's tag has four bytes

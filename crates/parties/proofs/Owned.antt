@@ -1,10 +1,10 @@
 -- What the types of the parties tell: the bytes of a record are bytes, and the numbers of tags have four bytes.
 use Prim.Native.Nat.{ℕ, ◌<◌}
-use mathlib.Core.Path.{◌≡◌, sym, ◌∙◌}
-use mathlib.Core.List.{List, map}
+use mathlib.Core.Path.{◌≡◌}
+use mathlib.Core.List.{List}
 use native.Mathlib.Omega.{arith}
 use native.Mathlib.Decide.{dec_lt}
-use lib.ListN.{length, get_or, length-map, get_or-eq_default}
+use lib.ListN.{length, get_or, get_or-eq_default}
 use mir.Syntax.{w8}
 use mir.Val.{Val}
 use denote.Array.{Array}

@@ -51,7 +51,7 @@ use Rattle.protocol.proofs.Judged.{awaits_it, first_kind, of-tag}
 use Rattle.protocol.proofs.Pairs.{deliver_client}
 use Rattle.parties.specs.declared.Acted.{Acted}
 use Rattle.parties.specs.declared.Pair.{Pair}
-use Rattle.parties.specs.Acts.{ActPost, ClientPost, Parts, among, answer_of, delivers, parts, to_client_questions}
+use Rattle.parties.specs.Acts.{ActPost, ClientPost, Parts, among, delivers, parts, to_client_questions}
 use Rattle.parties.specs.inner.Acted.{ended_by, moved_on, quietly, refusing}
 use Rattle.parties.proofs.Acts.{accepted_act, its_answer, not_read, refused_act}
 use Rattle.protocol.proofs.Formed.{step_fits}

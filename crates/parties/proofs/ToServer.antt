@@ -15,7 +15,6 @@ use Rattle.config.specs.Config.{store_length}
 use Rattle.config.specs.Number.{client_number, server_number}
 use Rattle.config.specs.Questions.{first_no}
 use Rattle.config.specs.Refusal.{refusal_number, verdict_number}
-use Rattle.config.proofs.Valid.{valid}
 use Rattle.record.specs.Kinds.{is_for_server}
 use Rattle.record.specs.Record.{message_of, of_config, record_of, well_formed}
 use Rattle.laws.specs.Bytes.{Bytes}

@@ -17,7 +17,6 @@ use Rattle.config.proofs.Valid.{valid_asked}
 use Rattle.record.specs.declared.Header.{Header}
 use Rattle.record.specs.declared.Reading.{Reading}
 use Rattle.record.specs.Calls.{ReadPost, WritePost, is_header, length_read, message_read, read_number, read_questions, with_element, write_questions}
-use Rattle.record.specs.Message.{Message}
 use Rattle.record.specs.Record.{length_at, length_fits, message_of, of_config, record_of, well_formed}
 use Rattle.record.proofs.Answers.{read-last, write-last}
 

@@ -15,7 +15,7 @@ use lib.Seq.{drop_at}
 use Rattle.laws.proofs.Lists.{length_without, map_at, map_without}
 use Rattle.config.specs.declared.Config.{Config}
 use Rattle.config.specs.Config.{Valid, rig_questions}
-use Rattle.config.specs.Questions.{ask, first_no, within}
+use Rattle.config.specs.Questions.{ask, first_no}
 use Rattle.config.proofs.Questions.{lacks, skip, yes_next}
 use Rattle.record.specs.Record.{highest_number, record_of}
 use Rattle.record.proofs.Laws.{written_well_formed}

@@ -1,8 +1,8 @@
 -- What the type of a state tells: it has eight places for tags, and as many for lengths, the numbers of its tags have four bytes, and the client
 -- of its highest tag is a byte. Assumes nothing.
-use Rattle.std.proofs.Common.{◌≡◌, ℕ, ◌≤◌, List, map, length, sym, ap, ◌∙◌, arith}
+use Rattle.std.proofs.Common.{◌≡◌, ℕ, ◌≤◌, List, length, ap, arith}
 use native.Mathlib.Decide.{dec_lt}
-use lib.ListN.{length-map, get_or-eq_default}
+use lib.ListN.{get_or-eq_default}
 use mir.Val.{Val}
 use denote.Laws.{Is}
 use denote.Array.{Array}
@@ -18,7 +18,7 @@ use Rattle.server.specs.contracts.State as state
 
 pub eight_places : (s : State) (vs : List Val) → Is state.the_row s vs → (length s.tags ≡ 8) × (length s.lengths ≡ 8)
 eight_places s vs p = (
-   p.1.1.1.1.1.1.0.1.0.1,
+  p.1.1.1.1.1.1.0.1.0.1,
   p.1.1.1.1.1.1.1.0.1.0.1,
 )
 

@@ -1,5 +1,5 @@
 -- What storing does to the view: one more place, or one place taken by another. Assumes nothing.
-use Rattle.std.proofs.Common.{◌≡◌, ℕ, ◌+◌, ◌-◌, ◌*◌, ◌<◌, ◌≤◌, true, false, eqb, List, [], ◌∷◌, ◌++◌, length, set, sym, ap, ◌∙◌, ap₂, inl, inr, zero-add, arith, get_or-set_other, get_or-set_same, eq-eqb, le-leb}
+use Rattle.std.proofs.Common.{◌≡◌, ℕ, ◌+◌, ◌*◌, ◌<◌, ◌≤◌, true, false, eqb, List, [], ◌∷◌, ◌++◌, length, set, sym, ap, ◌∙◌, ap₂, inl, inr, zero-add, arith, get_or-set_other, get_or-set_same, eq-eqb, le-leb}
 use borrow.Author.Tests.{lt-leb}
 use Rattle.laws.specs.Parts.{over}
 use Rattle.laws.proofs.Parts.{part_fits, part_other, part_own}

@@ -2,7 +2,6 @@ use mathlib.Core.Path.{sym, ◌∙◌}
 use borrow.Author.Tests.{not-true, not-false}
 use Rattle.config.proofs.Valid.{valid}
 use Rattle.client.proofs.Asked.{state_asked, state_stopped}
-use borrow.Author.Rules.{rules}
 use Rattle.client.proofs.ask.Goals as goal
 
 pub returns-then-no-ne0 : goal.returns-then-no-ne0

@@ -1,6 +1,5 @@
 use mathlib.Core.Path.{refl}
 use mathlib.Core.Bool.{true}
-use borrow.Author.Rules.{rules}
 use Rattle.client.proofs.Asked.{others, stopped}
 use Rattle.client.proofs.ask_begin.Goals as goal
 

@@ -5,7 +5,6 @@ use borrow.Author.Tests.{eqb-true}
 use Rattle.config.specs.Questions.{first_no}
 use Rattle.client.specs.Questions.{begin_read_questions}
 use Rattle.client.proofs.Answers.{begin-numbered, begin-refused, begun, operation-below, passes}
-use borrow.Author.Rules.{rules}
 use Rattle.client.proofs.begin_read.Goals as goal
 use Rattle.client.proofs.begin_read.Goals.{Else-no-ne0}
 

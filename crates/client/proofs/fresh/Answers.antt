@@ -7,7 +7,6 @@ use Rattle.config.specs.declared.Refusal.{Refusal}
 use Rattle.config.specs.declared.Verdict.{Verdict}
 use Rattle.config.specs.Number.{NewClientPost, client_number, new_client_number}
 use Rattle.client.specs.Calls.{FreshPost, fresh_state}
-use borrow.Author.Rules.{rules}
 use Rattle.client.proofs.fresh.Goals as goal
 
 module _ (cfg : Config) (me : Client) {n : ℕ} (is : n ≡ client_number me) (r : NewClient) (p : NewClientPost cfg n r) where

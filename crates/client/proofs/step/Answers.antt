@@ -3,7 +3,6 @@ use Rattle.client.specs.declared.questions.Asked.{Asked}
 use Rattle.client.specs.State.{Lent, lent}
 use Rattle.client.specs.inner.Questions.{ReceivePost}
 use Rattle.client.proofs.Stepping.{asked_again, asks_again, not_awaited, server_places, server_small, settles, sizes_of, step_refused, stepped, takes}
-use borrow.Author.Rules.{rules}
 use Rattle.client.proofs.step.Goals as goal
 use Rattle.client.proofs.step.Goals.{After-receive-asked}
 

@@ -1,6 +1,7 @@
 -- What a client sends as a phase begins.
 use Rattle.std.specs.Prelude.{ℕ, ◌≤◌, Bool, true, false, cond, ◌≡◌, List, length}
 use Rattle.std.proofs.Math.Option.{Option, none, some}
+use Rattle.laws.specs.Parts.{over}
 use Rattle.config.specs.declared.Config.{Config}
 use Rattle.config.specs.Config.{Valid, board_length, record_length, sends_length}
 use Rattle.config.specs.Number.{client_number}
@@ -8,7 +9,6 @@ use Rattle.config.specs.Questions.{within}
 use Rattle.tag.specs.declared.Tag.{Tag}
 use Rattle.tag.specs.Tag.{allowed, start}
 use Rattle.code.specs.Element.{element}
-use Rattle.code.specs.EncodeAll.{with_elements}
 use Rattle.record.specs.declared.Kind.{Kind}
 use Rattle.record.specs.declared.Kind.TheVariants.{Query, PreWrite, WriteFinalise, ReadFinalise}
 use Rattle.record.specs.Record.{element_in, kind_number, length_fits, own_tag, presence, query_tag}
@@ -74,15 +74,22 @@ pub record ToEachPre (cfg : Config) (b : Broadcast) (board sends : List ℕ) : T
   pub room : length sends ≡ sends_length cfg
 
 -- to server s: room for one
+pub record ToOnePre (cfg : Config) (b : Broadcast) (s : ℕ) (board buffer : List ℕ) : Type 0 where
+  pub goes : Sendable cfg b
+  pub board-length : b.element ≡ true → length board ≡ board_length cfg
+  pub low : 1 ≤ s
+  pub high : s ≤ cfg.n
+  pub room : length buffer ≡ record_length
+
 pub record AddressPre (cfg : Config) (b : Broadcast) (s : ℕ) (buffer : List ℕ) : Type 0 where
   pub goes : Sendable cfg b
   pub low : 1 ≤ s
   pub high : s ≤ cfg.n
   pub room : length buffer ≡ record_length
 
--- "at offset 16 of their records": the sends with the element of each server in its place, if each gets one; the bytes around them stay
-abbrev pub filled : Config → Bool → List ℕ → List ℕ → List ℕ
-filled cfg each board sends = cond each (with_elements cfg board 16 record_length sends) sends
+-- "at offset 16 of their records": the record's bytes with the element of server s in its place, if each gets one; those around it stay
+abbrev pub filled : Config → Bool → ℕ → List ℕ → List ℕ → List ℕ
+filled cfg each s board buffer = cond each (over 16 cfg.e (element cfg board s) buffer) buffer
 
 -- a pre-write has a board to take elements from, of a length that fits
 abbrev pub Opens : Config → Phase → ℕ → List ℕ → Type 0

@@ -6,7 +6,6 @@ use Rattle.code.specs.Decode.{decode_questions}
 use Rattle.code.specs.Decoded.{decoded}
 use Rattle.code.proofs.Answered.{refused, accepted}
 use Rattle.code.proofs.Decodable.{answer_given, decodable}
-use borrow.Author.Rules.{rules}
 use Rattle.code.proofs.decode.Goals as goal
 
 pub returns-then-no-ne0 : goal.returns-then-no-ne0

@@ -6,7 +6,6 @@ use Rattle.code.specs.Element.{element}
 use Rattle.code.specs.Encode.{encode_questions}
 use Rattle.code.proofs.Answered.{refused, accepted}
 use Rattle.code.proofs.Encodable.{answer_given, encodable}
-use borrow.Author.Rules.{rules}
 use Rattle.code.proofs.encode.Goals as goal
 
 pub returns-then-no-ne0 : goal.returns-then-no-ne0

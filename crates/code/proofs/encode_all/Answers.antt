@@ -4,7 +4,6 @@ use Rattle.config.specs.Questions.{first_no}
 use Rattle.code.specs.EncodeAll.{encode_all_questions, with_elements}
 use Rattle.code.proofs.Answered.{refused, accepted}
 use Rattle.code.proofs.EncodableAll.{answer_given, encodable_all}
-use borrow.Author.Rules.{rules}
 use Rattle.code.proofs.encode_all.Goals as goal
 
 pub returns-then-no-ne0 : goal.returns-then-no-ne0

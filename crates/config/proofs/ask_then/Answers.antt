@@ -1,7 +1,6 @@
 use mathlib.Core.Path.{sym, ◌∙◌}
 use mathlib.Core.List.{[], ◌∷◌}
 use borrow.Author.Tests.{not-true, not-false}
-use borrow.Author.Rules.{rules}
 use Rattle.config.specs.Questions.{ask, first_no, within}
 use Rattle.config.proofs.Questions.{early, later, first_no_no, first_no_yes}
 use Rattle.config.proofs.ask_then.Goals as goal

@@ -1,14 +1,11 @@
 use mathlib.Core.Path.{◌≡◌, refl, sym, ap, ◌∙◌}
-use mathlib.Core.Bool.{Bool, true}
-use Prim.Native.Nat.{ℕ, ◌+◌, ◌-◌, ◌≤◌}
+use Prim.Native.Nat.{ℕ}
 use native.Mathlib.Omega.{arith}
-use borrow.Author.Rules.{rules}
 use borrow.Author.Tests.{le-leb, lt-leb}
 use lib.Dec.{leb}
 use Rattle.laws.specs.Below.{all_below}
 use Rattle.laws.proofs.Below.{below_next, below_no}
-use Rattle.config.specs.declared.Config.{Config}
-use Rattle.config.specs.Config.{highest_rank, rank, ranks_within}
+use Rattle.config.specs.Config.{highest_rank, ranks_within}
 use Rattle.config.proofs.Valid.{rank_at}
 use Rattle.config.proofs.ranks_within.Invariants.{here}
 use Rattle.config.proofs.ranks_within.Goals as goal

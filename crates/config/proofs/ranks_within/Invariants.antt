@@ -1,15 +1,10 @@
-use mathlib.Core.Path.{◌≡◌, refl, sym, ap, ◌∙◌}
+use mathlib.Core.Path.{◌≡◌}
 use mathlib.Core.Bool.{Bool, true}
 use Prim.Native.Nat.{ℕ, ◌+◌, ◌-◌, ◌≤◌}
-use native.Mathlib.Omega.{arith}
-use borrow.Author.Rules.{rules}
-use borrow.Author.Tests.{le-leb, lt-leb}
 use lib.Dec.{leb}
 use Rattle.laws.specs.Below.{all_below}
-use Rattle.laws.proofs.Below.{below_next, below_no}
 use Rattle.config.specs.declared.Config.{Config}
-use Rattle.config.specs.Config.{highest_rank, rank, ranks_within}
-use Rattle.config.proofs.Valid.{rank_at}
+use Rattle.config.specs.Config.{highest_rank, rank}
 use Rattle.config.proofs.ranks_within.Given as goal
 
 -- what is asked of the client of place i

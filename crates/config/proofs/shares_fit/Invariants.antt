@@ -1,15 +1,9 @@
 -- The shares of the boards passed are taken from M: with what is left they are M. Assumes nothing.
-use mathlib.Core.Path.{◌≡◌, sym, ap, ◌∙◌}
+use mathlib.Core.Path.{◌≡◌}
 use Prim.Native.Nat.{ℕ, ◌+◌, ◌-◌, ◌≤◌}
-use native.Mathlib.Omega.{arith}
-use native.Mathlib.Nat.{add-sub_cancel}
-use borrow.Author.Rules.{rules}
-use borrow.Author.Tests.{le-leb, lt-leb}
-use lib.ListN.{get_or}
 use Rattle.laws.specs.Below.{sum_below}
-use Rattle.laws.proofs.Below.{sum_grows, sum_next}
 use Rattle.config.specs.declared.Room.{Room}
-use Rattle.config.specs.Room.{share_of, shares_sum}
+use Rattle.config.specs.Room.{share_of}
 use Rattle.config.proofs.shares_fit.Given as goal
 
 -- the share at place i

@@ -2,7 +2,6 @@ use mathlib.Core.Path.{◌≡◌, sym, ◌∙◌}
 use mathlib.Core.Bool.{Bool}
 use borrow.Author.Tests.{lt-leb, le-leb, not-true, not-false}
 use Rattle.config.specs.Questions.{first_no}
-use borrow.Author.Rules.{rules}
 use Rattle.config.proofs.to_five.Goals as goal
 
 -- what a test said of the result that it looked at

@@ -4,7 +4,6 @@ use Rattle.config.proofs.Questions.{rig_early}
 use Rattle.config.proofs.Valid.{rig_most, rig_valid}
 use Rattle.events.specs.Questions.{lent_sized}
 use Rattle.events.proofs.Asked.{six_no, six_yes}
-use borrow.Author.Rules.{rules}
 use Rattle.events.proofs.ask.Goals as goal
 
 pub returns-then-no-ne0 : goal.returns-then-no-ne0

@@ -1,6 +1,5 @@
 use mathlib.Core.Path.{sym, refl, ◌∙◌}
 use native.Mathlib.Omega.{arith}
-use borrow.Author.Rules.{rules}
 use borrow.Author.Tests.{not-true, not-false}
 use Rattle.events.specs.View.{lent}
 use Rattle.events.proofs.Entry.{lent_no, lent_valid, part_changed, part-no, part_pre, part_refused, places_no}

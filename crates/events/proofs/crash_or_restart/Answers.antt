@@ -1,6 +1,5 @@
 use mathlib.Core.Path.{◌≡◌, sym, ap, subst, ◌∙◌}
 use native.Mathlib.Omega.{arith}
-use borrow.Author.Rules.{rules}
 use Rattle.events.specs.declared.Call.{Call}
 use Rattle.events.specs.Calls.{AloneChangePost, code_in}
 use Rattle.events.proofs.Alone.{an_event_alone, alone_refused}

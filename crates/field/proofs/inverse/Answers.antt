@@ -5,7 +5,6 @@ use native.Mathlib.Omega.{arith}
 use lib.Dec.{lit<}
 use Rattle.field.specs.Field.{times, power, inverse_of}
 use Rattle.field.proofs.Laws.{inverse_zero, inverse_only, power_add, power_lt, power_period}
-use borrow.Author.Rules.{rules}
 use Rattle.field.proofs.inverse.Goals as goal
 
 pub returns-then-a-eq0 : goal.returns-then-a-eq0

@@ -4,7 +4,6 @@ use Prim.Native.Nat.{ℕ}
 use lib.Dec.{lit<}
 use Rattle.field.specs.Field.{times}
 use Rattle.field.proofs.Laws.{times_zero_left, times_zero_right, power_add}
-use borrow.Author.Rules.{rules}
 use Rattle.field.proofs.product.Goals as goal
 
 zero_left : (a b : ℕ) → a ≡ 0 → 0 ≡ times a b

@@ -1,5 +1,4 @@
 use Rattle.flight.proofs.Cases.{double_missing, double_there}
-use borrow.Author.Rules.{rules}
 use Rattle.flight.proofs.double.Goals as goal
 
 pub returns-then-count-position : goal.returns-then-count-position

@@ -1,5 +1,4 @@
 use Rattle.flight.proofs.Cases.{remove_missing, remove_short, remove_there}
-use borrow.Author.Rules.{rules}
 use Rattle.flight.proofs.remove.Goals as goal
 
 pub returns-then-count-position : goal.returns-then-count-position

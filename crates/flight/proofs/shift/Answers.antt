@@ -5,7 +5,7 @@ use mathlib.Core.List.{List}
 use native.Mathlib.Omega.{arith}
 use native.Mathlib.Numerals.{add-one}
 use lib.ListN.{length, drop, set, get_or, length-drop, length-set}
-use lib.Seq.{paste, paste-zero, paste-suc, drop-paste, get_or-drop}
+use lib.Seq.{paste-zero, paste-suc, drop-paste, get_or-drop}
 use Rattle.flight.specs.Flight.{record_length}
 use Rattle.flight.proofs.shift.Invariants.{moved}
 use Rattle.flight.proofs.shift.Goals as goal

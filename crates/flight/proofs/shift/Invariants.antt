@@ -1,11 +1,9 @@
 -- The first j bytes are those 80 further on; what is behind them is still as it was.
-use Prim.Native.Nat.{ℕ, ◌+◌, ◌-◌, ◌≤◌, ◌<◌}
-use mathlib.Core.Path.{◌≡◌, refl, sym, ap, ◌∙◌}
+use Prim.Native.Nat.{ℕ, ◌+◌, ◌-◌, ◌≤◌}
+use mathlib.Core.Path.{◌≡◌}
 use mathlib.Core.List.{List}
-use native.Mathlib.Omega.{arith}
-use native.Mathlib.Numerals.{add-one}
-use lib.ListN.{length, drop, set, get_or, length-drop, length-set}
-use lib.Seq.{paste, paste-zero, paste-suc, drop-paste, get_or-drop}
+use lib.ListN.{length, drop}
+use lib.Seq.{paste}
 use Rattle.flight.specs.Flight.{record_length}
 use Rattle.flight.proofs.shift.Given as goal
 

@@ -7,7 +7,6 @@ use Rattle.config.proofs.Questions.{rig_early}
 use Rattle.config.proofs.Valid.{rig_valid}
 use Rattle.events.specs.Questions.{parties_within, rig_within}
 use Rattle.events.proofs.Asked.{six_no, six_yes}
-use borrow.Author.Rules.{rules}
 use Rattle.rig.proofs.ask.Goals as goal
 
 pub returns-then-no-ne0 : goal.returns-then-no-ne0

@@ -1,7 +1,6 @@
 use mathlib.Core.Path.{sym, ap, ◌∙◌}
 use mathlib.Core.List.{[]}
 use native.Mathlib.Omega.{arith}
-use borrow.Author.Rules.{rules}
 use Rattle.events.specs.declared.Call.{Call}
 use Rattle.events.specs.Calls.{call_of}
 use Rattle.events.specs.Questions.{places_of}

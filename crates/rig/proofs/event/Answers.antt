@@ -1,6 +1,5 @@
 use mathlib.Core.Path.{sym, ◌∙◌}
 use native.Mathlib.Omega.{arith}
-use borrow.Author.Rules.{rules}
 use Rattle.events.specs.View.{lent}
 use Rattle.events.proofs.Entry.{passed_valid, rig_refused}
 use Rattle.rig.proofs.Entry.{rig_turned}

@@ -1,7 +1,6 @@
 use Rattle.events.specs.View.{lent}
 use Rattle.rig.specs.Calls.{make_questions}
 use Rattle.rig.proofs.Making.{make_done, make_refused, making}
-use borrow.Author.Rules.{rules}
 use Rattle.rig.proofs.make.Goals as goal
 
 pub returns-then-no-ne0 : goal.returns-then-no-ne0

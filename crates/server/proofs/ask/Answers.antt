@@ -1,4 +1,4 @@
-use Rattle.std.proofs.Common.{true, false, sym, ◌∙◌, rules}
+use Rattle.std.proofs.Common.{true, false, sym, ◌∙◌}
 use borrow.Author.Tests.{not-true, not-false}
 use Rattle.config.specs.Questions.{first_no}
 use Rattle.config.proofs.Valid.{valid}

@@ -1,4 +1,4 @@
-use Rattle.std.proofs.Common.{◌≡◌, ℕ, List, [], length, sym, refl, ap, ◌∙◌, subst, arith, rules}
+use Rattle.std.proofs.Common.{◌≡◌, ℕ, List, [], length, sym, refl, subst, arith}
 use Rattle.tag.proofs.Order.{Small}
 use Rattle.server.specs.declared.Found.{Found}
 use Rattle.server.specs.Calls.{FindPost, LendPost}

@@ -1,4 +1,4 @@
-use Rattle.std.proofs.Common.{sym, ◌∙◌, arith, rules}
+use Rattle.std.proofs.Common.{sym, ◌∙◌, arith}
 use Rattle.server.proofs.Asked.{Holds, state_holds, step_answer, step_handed, step_stops}
 use Rattle.server.proofs.Handed.{step_elsewhere, step_here, step_ill}
 use Rattle.server.proofs.receive.Goals as goal

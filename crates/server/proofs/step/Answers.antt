@@ -1,4 +1,4 @@
-use Rattle.std.proofs.Common.{◌≡◌, length, subst, arith, rules}
+use Rattle.std.proofs.Common.{◌≡◌, length, subst, arith}
 use Rattle.server.specs.declared.Told.{Told}
 use Rattle.server.specs.inner.Receive.{ReceivePost}
 use Rattle.server.proofs.Handed.{step_request}

@@ -2,7 +2,6 @@ use borrow.Author.Tests.{le-ltb, lt-ltb}
 use Rattle.protocol.specs.Client.{ask_again, highest_number}
 use Rattle.client.specs.declared.Ended.TheVariants.{Spent}
 use Rattle.client.proofs.Settling.{ends}
-use borrow.Author.Rules.{rules}
 use Rattle.client.proofs.again.ask_again.Goals as goal
 
 pub returns-then-x-lt-HIGHEST_NUMBER : goal.returns-then-x-lt-HIGHEST_NUMBER

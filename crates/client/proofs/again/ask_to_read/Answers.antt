@@ -3,7 +3,6 @@ use mathlib.Core.Bool.{false}
 use mathlib.Core.Option.{none}
 use Rattle.client.proofs.Answers.{announces, asks}
 use Rattle.client.proofs.Settling.{of_state}
-use borrow.Author.Rules.{rules}
 use Rattle.client.proofs.again.ask_to_read.Goals as goal
 
 pub announce-requires : goal.announce-requires

@@ -5,7 +5,6 @@ use borrow.Author.Tests.{eq-eqb, ne_eqb}
 use lib.Dec.{eqb}
 use Rattle.config.specs.Number.{server_number}
 use Rattle.client.specs.Servers.{member}
-use borrow.Author.Rules.{rules}
 use Rattle.client.proofs.count.first.Goals as goal
 
 other-kind : {r k kind : ℕ} → r ≡ k → (r ≡ kind → ⊥) → eqb k kind ≡ false

@@ -2,7 +2,6 @@ use mathlib.Core.Path.{sym, ◌∙◌, ap}
 use mathlib.Core.Bool.{Bool, ◌&&◌}
 use borrow.Author.Tests.{not-true, not-false}
 use Rattle.tag.specs.Tag.{same}
-use borrow.Author.Rules.{rules}
 use Rattle.client.proofs.count.first_of_tag.Goals as goal
 
 pub returns-then-not-first : goal.returns-then-not-first

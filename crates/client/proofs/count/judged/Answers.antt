@@ -1,6 +1,5 @@
 use mathlib.Core.Path.{sym, ◌∙◌}
 use borrow.Author.Tests.{eq-eqb, ne_eqb}
-use borrow.Author.Rules.{rules}
 use Rattle.client.proofs.count.judged.Goals as goal
 
 pub returns-then-number-eq9 : goal.returns-then-number-eq9

@@ -1,17 +1,9 @@
-use mathlib.Core.Path.{◌≡◌, refl, sym, ◌∙◌, ap, subst}
+use mathlib.Core.Path.{◌≡◌}
 use mathlib.Core.List.{List}
 use Prim.Native.Nat.{ℕ, ◌-◌, ◌≤◌}
-use native.Mathlib.Nat.{zero-mul}
-use native.Mathlib.Omega.{arith}
-use native.Mathlib.Numerals.{add-one}
-use lib.ListN.{length, drop, length-take}
-use lib.Seq.{take-nil}
+use lib.ListN.{length}
 use Rattle.config.specs.declared.Config.{Config}
-use Rattle.laws.specs.Bytes.{joined}
-use Rattle.protocol.specs.Number.{present}
-use Rattle.client.specs.Servers.{sent_by}
-use Rattle.client.specs.inner.Gather.{GatherPost, GatherPre, bytes_at, lowest}
-use Rattle.client.proofs.Gathering.{gathered_all, gathered_more}
+use Rattle.client.specs.inner.Gather.{GatherPost, lowest}
 use Rattle.client.proofs.gather.gather.Given as goal
 
 -- the servers 1 to s are done

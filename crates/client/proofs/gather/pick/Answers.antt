@@ -12,7 +12,6 @@ use Rattle.config.specs.declared.Config.{Config}
 use Rattle.client.specs.Servers.{member}
 use Rattle.client.specs.inner.Gather.{PickPost, PickPre}
 use Rattle.config.proofs.Sizes.{board_small, elements_small}
-use borrow.Author.Rules.{rules}
 use Rattle.client.proofs.gather.pick.Goals as goal
 
 module _ (cfg : Config) (sent s found : ℕ) (es numbers packed : List ℕ) where

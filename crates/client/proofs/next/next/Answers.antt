@@ -1,6 +1,5 @@
 use mathlib.Core.Path.{sym, ◌∙◌}
 use borrow.Author.Tests.{not-true, not-false}
-use borrow.Author.Rules.{rules}
 use Rattle.client.proofs.next.next.Goals as goal
 
 pub returns-then-not-enough : goal.returns-then-not-enough

@@ -15,7 +15,6 @@ use Rattle.record.specs.Calls.{with_element}
 use Rattle.client.specs.State.{placed, placed_at}
 use Rattle.client.specs.inner.Place.{TakePre}
 use Rattle.config.proofs.Sizes.{elements_small}
-use borrow.Author.Rules.{rules}
 use Rattle.client.proofs.place.take.Goals as goal
 
 module _ (cfg : Config) (h : Header) (message es : List ℕ) where

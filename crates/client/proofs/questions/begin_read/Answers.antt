@@ -1,6 +1,5 @@
 use native.Mathlib.Omega.{arith}
 use borrow.Author.Tests.{eq-eqb, ne_eqb}
-use borrow.Author.Rules.{rules}
 use Rattle.client.proofs.Asked.{others, passed, short, stopped}
 use Rattle.client.proofs.questions.begin_read.Goals as goal
 

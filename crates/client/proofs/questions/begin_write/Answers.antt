@@ -13,7 +13,6 @@ use Rattle.protocol.specs.Client.{begin_questions}
 use Rattle.client.specs.declared.State.{State}
 use Rattle.client.specs.Questions.{is_board, write_sized}
 use Rattle.client.specs.State.{bare}
-use borrow.Author.Rules.{rules}
 use Rattle.client.proofs.Asked.{others, passed, short, stopped}
 use Rattle.client.proofs.questions.begin_write.Goals as goal
 

@@ -39,9 +39,9 @@ step_sized-requires c = (passed _ _ c.ask-no.ensures c.if-no-ne0.false).0
 pub returns-then-not-step_sized : goal.returns-then-not-step_sized
 unfolding first_no
 returns-then-not-step_sized c = (
-      λ z. omega arith,
-      λ awaits. short _ _ c.ask-no.ensures c.if-no-ne0.false (sym c.step_sized.ensures ∙ not-true _ c.if-not-step_sized.true-raw) _,
-    )
+  λ z. omega arith,
+  λ awaits. short _ _ c.ask-no.ensures c.if-no-ne0.false (sym c.step_sized.ensures ∙ not-true _ c.if-not-step_sized.true-raw) _,
+)
 
 pub read-requires : goal.read-requires
 unfolding first_no
@@ -54,9 +54,9 @@ enum_known-h c = search rules
 pub returns-in_default : goal.returns-in_default
 unfolding first_no
 returns-in_default c = let e = c in (
-      λ z. omega arith,
-      λ awaits. others _ _ e.ask-no.ensures e.if-no-ne0.false (whole (goal.at.returns-in_default c).Else-not-step_sized) _ (rw (ill_formed _ _ (sound (goal.at.returns-in_default c).Else-not-step_sized).0 (long (goal.at.returns-in_default c).Else-not-step_sized) _ c.read.ensures _ c.in_default.is)),
-    )
+  λ z. omega arith,
+  λ awaits. others _ _ e.ask-no.ensures e.if-no-ne0.false (whole (goal.at.returns-in_default c).Else-not-step_sized) _ (rw (ill_formed _ _ (sound (goal.at.returns-in_default c).Else-not-step_sized).0 (long (goal.at.returns-in_default c).Else-not-step_sized) _ c.read.ensures _ c.in_default.is)),
+)
 
 pub is_for-requires : goal.is_for-requires
 unfolding first_no
@@ -78,8 +78,7 @@ unfolding first_no with_element
 returns c =
     let k = (goal.at.returns c).Else-not-step_sized in
     let m : with_element c.args.cfg c.in-Message.h c.args.message.now ≡ message_of c.args.cfg c.args.message.now = its_message _ _ _ c.read.ensures _ c.in-Message.is in
-    let f : is_for c.args.x (message_of c.args.cfg c.args.message.now) ≡ c.is_for.result = ap (is_for c.args.x) (sym m) ∙ sym c.is_for.ensures in
-    (
+    let f : is_for c.args.x (message_of c.args.cfg c.args.message.now) ≡ c.is_for.result = ap (is_for c.args.x) (sym m) ∙ sym c.is_for.ensures in (
       record {
         valid = (sound k).0;
         within = (sound k).1;

@@ -1,17 +1,12 @@
-use mathlib.Core.Path.{◌≡◌, refl, sym, ap, ◌∙◌}
+use mathlib.Core.Path.{◌≡◌}
 use mathlib.Core.Bool.{Bool, true, cond}
 use mathlib.Core.List.{List}
 use Prim.Native.Nat.{ℕ, ◌+◌, ◌-◌, ◌≤◌}
-use native.Mathlib.Omega.{arith}
-use borrow.Author.Rules.{rules}
-use borrow.Author.Tests.{not-true, not-false}
 use lib.Dec.{leb}
 use lib.ListN.{get_or}
 use Rattle.laws.specs.Below.{all_below}
-use Rattle.laws.proofs.Below.{below_next, below_no}
 use Rattle.config.specs.declared.Config.{Config}
 use Rattle.config.specs.Config.{board_length}
-use Rattle.config.proofs.Sizes.{board_small}
 use Rattle.client.specs.Servers.{member}
 use Rattle.client.proofs.questions.sent_within.Given as goal
 

@@ -2,7 +2,6 @@ use mathlib.Core.Path.{sym, ap, ◌∙◌}
 use mathlib.Core.Bool.{Bool, ◌&&◌}
 use borrow.Author.Tests.{not-true, not-false}
 use Rattle.client.specs.Servers.{within_servers}
-use borrow.Author.Rules.{rules}
 use Rattle.client.proofs.questions.tag_within.Goals as goal
 
 pub returns-then-not-allowed : goal.returns-then-not-allowed

@@ -6,7 +6,6 @@ use Rattle.config.specs.Number.{client_number}
 use Rattle.config.specs.Questions.{within as inside}
 use Rattle.client.specs.declared.State.{State}
 use Rattle.client.specs.State.{lengths_within, phase_within, state_within}
-use borrow.Author.Rules.{rules}
 use Rattle.client.proofs.questions.within.Goals as goal
 use Rattle.client.proofs.questions.within.Goals.{After-client_exists}
 

@@ -3,7 +3,6 @@ use native.Mathlib.Nat.{lt_of_le_of_lt}
 use lib.Dec.{lit<}
 use borrow.Author.Tests.{eq-eqb, ne_eqb}
 use Rattle.config.proofs.Sizes.{board_small}
-use borrow.Author.Rules.{rules}
 use Rattle.client.proofs.questions.write_sized.Goals as goal
 
 pub overflow_mul-v : goal.overflow_mul-v

@@ -8,7 +8,6 @@ use Rattle.record.specs.Record.{highest_number, record_of}
 use Rattle.record.proofs.Parties.{no-server, some_server}
 use Rattle.client.specs.inner.Send.{addressed}
 use Rattle.client.proofs.Sending.{written}
-use borrow.Author.Rules.{rules}
 use Rattle.client.proofs.send.address.Goals as goal
 
 pub returns-in_default : goal.returns-in_default

@@ -12,7 +12,6 @@ use Rattle.client.specs.Send.{records_of}
 use Rattle.client.specs.inner.Send.{broadcast, opening_of}
 use Rattle.client.proofs.Fronts.{fills}
 use Rattle.client.proofs.Sending.{its_length, sends_each, unlooked, whole}
-use borrow.Author.Rules.{rules}
 use Rattle.client.proofs.send.announce.Goals as goal
 use Rattle.client.proofs.send.announce.Goals.{Else-not-b}
 
@@ -50,9 +49,9 @@ slice_bounds-cut_to_each-end c = sym (length-take-le _ _ (v_bytes (goal.at.slice
 
 pub cut_to_each-requires : goal.cut_to_each-requires
 cut_to_each-requires c = let e = c in (
-      rw c.opening-b.ensures (sends_each e.args.cfg e.args.x e.args.board.now e.args.sends.now e.requires e.args.board.now (λ h. refl)),
-      length-take-le _ _ (v_bytes (goal.at.cut_to_each-requires c).Else-not-b),
-    )
+  rw c.opening-b.ensures (sends_each e.args.cfg e.args.x e.args.board.now e.args.sends.now e.requires e.args.board.now (λ h. refl)),
+  length-take-le _ _ (v_bytes (goal.at.cut_to_each-requires c).Else-not-b),
+)
 
 pub returns : goal.returns
 returns c = let e = c in

@@ -5,16 +5,15 @@ use native.Mathlib.Numerals.{add-one}
 use native.Mathlib.Omega.{arith}
 use borrow.Author.Rules.{rules}
 use borrow.Rule.Slice.PartMut.{same_len_mid}
-use lib.ListN.{length, take, drop, drop_of_length-le}
+use lib.ListN.{length, drop, drop_of_length-le}
 use Rattle.laws.proofs.Parts.{lent_length}
 use Rattle.config.specs.declared.Config.{Config}
-use Rattle.record.specs.Record.{record_of}
 use Rattle.protocol.specs.Boards.{BoardMessage}
 use Rattle.protocol.specs.Number.{to_each}
 use Rattle.client.specs.declared.send.Broadcast.{Broadcast}
 use Rattle.client.specs.Send.{records_of}
 use Rattle.client.specs.inner.Send.{message_to}
-use Rattle.client.proofs.Sending.{filled_message, sent_more, unsent}
+use Rattle.client.proofs.Sending.{sent_more}
 use Rattle.client.proofs.send.to_each.Invariants.{Now}
 use Rattle.client.proofs.send.to_each.Goals as goal
 
@@ -41,18 +40,19 @@ overflow_add-s c = omega (arith, c.loop-s-test.true, c.requires.goes.valid.n_hig
 pub overflow_cast-s : goal.overflow_cast-s
 overflow_cast-s c = omega (arith, c.loop-s-test.true, c.requires.goes.valid.n_high)
 
-pub slice_bounds-address-end : goal.slice_bounds-address-end
-slice_bounds-address-end c = omega (arith, c.loop-s-test.true, c.loop-s.invariant.same, c.requires.room)
+pub slice_bounds-to_one-end : goal.slice_bounds-to_one-end
+slice_bounds-to_one-end c = omega (arith, c.loop-s-test.true, c.loop-s.invariant.same, c.requires.room)
 
-pub address-requires : goal.address-requires
-address-requires c =
+pub to_one-requires : goal.to_one-requires
+to_one-requires c =
     let s = c in
     let l = c.loop-s in
     record {
       goes = s.requires.goes;
+      board-length = s.requires.board-length;
       low = omega arith;
       high = omega (arith, c.loop-s-test.true);
-      room = lent_length l.sends (80 * l.s) 80 (omega (arith, c.loop-s-test.true, l.invariant.same, c.fill.auto.sends, s.requires.room));
+      room = lent_length l.sends (80 * l.s) 80 (omega (arith, c.loop-s-test.true, l.invariant.same, s.requires.room));
     }
 
 pub loop-s-smaller : goal.loop-s-smaller
@@ -61,29 +61,24 @@ loop-s-smaller c = omega (arith, c.loop-s-test.true)
 pub loop-s-preserved : goal.loop-s-preserved
 loop-s-preserved c =
     let s = c in
-    let a = s.args in
-    let e = c.fill in
     let l = c.loop-s in
-    let o = c.address in
+    let o = c.to_one in
     let below = c.loop-s-test.true in
-    let f = message_to a.cfg a.b a.board.now in
-    let first = e.new.sends in
-    let room : 80 * l.s + 80 ≤ length first = omega (arith, below, e.auto.sends, s.requires.room) in
-    let holds = unsent a.cfg f l.s first l.sends l.invariant.done l.invariant.same room ∙ ap (λ (bs : List ℕ). take 80 (drop (80 * l.s) bs)) e.ensures in
-    let one = o.ensures ∙ ap (record_of a.cfg) (filled_message a.cfg a.b a.board.now a.sends.now s.requires l.s below (add-one l.s) holds) in
+    let f = message_to s.args.cfg s.args.b s.args.board.now in
     record {
-      done = rw (add-one l.s) (sent_more a.cfg f l.s first l.sends l.invariant.done l.invariant.same room _ one);
+      done =
+          rw (add-one l.s)
+          (sent_more s.args.cfg f l.s s.args.sends.now l.sends _ l.invariant.done l.invariant.same (omega (arith, below, s.requires.room)) (add-one l.s) o.ensures);
       high = omega (arith, below);
       same = same_len_mid (80 * l.s) (80 * l.s + 80 - 80 * l.s) l.sends o.new.buffer o.auto.buffer ∙ l.invariant.same;
     }
 
 pub shape_of-sends : goal.shape_of-sends
-shape_of-sends c = c.loop-s.invariant.same ∙ c.fill.auto.sends
+shape_of-sends c = c.loop-s.invariant.same
 
 pub returns : goal.returns
 returns c =
     let s = c in
-    let e = c.fill in
     let l = c.loop-s in
-    all s.args.cfg (message_to s.args.cfg s.args.b s.args.board.now) l.s e.new.sends l.sends l.invariant.done
-    (omega (arith, l.invariant.high, c.loop-s-test.false)) (e.auto.sends ∙ s.requires.room)
+    all s.args.cfg (message_to s.args.cfg s.args.b s.args.board.now) l.s s.args.sends.now l.sends l.invariant.done
+    (omega (arith, l.invariant.high, c.loop-s-test.false)) s.requires.room

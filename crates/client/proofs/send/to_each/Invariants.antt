@@ -5,16 +5,15 @@ use native.Mathlib.Numerals.{add-one}
 use native.Mathlib.Omega.{arith}
 use borrow.Author.Rules.{rules}
 use borrow.Rule.Slice.PartMut.{same_len_mid}
-use lib.ListN.{length, take, drop, drop_of_length-le}
+use lib.ListN.{length, drop, drop_of_length-le}
 use Rattle.laws.proofs.Parts.{lent_length}
 use Rattle.config.specs.declared.Config.{Config}
-use Rattle.record.specs.Record.{record_of}
 use Rattle.protocol.specs.Boards.{BoardMessage}
 use Rattle.protocol.specs.Number.{to_each}
 use Rattle.client.specs.declared.send.Broadcast.{Broadcast}
 use Rattle.client.specs.Send.{records_of}
 use Rattle.client.specs.inner.Send.{message_to}
-use Rattle.client.proofs.Sending.{filled_message, sent_more, unsent}
+use Rattle.client.proofs.Sending.{sent_more}
 use Rattle.client.proofs.send.to_each.Given as goal
 
 -- the servers 1 to s have their records

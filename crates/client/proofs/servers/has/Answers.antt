@@ -1,4 +1,3 @@
-use borrow.Author.Rules.{rules}
 use mathlib.Core.Path.{refl}
 use Rattle.client.specs.Servers.{member}
 use Rattle.client.proofs.servers.has.Goals as goal

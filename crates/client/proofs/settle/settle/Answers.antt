@@ -2,7 +2,6 @@ use mathlib.Core.Path.{refl}
 use Rattle.client.specs.State.{Lent, lent}
 use Rattle.client.proofs.Phases.{phase_in}
 use Rattle.client.proofs.Settling.{announced, as_found, ends, ends_shown, of_state, ready, waits}
-use borrow.Author.Rules.{rules}
 use Rattle.client.proofs.settle.settle.Goals as goal
 use Rattle.client.proofs.settle.settle.Goals.{Start}
 

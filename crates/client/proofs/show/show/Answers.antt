@@ -7,7 +7,6 @@ use Rattle.config.proofs.Sizes.{board_small}
 use Rattle.protocol.specs.Boards.{cut}
 use Rattle.client.specs.State.{slots_of}
 use Rattle.client.proofs.Gathering.{bytes_shown, first_in, length_shown, shows}
-use borrow.Author.Rules.{rules}
 use Rattle.client.proofs.show.show.Goals as goal
 use Rattle.client.proofs.show.show.Goals.{After-gather}
 

@@ -1,13 +1,8 @@
-use mathlib.Core.Path.{◌≡◌, refl, sym, ◌∙◌, ap}
+use mathlib.Core.Path.{◌≡◌}
 use mathlib.Core.List.{List}
 use Prim.Native.Nat.{ℕ, ◌-◌, ◌≤◌, ◌<◌}
-use native.Mathlib.Omega.{arith}
-use lib.ListN.{length, get_or, set, length-set}
-use lib.Seq.{get_or-set_other, get_or-set_same}
-use native.Mathlib.Decide.{ℕ_discrete}
-use borrow.Author.Rules.{rules}
+use lib.ListN.{length, get_or}
 use Rattle.protocol.specs.Boards.{cut}
-use Rattle.protocol.proofs.Cut.{cut_is, cut_set}
 use Rattle.client.proofs.zeros.cut.Given as goal
 
 -- zeros from n up to i; cut at n, the bytes are what they were

@@ -1,13 +1,8 @@
 -- `code::board::by_multiples` meets its contract: the board is what the elements before r make.
 use Prim.Native.Nat.{◌-◌, ◌≤◌}
-use mathlib.Core.Path.{◌≡◌, sym, ap, ◌∙◌}
-use native.Mathlib.Omega.{arith}
-use lib.ListN.{length}
-use Rattle.code.specs.inner.Row.{zeros}
+use mathlib.Core.Path.{◌≡◌}
 use Rattle.code.specs.inner.Rows.{combined}
 use Rattle.code.specs.inner.Table.{Ready}
-use Rattle.code.proofs.Combined.{combined_none, combined_length, combined_turn}
-use Rattle.code.proofs.Interpolated.{element_fits, element_part, spreadable, ready_clear}
 use Rattle.code.proofs.board.by_multiples.Given as goal
 
 abbrev pub invariant-loop-r : goal.invariant-loop-r

@@ -1,7 +1,6 @@
 -- `code::board::decode` meets its contract.
 use mathlib.Core.Path.{refl, ◌∙◌}
 use Rattle.code.proofs.Single.{enough, part_small, single}
-use borrow.Author.Rules.{rules}
 use Rattle.code.proofs.board.decode.Goals as goal
 
 pub slice_bounds-copy-end : goal.slice_bounds-copy-end

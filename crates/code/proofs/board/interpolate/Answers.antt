@@ -1,6 +1,5 @@
 -- `code::board::interpolate` meets its contract.
 use mathlib.Core.Path.{◌∙◌}
-use borrow.Author.Rules.{rules}
 use lib.ListN.{length}
 use Rattle.code.proofs.Combined.{combined_decoded}
 use Rattle.code.proofs.CombinedRows.{rows_asked}

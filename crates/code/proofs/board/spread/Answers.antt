@@ -1,9 +1,9 @@
 -- `code::board::spread` meets its contract: the rows before i have their multiples added, the others are as they were.
-use Prim.Native.Nat.{◌+◌, ◌*◌, ◌-◌, ◌≤◌}
-use mathlib.Core.Path.{◌≡◌, sym, ap, ◌∙◌}
+use Prim.Native.Nat.{◌+◌, ◌*◌, ◌-◌}
+use mathlib.Core.Path.{sym, ap, ◌∙◌}
 use native.Mathlib.Omega.{arith}
 use lib.ListN.{length}
-use Rattle.code.proofs.Filled.{filled, length_filled}
+use Rattle.code.proofs.Filled.{length_filled}
 use Rattle.code.proofs.Lent.{lent_row_length}
 use Rattle.code.proofs.Spreading.{each, row_fits, spread_none, spread_more, spread_all}
 use Rattle.code.proofs.board.spread.Goals as goal

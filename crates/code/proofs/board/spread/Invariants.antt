@@ -1,11 +1,9 @@
 -- `code::board::spread` meets its contract: the rows before i have their multiples added, the others are as they were.
-use Prim.Native.Nat.{◌+◌, ◌*◌, ◌-◌, ◌≤◌}
-use mathlib.Core.Path.{◌≡◌, sym, ap, ◌∙◌}
-use native.Mathlib.Omega.{arith}
+use Prim.Native.Nat.{◌*◌, ◌-◌, ◌≤◌}
+use mathlib.Core.Path.{◌≡◌}
 use lib.ListN.{length}
-use Rattle.code.proofs.Filled.{filled, length_filled}
-use Rattle.code.proofs.Lent.{lent_row_length}
-use Rattle.code.proofs.Spreading.{each, row_fits, spread_none, spread_more, spread_all}
+use Rattle.code.proofs.Filled.{filled}
+use Rattle.code.proofs.Spreading.{each}
 use Rattle.code.proofs.board.spread.Given as goal
 
 abbrev pub invariant-loop-i : goal.invariant-loop-i

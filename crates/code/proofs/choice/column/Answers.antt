@@ -1,11 +1,9 @@
 -- `code::choice::column` meets its contract.
-use Prim.Native.Nat.{◌≤◌, ◌-◌}
-use mathlib.Core.Path.{◌≡◌, refl, ◌∙◌}
-use borrow.Author.Rules.{rules}
+use mathlib.Core.Path.{refl, ◌∙◌}
 use native.Mathlib.Omega.{arith}
-use lib.ListN.{length, length-set, replicate}
+use lib.ListN.{length-set, replicate}
 use Rattle.code.specs.inner.Choice.{column, square_of}
-use Rattle.code.proofs.Filled.{filled, filled_none, turn, done}
+use Rattle.code.proofs.Filled.{filled_none, turn, done}
 use Rattle.code.proofs.choice.column.Goals as goal
 
 pub loop-i-init : goal.loop-i-init

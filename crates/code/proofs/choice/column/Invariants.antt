@@ -1,11 +1,9 @@
 -- `code::choice::column` meets its contract.
 use Prim.Native.Nat.{◌≤◌, ◌-◌}
-use mathlib.Core.Path.{◌≡◌, refl, ◌∙◌}
-use borrow.Author.Rules.{rules}
-use native.Mathlib.Omega.{arith}
-use lib.ListN.{length, length-set, replicate}
-use Rattle.code.specs.inner.Choice.{column, square_of}
-use Rattle.code.proofs.Filled.{filled, filled_none, turn, done}
+use mathlib.Core.Path.{◌≡◌}
+use lib.ListN.{length, replicate}
+use Rattle.code.specs.inner.Choice.{square_of}
+use Rattle.code.proofs.Filled.{filled}
 use Rattle.code.proofs.choice.column.Given as goal
 
 abbrev pub invariant-loop-i : goal.invariant-loop-i

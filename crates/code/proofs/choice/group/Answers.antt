@@ -1,6 +1,5 @@
 -- `code::choice::group` meets its contract: before each digit the lanes have lost those before it, whose choices stand.
-use Prim.Native.Nat.{◌≤◌, ◌-◌}
-use mathlib.Core.Path.{◌≡◌, subst, sym, ◌∙◌}
+use mathlib.Core.Path.{◌≡◌, subst}
 use borrow.Author.Rules.{rules}
 use native.Mathlib.Omega.{arith}
 use Rattle.code.specs.inner.Choice.{square_of}

@@ -1,10 +1,7 @@
 -- `code::choice::group` meets its contract: before each digit the lanes have lost those before it, whose choices stand.
 use Prim.Native.Nat.{◌≤◌, ◌-◌}
-use mathlib.Core.Path.{◌≡◌, subst, sym, ◌∙◌}
-use borrow.Author.Rules.{rules}
-use native.Mathlib.Omega.{arith}
 use Rattle.code.specs.inner.Choice.{square_of}
-use Rattle.code.proofs.ChoiceLaws.{Turned, turned_all, turned_next, turned_none}
+use Rattle.code.proofs.ChoiceLaws.{Turned}
 use Rattle.code.proofs.choice.group.Given as goal
 
 abbrev pub invariant-loop-digit : goal.invariant-loop-digit

@@ -1,12 +1,9 @@
 -- `code::choice::halved` meets its contract.
-use Prim.Native.Nat.{ℕ, ◌≤◌, ◌-◌, ◌/◌}
-use mathlib.Core.Path.{◌≡◌, refl, ◌∙◌}
-use mathlib.Core.List.{List}
-use borrow.Author.Rules.{rules}
+use mathlib.Core.Path.{refl, ◌∙◌}
 use native.Mathlib.Omega.{arith}
-use lib.ListN.{length, get_or, length-set, replicate}
+use lib.ListN.{length-set, replicate}
 use Rattle.code.specs.inner.Choice.{halved}
-use Rattle.code.proofs.Filled.{filled, filled_none, turn, done}
+use Rattle.code.proofs.Filled.{filled_none, turn, done}
 use Rattle.code.proofs.choice.halved.Invariants.{each}
 use Rattle.code.proofs.choice.halved.Goals as goal
 

@@ -1,12 +1,9 @@
 -- `code::choice::halved` meets its contract.
 use Prim.Native.Nat.{ℕ, ◌≤◌, ◌-◌, ◌/◌}
-use mathlib.Core.Path.{◌≡◌, refl, ◌∙◌}
+use mathlib.Core.Path.{◌≡◌}
 use mathlib.Core.List.{List}
-use borrow.Author.Rules.{rules}
-use native.Mathlib.Omega.{arith}
-use lib.ListN.{length, get_or, length-set, replicate}
-use Rattle.code.specs.inner.Choice.{halved}
-use Rattle.code.proofs.Filled.{filled, filled_none, turn, done}
+use lib.ListN.{length, get_or, replicate}
+use Rattle.code.proofs.Filled.{filled}
 use Rattle.code.proofs.choice.halved.Given as goal
 
 -- lane t

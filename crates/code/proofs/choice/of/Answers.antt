@@ -1,9 +1,6 @@
 -- `code::choice::of` meets its contract: the choices of the groups before g stand.
-use Prim.Native.Nat.{◌≤◌, ◌-◌}
 use mathlib.Core.Path.{◌≡◌, refl, subst}
-use borrow.Author.Rules.{rules}
 use native.Mathlib.Omega.{arith}
-use lib.ListN.{length}
 use Rattle.code.specs.inner.Choice.{square_of}
 use Rattle.code.proofs.ChoiceLaws.{Chosen, chosen_all, chosen_next}
 use Rattle.code.proofs.choice.of.Goals as goal

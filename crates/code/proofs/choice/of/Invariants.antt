@@ -1,11 +1,9 @@
 -- `code::choice::of` meets its contract: the choices of the groups before g stand.
 use Prim.Native.Nat.{◌≤◌, ◌-◌}
-use mathlib.Core.Path.{◌≡◌, refl, subst}
-use borrow.Author.Rules.{rules}
-use native.Mathlib.Omega.{arith}
+use mathlib.Core.Path.{◌≡◌}
 use lib.ListN.{length}
 use Rattle.code.specs.inner.Choice.{square_of}
-use Rattle.code.proofs.ChoiceLaws.{Chosen, chosen_all, chosen_next}
+use Rattle.code.proofs.ChoiceLaws.{Chosen}
 use Rattle.code.proofs.choice.of.Given as goal
 
 abbrev pub invariant-loop-g : goal.invariant-loop-g

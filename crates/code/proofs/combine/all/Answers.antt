@@ -2,7 +2,6 @@
 use Prim.Native.Nat.{ℕ}
 use mathlib.Core.Path.{subst}
 use mathlib.Core.List.{List}
-use borrow.Author.Rules.{rules}
 use lib.ListN.{length}
 use Rattle.code.specs.inner.Subsets.{FillPost}
 use Rattle.code.proofs.Padded.{combined, rows_small}

@@ -1,14 +1,10 @@
 -- `code::combine::each` meets its contract: the first t combinations are in their places.
-use Prim.Native.Nat.{ℕ, ◌+◌, ◌*◌, ◌-◌, ◌<◌, ◌≤◌}
-use mathlib.Core.Path.{◌≡◌, refl, ap, subst, ◌∙◌}
+use Prim.Native.Nat.{ℕ, ◌-◌, ◌<◌, ◌≤◌}
+use mathlib.Core.Path.{◌≡◌}
 use mathlib.Core.List.{List}
-use borrow.Author.Rules.{rules}
-use native.Mathlib.Omega.{arith}
 use lib.ListN.{length}
-use Rattle.laws.proofs.Parts.{lent_length}
 use Rattle.code.specs.Laid.{laid}
-use Rattle.code.specs.inner.Combine.{OnePost, Table, combination}
-use Rattle.code.proofs.LaidLaws.{back_long, laid_next, place_fits}
+use Rattle.code.specs.inner.Combine.{Table, combination}
 use Rattle.code.proofs.combine.each.Given as goal
 
 abbrev pub invariant-loop-t : goal.invariant-loop-t

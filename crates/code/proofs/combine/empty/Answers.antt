@@ -1,11 +1,8 @@
 -- `code::combine::empty` meets its contract.
-use Prim.Native.Nat.{ℕ, ◌+◌, ◌*◌, ◌≤◌, ◌<◌, ◌-◌}
-use mathlib.Core.Path.{◌≡◌, refl, ap, ap₂, ◌∙◌}
-use mathlib.Core.List.{List}
-use borrow.Author.Rules.{rules}
+use mathlib.Core.Path.{refl, ◌∙◌}
 use native.Mathlib.Omega.{arith}
-use lib.ListN.{length, get_or, length-set, replicate}
-use Rattle.code.proofs.Filled.{filled, filled_none, turn, done}
+use lib.ListN.{get_or, length-set, replicate}
+use Rattle.code.proofs.Filled.{filled_none, turn, done}
 use Rattle.code.specs.inner.Combine.{empty}
 use Rattle.code.proofs.combine.empty.Goals as goal
 

@@ -1,12 +1,8 @@
 -- `code::combine::empty` meets its contract.
-use Prim.Native.Nat.{ℕ, ◌+◌, ◌*◌, ◌≤◌, ◌<◌, ◌-◌}
-use mathlib.Core.Path.{◌≡◌, refl, ap, ap₂, ◌∙◌}
-use mathlib.Core.List.{List}
-use borrow.Author.Rules.{rules}
-use native.Mathlib.Omega.{arith}
-use lib.ListN.{length, get_or, length-set, replicate}
-use Rattle.code.proofs.Filled.{filled, filled_none, turn, done}
-use Rattle.code.specs.inner.Combine.{empty}
+use Prim.Native.Nat.{◌≤◌, ◌-◌}
+use mathlib.Core.Path.{◌≡◌}
+use lib.ListN.{length, get_or, replicate}
+use Rattle.code.proofs.Filled.{filled}
 use Rattle.code.proofs.combine.empty.Given as goal
 
 abbrev pub invariant-loop-j : goal.invariant-loop-j

@@ -1,12 +1,10 @@
 -- `code::combine::last` meets its contract: the bytes before j are those of the last step, those from j on are as they were.
-use Prim.Native.Nat.{ℕ, ◌+◌, ◌*◌, ◌≤◌, ◌<◌, ◌-◌}
-use mathlib.Core.Path.{◌≡◌, refl, ap, ap₂, ◌∙◌}
-use mathlib.Core.List.{List}
-use borrow.Author.Rules.{rules}
+use Prim.Native.Nat.{◌+◌, ◌*◌}
+use mathlib.Core.Path.{refl, ap, ◌∙◌}
 use native.Mathlib.Omega.{arith}
-use lib.ListN.{length, get_or, length-set, replicate}
-use Rattle.code.proofs.Filled.{filled, filled_none, turn, done}
-use Rattle.field.specs.Field.{plus, double}
+use lib.ListN.{get_or, length-set}
+use Rattle.code.proofs.Filled.{filled_none, turn, done}
+use Rattle.field.specs.Field.{plus}
 use Rattle.code.specs.inner.Combine.{last_byte}
 use Rattle.code.proofs.combine.last.Goals as goal
 

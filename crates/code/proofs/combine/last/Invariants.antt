@@ -1,12 +1,8 @@
 -- `code::combine::last` meets its contract: the bytes before j are those of the last step, those from j on are as they were.
-use Prim.Native.Nat.{ℕ, ◌+◌, ◌*◌, ◌≤◌, ◌<◌, ◌-◌}
-use mathlib.Core.Path.{◌≡◌, refl, ap, ap₂, ◌∙◌}
-use mathlib.Core.List.{List}
-use borrow.Author.Rules.{rules}
-use native.Mathlib.Omega.{arith}
-use lib.ListN.{length, get_or, length-set, replicate}
-use Rattle.code.proofs.Filled.{filled, filled_none, turn, done}
-use Rattle.field.specs.Field.{plus, double}
+use Prim.Native.Nat.{◌≤◌, ◌-◌}
+use mathlib.Core.Path.{◌≡◌}
+use lib.ListN.{length}
+use Rattle.code.proofs.Filled.{filled}
 use Rattle.code.specs.inner.Combine.{last_byte}
 use Rattle.code.proofs.combine.last.Given as goal
 

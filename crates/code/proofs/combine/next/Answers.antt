@@ -1,12 +1,10 @@
 -- `code::combine::next` meets its contract.
-use Prim.Native.Nat.{ℕ, ◌+◌, ◌*◌, ◌≤◌, ◌<◌, ◌-◌}
-use mathlib.Core.Path.{◌≡◌, refl, ap, ap₂, ◌∙◌}
-use mathlib.Core.List.{List}
-use borrow.Author.Rules.{rules}
+use Prim.Native.Nat.{◌+◌, ◌*◌}
+use mathlib.Core.Path.{refl, ap, ◌∙◌}
 use native.Mathlib.Omega.{arith}
-use lib.ListN.{length, get_or, length-set, replicate}
-use Rattle.code.proofs.Filled.{filled, filled_none, turn, done}
-use Rattle.field.specs.Field.{plus, double}
+use lib.ListN.{get_or, length-set, replicate}
+use Rattle.code.proofs.Filled.{filled_none, turn, done}
+use Rattle.field.specs.Field.{plus}
 use Rattle.code.specs.inner.Combine.{next}
 use Rattle.code.proofs.combine.next.Invariants.{each}
 use Rattle.code.proofs.combine.next.Goals as goal

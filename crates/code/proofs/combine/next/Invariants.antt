@@ -1,13 +1,10 @@
 -- `code::combine::next` meets its contract.
-use Prim.Native.Nat.{ℕ, ◌+◌, ◌*◌, ◌≤◌, ◌<◌, ◌-◌}
-use mathlib.Core.Path.{◌≡◌, refl, ap, ap₂, ◌∙◌}
+use Prim.Native.Nat.{ℕ, ◌+◌, ◌*◌, ◌≤◌, ◌-◌}
+use mathlib.Core.Path.{◌≡◌}
 use mathlib.Core.List.{List}
-use borrow.Author.Rules.{rules}
-use native.Mathlib.Omega.{arith}
-use lib.ListN.{length, get_or, length-set, replicate}
-use Rattle.code.proofs.Filled.{filled, filled_none, turn, done}
+use lib.ListN.{length, get_or, replicate}
+use Rattle.code.proofs.Filled.{filled}
 use Rattle.field.specs.Field.{plus, double}
-use Rattle.code.specs.inner.Combine.{next}
 use Rattle.code.proofs.combine.next.Given as goal
 
 -- byte j

@@ -3,7 +3,6 @@ use Prim.Native.Nat.{◌+◌}
 use native.Mathlib.Omega.{arith}
 use lib.ListN.{length}
 use Rattle.code.proofs.Combining.{combined_one}
-use borrow.Author.Rules.{rules}
 use Rattle.code.proofs.combine.one.Goals as goal
 
 pub last-requires : goal.last-requires

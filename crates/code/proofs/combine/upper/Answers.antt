@@ -1,7 +1,6 @@
 -- `code::combine::upper` meets its contract: the row is the combination without its b last digits.
-use Prim.Native.Nat.{◌+◌, ◌*◌, ◌-◌, ◌≤◌}
+use Prim.Native.Nat.{◌+◌, ◌*◌, ◌-◌}
 use mathlib.Core.Path.{◌≡◌, subst}
-use borrow.Author.Rules.{rules}
 use native.Mathlib.Omega.{arith}
 use Rattle.code.specs.inner.Combine.{Without}
 use Rattle.code.proofs.Combining.{without_all, without_narrow, without_wide}

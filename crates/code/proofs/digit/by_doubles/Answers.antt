@@ -2,7 +2,6 @@
 use mathlib.Core.Path.{ap₂, ◌∙◌}
 use Rattle.field.specs.Field.{plus}
 use Rattle.code.proofs.Digits.{eight}
-use borrow.Author.Rules.{rules}
 use Rattle.code.proofs.digit.by_doubles.Goals as goal
 
 pub returns : goal.returns

@@ -3,7 +3,6 @@ use Prim.Native.Nat.{suc, ◌*◌, ◌≤◌}
 use mathlib.Core.Path.{◌∙◌}
 use native.Mathlib.Nat.{lt_of_le_of_lt, mul_comm, mul-le-mul}
 use native.Mathlib.Omega.{arith}
-use borrow.Author.Rules.{rules}
 use lib.Dec.{lit<}
 use Rattle.field.specs.Field.{power}
 use Rattle.field.proofs.Laws.{power_lt}

@@ -1,7 +1,6 @@
 -- `code::elements::few` meets its contract.
 use Prim.Native.Nat.{◌+◌}
 use mathlib.Core.Path.{refl, sym, ◌∙◌}
-use borrow.Author.Rules.{rules}
 use native.Mathlib.Omega.{arith}
 use lib.ListN.{length}
 use Rattle.code.proofs.FewRows.{four_element, lent_long, long, server, three_element, two_element}

@@ -1,6 +1,5 @@
 -- `code::elements::one` meets its contract.
 use native.Mathlib.Omega.{arith}
-use borrow.Author.Rules.{rules}
 use Rattle.code.proofs.elements.one.Goals as goal
 
 pub few-requires : goal.few-requires

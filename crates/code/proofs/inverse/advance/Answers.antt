@@ -1,13 +1,9 @@
 -- `code::inverse::advance` meets its contract.
-use Prim.Native.Nat.{ℕ, ◌≤◌, ◌-◌}
-use mathlib.Core.Path.{◌≡◌, refl, ap, ◌∙◌}
-use mathlib.Core.List.{List}
-use borrow.Author.Rules.{rules}
+use mathlib.Core.Path.{refl, ap, ◌∙◌}
 use native.Mathlib.Omega.{arith}
 use lib.Bits.{bit_xor}
-use lib.ListN.{length, get_or, length-set, replicate}
-use Rattle.code.proofs.Filled.{filled, filled_none, turn, done}
-use Rattle.field.specs.Field.{plus, times}
+use lib.ListN.{get_or, length-set, replicate}
+use Rattle.code.proofs.Filled.{filled_none, turn, done}
 use Rattle.code.specs.inner.Lanes.{advanced}
 use Rattle.code.proofs.inverse.advance.Invariants.{each}
 use Rattle.code.proofs.inverse.advance.Goals as goal

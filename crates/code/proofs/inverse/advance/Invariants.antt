@@ -1,14 +1,10 @@
 -- `code::inverse::advance` meets its contract.
 use Prim.Native.Nat.{ℕ, ◌≤◌, ◌-◌}
-use mathlib.Core.Path.{◌≡◌, refl, ap, ◌∙◌}
+use mathlib.Core.Path.{◌≡◌}
 use mathlib.Core.List.{List}
-use borrow.Author.Rules.{rules}
-use native.Mathlib.Omega.{arith}
-use lib.Bits.{bit_xor}
-use lib.ListN.{length, get_or, length-set, replicate}
-use Rattle.code.proofs.Filled.{filled, filled_none, turn, done}
+use lib.ListN.{length, get_or, replicate}
+use Rattle.code.proofs.Filled.{filled}
 use Rattle.field.specs.Field.{plus, times}
-use Rattle.code.specs.inner.Lanes.{advanced}
 use Rattle.code.proofs.inverse.advance.Given as goal
 
 -- lane t

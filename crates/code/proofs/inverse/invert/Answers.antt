@@ -1,7 +1,6 @@
 -- `code::inverse::invert` meets its contract: the coefficients from i on are divided; then all are, and are scaled.
 use Prim.Native.Nat.{◌-◌}
 use mathlib.Core.Path.{◌≡◌, refl, ap, subst, ◌∙◌}
-use borrow.Author.Rules.{rules}
 use native.Mathlib.Omega.{arith}
 use lib.ListN.{get_or, take, replicate}
 use Rattle.code.specs.Element.{byte_field}

@@ -1,13 +1,8 @@
 -- `code::inverse::invert` meets its contract: the coefficients from i on are divided; then all are, and are scaled.
-use Prim.Native.Nat.{◌-◌}
-use mathlib.Core.Path.{◌≡◌, refl, ap, subst, ◌∙◌}
-use borrow.Author.Rules.{rules}
-use native.Mathlib.Omega.{arith}
-use lib.ListN.{get_or, take, replicate}
+use lib.ListN.{take}
 use Rattle.code.specs.Element.{byte_field}
 use Rattle.code.specs.Polynomial.{roots}
-use Rattle.code.proofs.Advanced.{numbers_at, numbers_small}
-use Rattle.code.proofs.Division.{Divided, begins, turns, ends}
+use Rattle.code.proofs.Division.{Divided}
 use Rattle.code.proofs.inverse.invert.Given as goal
 
 abbrev pub invariant-loop-i : goal.invariant-loop-i

@@ -1,10 +1,8 @@
 -- `code::inverse::inverted` meets its contract.
-use Prim.Native.Nat.{◌≤◌, ◌-◌}
-use mathlib.Core.Path.{◌≡◌, refl, ap, ◌∙◌}
-use borrow.Author.Rules.{rules}
+use mathlib.Core.Path.{refl, ap, ◌∙◌}
 use native.Mathlib.Omega.{arith}
-use lib.ListN.{length, get_or, length-set, replicate}
-use Rattle.code.proofs.Filled.{filled, filled_none, filled_at, turn}
+use lib.ListN.{get_or, length-set, replicate}
+use Rattle.code.proofs.Filled.{filled_none, filled_at, turn}
 use Rattle.field.specs.Field.{inverse_of}
 use Rattle.code.proofs.inverse.inverted.Goals as goal
 

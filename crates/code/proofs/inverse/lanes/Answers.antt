@@ -1,12 +1,10 @@
 -- `code::inverse::lanes` meets its contract.
-use Prim.Native.Nat.{◌≤◌, ◌-◌}
-use mathlib.Core.Path.{◌≡◌, refl, sym, ◌∙◌}
-use borrow.Author.Rules.{rules}
+use mathlib.Core.Path.{refl, sym, ◌∙◌}
 use native.Mathlib.Omega.{arith}
-use lib.ListN.{length, get_or, length-set, replicate, take, get_or-eq_default}
+use lib.ListN.{get_or, length-set, replicate, take, get_or-eq_default}
 use lib.Seq.{get_or-take, length-take-le}
 use Rattle.code.specs.inner.Lanes.{numbers}
-use Rattle.code.proofs.Filled.{filled, filled_none, filled_zeros, turn}
+use Rattle.code.proofs.Filled.{filled_none, filled_zeros, turn}
 use Rattle.code.proofs.inverse.lanes.Goals as goal
 
 pub loop-r-init : goal.loop-r-init

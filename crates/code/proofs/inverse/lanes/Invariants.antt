@@ -1,12 +1,8 @@
 -- `code::inverse::lanes` meets its contract.
 use Prim.Native.Nat.{◌≤◌, ◌-◌}
-use mathlib.Core.Path.{◌≡◌, refl, sym, ◌∙◌}
-use borrow.Author.Rules.{rules}
-use native.Mathlib.Omega.{arith}
-use lib.ListN.{length, get_or, length-set, replicate, take, get_or-eq_default}
-use lib.Seq.{get_or-take, length-take-le}
-use Rattle.code.specs.inner.Lanes.{numbers}
-use Rattle.code.proofs.Filled.{filled, filled_none, filled_zeros, turn}
+use mathlib.Core.Path.{◌≡◌}
+use lib.ListN.{length, get_or, replicate, take}
+use Rattle.code.proofs.Filled.{filled}
 use Rattle.code.proofs.inverse.lanes.Given as goal
 
 abbrev pub invariant-loop-r : goal.invariant-loop-r

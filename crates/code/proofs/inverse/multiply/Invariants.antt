@@ -1,13 +1,10 @@
 -- `code::inverse::multiply` meets its contract.
 use Prim.Native.Nat.{ℕ, ◌≤◌, ◌-◌}
-use mathlib.Core.Path.{◌≡◌, refl, ◌∙◌}
+use mathlib.Core.Path.{◌≡◌}
 use mathlib.Core.List.{List}
-use borrow.Author.Rules.{rules}
-use native.Mathlib.Omega.{arith}
-use lib.ListN.{length, get_or, length-set, replicate}
+use lib.ListN.{length, get_or, replicate}
 use Rattle.field.specs.Field.{times}
-use Rattle.code.specs.inner.Lanes.{scaled_lanes}
-use Rattle.code.proofs.Filled.{filled, filled_none, turn, done}
+use Rattle.code.proofs.Filled.{filled}
 use Rattle.code.proofs.inverse.multiply.Given as goal
 
 -- lane t

@@ -1,13 +1,9 @@
 -- `code::inverse::root` meets its contract: below i, the coefficients of x p.
 use Prim.Native.Nat.{◌≤◌, ◌-◌}
-use mathlib.Core.Path.{◌≡◌, refl, ap, ◌∙◌}
+use mathlib.Core.Path.{◌≡◌}
 use mathlib.Core.List.{◌∷◌}
-use native.Mathlib.Omega.{arith}
-use lib.ListN.{length, get_or, length-set, replicate}
-use Rattle.laws.specs.Bytes.{tabulate}
-use Rattle.code.proofs.Advanced.{same_small}
-use Rattle.code.proofs.Filled.{filled, filled_at, turn}
-use Rattle.code.proofs.FirstRoots.{below_at, shifted}
+use lib.ListN.{length, get_or, replicate}
+use Rattle.code.proofs.Filled.{filled}
 use Rattle.code.proofs.inverse.root.Given as goal
 
 abbrev pub invariant-loop-i : goal.invariant-loop-i

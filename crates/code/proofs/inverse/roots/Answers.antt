@@ -1,7 +1,5 @@
 -- `code::inverse::roots` meets its contract: p is the product for the servers before r.
-use Prim.Native.Nat.{◌≤◌, ◌-◌}
 use mathlib.Core.Path.{◌≡◌, ap, ◌∙◌}
-use borrow.Author.Rules.{rules}
 use native.Mathlib.Omega.{arith}
 use lib.ListN.{get_or}
 use Rattle.code.specs.inner.Lanes.{first_roots, rooted_once}

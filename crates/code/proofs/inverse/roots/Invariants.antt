@@ -1,11 +1,7 @@
 -- `code::inverse::roots` meets its contract: p is the product for the servers before r.
 use Prim.Native.Nat.{◌≤◌, ◌-◌}
-use mathlib.Core.Path.{◌≡◌, ap, ◌∙◌}
-use borrow.Author.Rules.{rules}
-use native.Mathlib.Omega.{arith}
-use lib.ListN.{get_or}
-use Rattle.code.specs.inner.Lanes.{first_roots, rooted_once}
-use Rattle.code.proofs.FirstRoots.{roots_one, roots_more}
+use mathlib.Core.Path.{◌≡◌}
+use Rattle.code.specs.inner.Lanes.{first_roots}
 use Rattle.code.proofs.inverse.roots.Given as goal
 
 abbrev pub invariant-loop-r : goal.invariant-loop-r

@@ -1,13 +1,11 @@
 -- `code::inverse::scale` meets its contract: the rows before i are scaled.
-use Prim.Native.Nat.{ℕ, ◌≤◌, ◌-◌}
-use mathlib.Core.Path.{◌≡◌, ap, ◌∙◌}
-use mathlib.Core.List.{List, []}
-use borrow.Author.Rules.{rules}
+use mathlib.Core.Path.{ap, ◌∙◌}
+use mathlib.Core.List.{[]}
 use native.Mathlib.Omega.{arith}
-use lib.ListN.{length, get_or, length-set}
+use lib.ListN.{get_or, length-set}
 use Rattle.code.specs.inner.Lanes.{scaled_lanes}
 use Rattle.code.proofs.Advanced.{multiplied_at}
-use Rattle.code.proofs.Filled.{filled, filled_none, filled_at, was, turn}
+use Rattle.code.proofs.Filled.{filled_none, filled_at, was, turn}
 use Rattle.code.proofs.inverse.scale.Invariants.{each}
 use Rattle.code.proofs.inverse.scale.Goals as goal
 

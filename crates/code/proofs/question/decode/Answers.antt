@@ -5,7 +5,6 @@ use borrow.Author.Tests.{not-true, not-false}
 use Rattle.config.proofs.Valid.{valid}
 use Rattle.code.proofs.Asked.{board_small}
 use Rattle.code.proofs.Decodable.{refused, wrong_elements, wrong_buffer, falling, too_few, accepted}
-use borrow.Author.Rules.{rules}
 use Rattle.code.proofs.question.decode.Goals as goal
 
 pub returns-then-no-ne0 : goal.returns-then-no-ne0

@@ -7,7 +7,6 @@ use lib.Dec.{lit<}
 use Rattle.config.proofs.Valid.{valid}
 use Rattle.code.proofs.Asked.{rows_small}
 use Rattle.code.proofs.Encodable.{refused, wrong_board, wrong_part, no-server, some_server}
-use borrow.Author.Rules.{rules}
 use Rattle.code.proofs.question.encode.Goals as goal
 
 pub returns-then-no-ne0 : goal.returns-then-no-ne0

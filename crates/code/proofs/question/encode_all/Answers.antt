@@ -5,7 +5,6 @@ use borrow.Author.Tests.{not-true, not-false}
 use Rattle.config.proofs.Valid.{valid}
 use Rattle.code.proofs.Asked.{board_small}
 use Rattle.code.proofs.EncodableAll.{refused, wrong_board, wrong_offset, wrong_buffer, accepted}
-use borrow.Author.Rules.{rules}
 use Rattle.code.proofs.question.encode_all.Goals as goal
 
 pub returns-then-no-ne0 : goal.returns-then-no-ne0

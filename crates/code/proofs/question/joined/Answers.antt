@@ -1,7 +1,6 @@
 -- `code::question::joined` meets its contract.
 use native.Mathlib.Omega.{arith}
 use Rattle.code.proofs.Counted.{product_small, other_quotient, same_quotient}
-use borrow.Author.Rules.{rules}
 use Rattle.code.proofs.question.joined.Goals as goal
 
 pub overflow_mul-result : goal.overflow_mul-result

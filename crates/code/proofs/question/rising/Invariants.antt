@@ -1,10 +1,8 @@
 -- `code::question::rising` meets its contract: whether the rest rises above `low` is whether all rise.
 use Prim.Native.Nat.{◌≤◌, ◌-◌}
-use mathlib.Core.Path.{◌≡◌, refl, sym, ◌∙◌}
-use native.Mathlib.Omega.{arith}
+use mathlib.Core.Path.{◌≡◌}
 use lib.ListN.{length, drop}
 use Rattle.code.specs.Decoded.{rising, rising_above}
-use Rattle.code.proofs.Rising.{scan_low, scan_high, scan_on, scan_end}
 use Rattle.code.proofs.question.rising.Given as goal
 
 abbrev pub invariant-loop-r : goal.invariant-loop-r

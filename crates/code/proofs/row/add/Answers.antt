@@ -1,13 +1,11 @@
 -- `code::row::add` meets its contract: to the bytes before j it is added, those from j on are as they were.
-use Prim.Native.Nat.{ℕ, ◌≤◌, ◌<◌, ◌-◌}
-use mathlib.Core.Path.{◌≡◌, refl, ap, ◌∙◌}
-use mathlib.Core.List.{List}
-use borrow.Author.Rules.{rules}
+use Prim.Native.Nat.{◌<◌}
+use mathlib.Core.Path.{refl, ap, ◌∙◌}
 use native.Mathlib.Omega.{arith}
 use lib.ListN.{length, get_or, length-set}
 use Rattle.field.specs.Field.{plus, times}
 use Rattle.code.specs.inner.Row.{added}
-use Rattle.code.proofs.Filled.{filled, filled_none, was, turn, done}
+use Rattle.code.proofs.Filled.{filled_none, was, turn, done}
 use Rattle.laws.proofs.Bytes.{tabulate_cong}
 use Rattle.code.proofs.Tabled.{chosen, chosen_times}
 use Rattle.code.proofs.row.add.Invariants.{each}

@@ -1,11 +1,9 @@
 -- `code::row::clear` meets its contract: the bytes before j are 0.
-use Prim.Native.Nat.{◌≤◌, ◌-◌}
-use mathlib.Core.Path.{◌≡◌, refl, ◌∙◌}
-use borrow.Author.Rules.{rules}
+use mathlib.Core.Path.{refl, ◌∙◌}
 use native.Mathlib.Omega.{arith}
-use lib.ListN.{length, length-set}
+use lib.ListN.{length-set}
 use Rattle.code.specs.inner.Row.{zeros}
-use Rattle.code.proofs.Filled.{filled, filled_none, turn, done}
+use Rattle.code.proofs.Filled.{filled_none, turn, done}
 use Rattle.code.proofs.row.clear.Goals as goal
 
 pub loop-j-init : goal.loop-j-init

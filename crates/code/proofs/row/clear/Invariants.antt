@@ -1,11 +1,8 @@
 -- `code::row::clear` meets its contract: the bytes before j are 0.
 use Prim.Native.Nat.{◌≤◌, ◌-◌}
-use mathlib.Core.Path.{◌≡◌, refl, ◌∙◌}
-use borrow.Author.Rules.{rules}
-use native.Mathlib.Omega.{arith}
-use lib.ListN.{length, length-set}
-use Rattle.code.specs.inner.Row.{zeros}
-use Rattle.code.proofs.Filled.{filled, filled_none, turn, done}
+use mathlib.Core.Path.{◌≡◌}
+use lib.ListN.{length}
+use Rattle.code.proofs.Filled.{filled}
 use Rattle.code.proofs.row.clear.Given as goal
 
 abbrev pub invariant-loop-j : goal.invariant-loop-j

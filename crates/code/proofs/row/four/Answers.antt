@@ -1,13 +1,12 @@
 -- `code::row::four` meets its contract: the bytes before j are those of the value, those from j on are as they were.
-use Prim.Native.Nat.{◌≤◌, ◌<◌, ◌-◌}
-use mathlib.Core.Path.{◌≡◌, refl, ◌∙◌}
+use mathlib.Core.Path.{refl, ◌∙◌}
 use mathlib.Core.List.{[], ◌∷◌}
 use native.Mathlib.Omega.{arith}
 use lib.Bits.{bit_xor}
-use lib.ListN.{length, get_or, length-set}
+use lib.ListN.{get_or, length-set}
 use Rattle.code.specs.inner.Row.{value_at}
 use Rattle.code.proofs.FewRows.{last_row, row_before}
-use Rattle.code.proofs.Filled.{filled, filled_none, turn, done}
+use Rattle.code.proofs.Filled.{filled_none, turn, done}
 use Rattle.code.proofs.row.four.Goals as goal
 
 pub loop-j-init : goal.loop-j-init

@@ -1,10 +1,5 @@
 -- `code::row::multiply` meets its contract: the bytes before j of each row are those of the multiples.
-use Prim.Native.Nat.{◌≤◌, ◌-◌}
-use mathlib.Core.Path.{sym, ◌∙◌}
-use borrow.Author.Rules.{rules}
 use native.Mathlib.Omega.{arith}
-use lib.ListN.{length}
-use Rattle.code.specs.inner.Table.{Ready, Rows}
 use Rattle.code.proofs.Tabled.{rows_more}
 use Rattle.code.proofs.row.multiply.Goals as goal
 

@@ -1,13 +1,12 @@
 -- `code::row::step` meets its contract: the bytes before j are stepped, those from j on are as they were.
-use Prim.Native.Nat.{ℕ, ◌≤◌, ◌<◌, ◌-◌}
-use mathlib.Core.Path.{◌≡◌, refl, ap, ◌∙◌}
-use mathlib.Core.List.{List}
+use Prim.Native.Nat.{◌<◌}
+use mathlib.Core.Path.{refl, ap, ◌∙◌}
 use native.Mathlib.Omega.{arith}
 use lib.Bits.{bit_xor}
 use lib.ListN.{length, get_or, length-set}
-use Rattle.field.specs.Field.{plus, times}
+use Rattle.field.specs.Field.{times}
 use Rattle.code.specs.inner.Row.{stepped}
-use Rattle.code.proofs.Filled.{filled, filled_none, was, turn, done}
+use Rattle.code.proofs.Filled.{filled_none, was, turn, done}
 use Rattle.code.proofs.row.step.Invariants.{each}
 use Rattle.code.proofs.row.step.Goals as goal
 

@@ -1,13 +1,10 @@
 -- `code::row::step` meets its contract: the bytes before j are stepped, those from j on are as they were.
-use Prim.Native.Nat.{ℕ, ◌≤◌, ◌<◌, ◌-◌}
-use mathlib.Core.Path.{◌≡◌, refl, ap, ◌∙◌}
+use Prim.Native.Nat.{ℕ, ◌≤◌, ◌-◌}
+use mathlib.Core.Path.{◌≡◌}
 use mathlib.Core.List.{List}
-use native.Mathlib.Omega.{arith}
-use lib.Bits.{bit_xor}
-use lib.ListN.{length, get_or, length-set}
+use lib.ListN.{length, get_or}
 use Rattle.field.specs.Field.{plus, times}
-use Rattle.code.specs.inner.Row.{stepped}
-use Rattle.code.proofs.Filled.{filled, filled_none, was, turn, done}
+use Rattle.code.proofs.Filled.{filled}
 use Rattle.code.proofs.row.step.Given as goal
 
 -- byte j of the stepped row

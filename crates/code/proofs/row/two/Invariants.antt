@@ -1,13 +1,10 @@
 -- `code::row::two` meets its contract: the bytes before j are those of the value, those from j on are as they were.
-use Prim.Native.Nat.{◌≤◌, ◌<◌, ◌-◌}
-use mathlib.Core.Path.{◌≡◌, refl, ◌∙◌}
+use Prim.Native.Nat.{◌≤◌, ◌-◌}
+use mathlib.Core.Path.{◌≡◌}
 use mathlib.Core.List.{[], ◌∷◌}
-use native.Mathlib.Omega.{arith}
-use lib.Bits.{bit_xor}
-use lib.ListN.{length, get_or, length-set}
+use lib.ListN.{length}
 use Rattle.code.specs.inner.Row.{value_at}
-use Rattle.code.proofs.FewRows.{last_row, row_before}
-use Rattle.code.proofs.Filled.{filled, filled_none, turn, done}
+use Rattle.code.proofs.Filled.{filled}
 use Rattle.code.proofs.row.two.Given as goal
 
 abbrev pub invariant-loop-j : goal.invariant-loop-j

@@ -1,11 +1,6 @@
 -- `code::subsets::fill` meets its contract: the table has the sums of the groups before g.
-use Prim.Native.Nat.{ℕ, ◌*◌, ◌-◌, ◌≤◌}
-use mathlib.Core.Path.{sym, ap, ◌∙◌}
-use borrow.Author.Rules.{rules}
-use native.Mathlib.Omega.{arith}
-use lib.ListN.{length, length-replicate}
-use Rattle.laws.proofs.Parts.{lent_length}
-use Rattle.code.proofs.SubsetLaws.{Filling, rows_fit, filling_none, filling_ready, filling_more, filling_all}
+use Prim.Native.Nat.{◌-◌, ◌≤◌}
+use Rattle.code.proofs.SubsetLaws.{Filling}
 use Rattle.code.proofs.subsets.fill.Given as goal
 
 abbrev pub invariant-loop-g : goal.invariant-loop-g

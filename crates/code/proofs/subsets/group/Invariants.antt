@@ -1,10 +1,6 @@
 -- `code::subsets::group` meets its contract: the bytes before j of each row are those of the sums.
 use Prim.Native.Nat.{◌≤◌, ◌-◌}
-use mathlib.Core.Path.{sym, ◌∙◌}
-use borrow.Author.Rules.{rules}
-use native.Mathlib.Omega.{arith}
 use Rattle.code.specs.inner.Subsets.{Ready, Rows}
-use Rattle.code.proofs.SubsetLaws.{rows_more}
 use Rattle.code.proofs.subsets.group.Given as goal
 
 abbrev pub invariant-loop-j : goal.invariant-loop-j

@@ -1,5 +1,4 @@
 use mathlib.Core.Path.{refl}
-use borrow.Author.Rules.{rules}
 use Rattle.config.specs.Config.{questions}
 use Rattle.config.specs.Number.{client_questions}
 use Rattle.config.specs.Questions.{numbered}

@@ -1,5 +1,4 @@
 use mathlib.Core.Path.{refl, ◌∙◌}
-use borrow.Author.Rules.{rules}
 use Rattle.config.proofs.Valid.{rig_in_range}
 use Rattle.config.proofs.Config.ask.Goals as goal
 

@@ -1,6 +1,5 @@
 use mathlib.Core.Path.{refl, sym, ◌∙◌}
 use borrow.Author.Tests.{not-true, not-false}
-use borrow.Author.Rules.{rules}
 use Rattle.config.specs.declared.Config.{Config}
 use Rattle.config.specs.Config.{most_messages, questions_to5, ranks_within, rig_questions}
 use Rattle.config.specs.Questions.{Question, ask, first_no, numbered, within}

@@ -2,9 +2,8 @@ use mathlib.Core.Path.{sym, ap, ap₂, ◌∙◌}
 use mathlib.Core.Bool.{◌&&◌}
 use mathlib.Core.List.{[], ◌∷◌}
 use borrow.Author.Tests.{not-true, not-false}
-use borrow.Author.Rules.{rules}
 use lib.Dec.{leb}
-use Rattle.config.specs.Questions.{ask, first_no, within}
+use Rattle.config.specs.Questions.{ask, first_no}
 use Rattle.config.specs.Room.{most_boards, room_questions, room_within, shares_sum}
 use Rattle.config.proofs.Questions.{rig_early, rig_later, first_no_no, first_no_yes, within_high}
 use Rattle.config.proofs.Config.ask_room.Goals as goal

@@ -1,6 +1,5 @@
 use mathlib.Core.Path.{sym, ◌∙◌}
 use native.Mathlib.Omega.{arith}
-use borrow.Author.Rules.{rules}
 use Rattle.config.proofs.Sizes.{board_small, elements_small, lengths_none, lengths_valid, sends_small, store_small}
 use Rattle.config.proofs.Valid.{asked_valid}
 use Rattle.config.proofs.Config.lengths.Goals as goal

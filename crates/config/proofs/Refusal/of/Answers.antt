@@ -6,7 +6,6 @@ use Prim.Native.Nat.{ℕ, ◌<◌}
 use native.Mathlib.Omega.{arith}
 use lib.Dec.{T, eqb, eqb→eq}
 use lib.ListN.{length, get_or}
-use borrow.Author.Rules.{rules}
 use Rattle.laws.proofs.Table.{passes, entry}
 use Rattle.config.specs.declared.Refusal.{Refusal}
 use Rattle.config.specs.Refusal.{clamped, refusal_number}

@@ -1,6 +1,5 @@
 -- `config::Verdict::of` meets its contract. Assumes nothing.
 use native.Mathlib.Omega.{arith}
-use borrow.Author.Rules.{rules}
 use Rattle.config.proofs.Refusals.{passing_low}
 use Rattle.config.proofs.Verdict.of.Goals as goal
 

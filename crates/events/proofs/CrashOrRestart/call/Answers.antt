@@ -1,4 +1,3 @@
-use borrow.Author.Rules.{rules}
 use Rattle.events.proofs.CrashOrRestart.call.Goals as goal
 
 pub returns-in-CrashServer : goal.returns-in-CrashServer

@@ -1,5 +1,4 @@
 use mathlib.Core.Path.{sym, ◌∙◌}
-use borrow.Author.Rules.{rules}
 use borrow.Author.Tests.{not-true, not-false}
 use Rattle.events.proofs.begin.Laws.{asked_full, asked_idle, asked_missing, asked_room}
 use Rattle.events.proofs.begin.asked.Goals as goal

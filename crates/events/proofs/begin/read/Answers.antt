@@ -2,7 +2,6 @@ use Prim.Native.Nat.{◌*◌}
 use mathlib.Core.Path.{sym, ◌∙◌}
 use mathlib.Core.List.{[]}
 use native.Mathlib.Omega.{arith}
-use borrow.Author.Rules.{rules}
 use Rattle.laws.proofs.Parts.{lent_is, over_lent}
 use Rattle.events.proofs.begin.Laws.{asked_yes, read_acted, read_refused}
 use Rattle.events.proofs.outcome.Laws.{sent_room}

@@ -2,7 +2,6 @@ use Prim.Native.Nat.{◌*◌}
 use mathlib.Core.Path.{sym, ◌∙◌}
 use mathlib.Core.List.{[]}
 use native.Mathlib.Omega.{arith}
-use borrow.Author.Rules.{rules}
 use Rattle.laws.proofs.Parts.{lent_is, over_lent, part_fits}
 use Rattle.config.specs.Config.{board_length}
 use Rattle.config.proofs.Sizes.{board_small}

@@ -1,5 +1,4 @@
 use mathlib.Core.Path.{sym, ◌∙◌}
-use borrow.Author.Rules.{rules}
 use borrow.Author.Tests.{not-true, not-false}
 use Rattle.events.proofs.crash.Laws.{client_crashed, client_missing}
 use Rattle.events.proofs.crash.client.Goals as goal

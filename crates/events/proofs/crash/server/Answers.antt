@@ -1,5 +1,4 @@
 use mathlib.Core.Path.{sym, ◌∙◌}
-use borrow.Author.Rules.{rules}
 use borrow.Author.Tests.{not-true, not-false}
 use Rattle.events.proofs.crash.Laws.{crash_missing, server_crashed}
 use Rattle.events.proofs.crash.server.Goals as goal

@@ -1,6 +1,5 @@
 use mathlib.Core.Path.{sym, ap, ◌∙◌}
 use native.Mathlib.Omega.{arith}
-use borrow.Author.Rules.{rules}
 use Rattle.record.specs.Kinds.{is_for_server}
 use Rattle.flight.proofs.Laws.{take_is}
 use Rattle.events.specs.View.{lent}

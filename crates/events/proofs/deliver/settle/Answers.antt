@@ -1,7 +1,6 @@
 use Prim.Native.Nat.{◌-◌, ◌*◌}
 use mathlib.Core.Path.{◌≡◌, sym, ap, ◌∙◌}
 use native.Mathlib.Omega.{arith}
-use borrow.Author.Rules.{rules}
 use lib.ListN.{take}
 use Rattle.events.proofs.deliver.Laws.{settle_done, settle_held}
 use Rattle.events.proofs.deliver.settle.Goals as goal

@@ -1,4 +1,3 @@
-use borrow.Author.Rules.{rules}
 use Rattle.events.proofs.dispatch.event.Goals as goal
 
 pub hand_over-requires : goal.hand_over-requires

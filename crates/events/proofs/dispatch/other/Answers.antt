@@ -1,4 +1,3 @@
-use borrow.Author.Rules.{rules}
 use Rattle.events.specs.View.{lent}
 use Rattle.events.proofs.dispatch.Laws.{none_such}
 use Rattle.events.proofs.dispatch.other.Goals as goal

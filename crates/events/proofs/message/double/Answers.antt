@@ -1,4 +1,3 @@
-use borrow.Author.Rules.{rules}
 use Rattle.events.proofs.message.Laws.{double_full, double_missing, twice}
 use Rattle.events.proofs.message.double.Goals as goal
 

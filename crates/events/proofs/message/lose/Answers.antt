@@ -1,4 +1,3 @@
-use borrow.Author.Rules.{rules}
 use Rattle.events.proofs.message.Laws.{lose_missing, lost}
 use Rattle.events.proofs.message.lose.Goals as goal
 

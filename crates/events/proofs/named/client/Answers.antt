@@ -1,5 +1,4 @@
 use mathlib.Core.Path.{ap, ◌∙◌}
-use borrow.Author.Rules.{rules}
 use Rattle.events.specs.Questions.{place_for}
 use Rattle.events.proofs.named.client.Goals as goal
 

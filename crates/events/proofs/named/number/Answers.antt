@@ -1,6 +1,5 @@
 use Prim.Native.Nat.{◌+◌, ◌*◌}
 use native.Mathlib.Omega.{arith}
-use borrow.Author.Rules.{rules}
 use Rattle.events.proofs.named.Laws.{by_none, by_party, by_record, by_short}
 use Rattle.events.proofs.named.number.Goals as goal
 

@@ -1,6 +1,5 @@
 use mathlib.Core.Path.{sym, ◌∙◌}
 use native.Mathlib.Omega.{arith}
-use borrow.Author.Rules.{rules}
 use borrow.Author.Tests.{le-leb, lt-leb, not-false, not-true}
 use Rattle.config.proofs.Questions.{rig_early}
 use Rattle.config.proofs.Valid.{rig_valid}

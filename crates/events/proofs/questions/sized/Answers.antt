@@ -6,7 +6,6 @@ use Rattle.config.proofs.Sizes.{board_small, elements_small, store_small}
 use Rattle.config.specs.Config.{store_length}
 use Rattle.events.specs.Questions.{sized_by}
 use Rattle.events.proofs.Lengths.{all_elements_small, boards_small, stores_small}
-use borrow.Author.Rules.{rules}
 use Rattle.events.proofs.questions.sized.Goals as goal
 
 pub overflow_mul-v : goal.overflow_mul-v

@@ -1,7 +1,6 @@
 use mathlib.Core.Path.{sym, ◌∙◌}
 use borrow.Author.Tests.{not-false, not-true}
 use Rattle.events.proofs.Lengths.{event_last, event_read_short, event_short}
-use borrow.Author.Rules.{rules}
 use Rattle.events.proofs.questions.sized_event.Goals as goal
 
 pub returns-then-not-sized : goal.returns-then-not-sized

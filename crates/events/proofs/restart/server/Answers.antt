@@ -1,5 +1,4 @@
 use mathlib.Core.Path.{sym, ◌∙◌}
-use borrow.Author.Rules.{rules}
 use borrow.Author.Tests.{not-true, not-false}
 use Rattle.events.proofs.crash.Laws.{restart_missing, server_restarted}
 use Rattle.events.proofs.restart.server.Goals as goal

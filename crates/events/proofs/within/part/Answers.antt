@@ -1,7 +1,6 @@
 use mathlib.Core.Bool.{◌&&◌}
 use mathlib.Core.Option.{some}
 use mathlib.Core.Path.{sym, ap, ◌∙◌}
-use borrow.Author.Rules.{rules}
 use Rattle.parties.specs.Within.{client_in_place, server_in_place}
 use Rattle.parties.proofs.questions.Laws.{place_passed, place_stopped, place_told}
 use Rattle.events.specs.Questions.{part_within}

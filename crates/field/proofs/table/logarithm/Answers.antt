@@ -2,7 +2,6 @@
 -- Assumes nothing.
 use Prim.Native.Nat.{◌<◌}
 use native.Mathlib.Omega.{arith}
-use borrow.Author.Rules.{rules}
 use Rattle.field.specs.Field.{double}
 use Rattle.field.proofs.Generator.{doublings}
 use Rattle.field.proofs.Tables.{logarithm_at}

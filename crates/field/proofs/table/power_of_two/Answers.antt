@@ -1,6 +1,5 @@
 -- `field::table::power_of_two` meets its contract: the table's doubling rule is one test over the table, which antt computes.
 -- Assumes nothing.
-use borrow.Author.Rules.{rules}
 use Rattle.field.specs.Field.{double}
 use Rattle.field.proofs.Tables.{power_at}
 use Rattle.field.proofs.table.power_of_two.Goals as goal

@@ -1,12 +1,8 @@
 -- The board's are counted among those passed. Assumes nothing.
-use Prim.Native.Nat.{◌-◌, ◌≤◌, ◌<◌}
-use mathlib.Core.Path.{◌≡◌, refl, ◌∙◌}
-use mathlib.Core.Logic.{⊎_elim}
-use native.Mathlib.Omega.{arith}
-use borrow.Author.Rules.{rules}
+use Prim.Native.Nat.{◌-◌, ◌≤◌}
+use mathlib.Core.Path.{◌≡◌}
 use lib.ListN.{length, take}
 use Rattle.laws.specs.Owners.{count_of}
-use Rattle.flight.proofs.Scans.{counted_all, counted_hit, counted_le, counted_miss, first_inside}
 use Rattle.flight.proofs.owners.count_of.Given as goal
 
 abbrev pub invariant-loop-i : goal.invariant-loop-i

@@ -1,8 +1,7 @@
 -- Those from the first place on have the board, as far as the loop has come. Assumes nothing.
-use Prim.Native.Nat.{◌-◌, ◌≤◌}
 use mathlib.Core.Path.{◌≡◌, refl, sym, ap, subst, ◌∙◌}
 use native.Mathlib.Omega.{arith}
-use lib.ListN.{length, set, length-set}
+use lib.ListN.{set, length-set}
 use Rattle.flight.specs.Owners.{FilledPost}
 use Rattle.flight.proofs.Moves.{filled_to, filled_next, filled_none, filled_there, unfilled}
 use Rattle.flight.proofs.owners.fill.Goals as goal

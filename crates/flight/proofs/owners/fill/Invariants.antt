@@ -1,10 +1,8 @@
 -- Those from the first place on have the board, as far as the loop has come. Assumes nothing.
 use Prim.Native.Nat.{◌-◌, ◌≤◌}
-use mathlib.Core.Path.{◌≡◌, refl, sym, ap, subst, ◌∙◌}
-use native.Mathlib.Omega.{arith}
-use lib.ListN.{length, set, length-set}
-use Rattle.flight.specs.Owners.{FilledPost}
-use Rattle.flight.proofs.Moves.{filled_to, filled_next, filled_none, filled_there, unfilled}
+use mathlib.Core.Path.{◌≡◌}
+use lib.ListN.{length}
+use Rattle.flight.proofs.Moves.{filled_to}
 use Rattle.flight.proofs.owners.fill.Given as goal
 
 abbrev pub invariant-loop-i : goal.invariant-loop-i

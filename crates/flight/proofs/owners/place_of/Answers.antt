@@ -1,9 +1,7 @@
 -- The place looked for is as many from the start on as were passed, and from there on where the search goes on. Assumes nothing.
-use Prim.Native.Nat.{◌+◌, ◌-◌, ◌≤◌, ◌<◌}
+use Prim.Native.Nat.{◌+◌, ◌<◌}
 use mathlib.Core.Path.{◌≡◌, sym, ap, ◌∙◌}
-use mathlib.Core.Logic.{⊎_elim}
 use native.Mathlib.Omega.{arith}
-use borrow.Author.Rules.{rules}
 use lib.ListN.{length, take, drop}
 use Rattle.laws.specs.Owners.{place_of}
 use Rattle.flight.proofs.Scans.{first_inside, found, passed_all, passed_hit, passed_miss}
@@ -47,9 +45,9 @@ loop-place-preserved c =
       omega (arith, c.loop-place-test.true),
       elim c.if-owners-place.branch [
         | then-owners-place+else-left-eq0 w ↦ passed_hit a.count a.owners.now l.place inside a.board l.left p l.invariant.2 w.if-left-eq0.false w.if-owners-place.true
-          ∙ ap (λ k. l.place + 1 + place_of a.board k (drop (l.place + 1) os)) (sym w.left-is)
+            ∙ ap (λ k. l.place + 1 + place_of a.board k (drop (l.place + 1) os)) (sym w.left-is)
         | else-owners-place w ↦ passed_miss a.count a.owners.now l.place inside a.board l.left p l.invariant.2 w.if-owners-place.false
-          ∙ ap (λ k. l.place + 1 + place_of a.board k (drop (l.place + 1) os)) (sym w.left-is)
+            ∙ ap (λ k. l.place + 1 + place_of a.board k (drop (l.place + 1) os)) (sym w.left-is)
       ],
     )
 

@@ -1,12 +1,8 @@
 -- The place looked for is as many from the start on as were passed, and from there on where the search goes on. Assumes nothing.
-use Prim.Native.Nat.{◌+◌, ◌-◌, ◌≤◌, ◌<◌}
-use mathlib.Core.Path.{◌≡◌, sym, ap, ◌∙◌}
-use mathlib.Core.Logic.{⊎_elim}
-use native.Mathlib.Omega.{arith}
-use borrow.Author.Rules.{rules}
+use Prim.Native.Nat.{◌+◌, ◌-◌, ◌≤◌}
+use mathlib.Core.Path.{◌≡◌}
 use lib.ListN.{length, take, drop}
 use Rattle.laws.specs.Owners.{place_of}
-use Rattle.flight.proofs.Scans.{first_inside, found, passed_all, passed_hit, passed_miss}
 use Rattle.flight.proofs.owners.place_of.Given as goal
 
 abbrev pub invariant-loop-place : goal.invariant-loop-place

@@ -1,10 +1,10 @@
 -- Those from the place on have moved up, as far as the loop has come. Assumes nothing.
-use Prim.Native.Nat.{◌+◌, ◌-◌, ◌≤◌}
-use mathlib.Core.Path.{◌≡◌, refl, sym, ap, subst, ◌∙◌}
+use Prim.Native.Nat.{◌+◌}
+use mathlib.Core.Path.{refl, sym, ap, subst, ◌∙◌}
 use native.Mathlib.Omega.{arith}
-use lib.ListN.{length, set, get_or, length-set}
+use lib.ListN.{set, get_or, length-set}
 use Rattle.flight.specs.Owners.{RemovedPost}
-use Rattle.flight.proofs.Moves.{moved, moved_next, moved_none, removed_none, removed_there}
+use Rattle.flight.proofs.Moves.{moved_next, moved_none, removed_none, removed_there}
 use Rattle.flight.proofs.owners.remove.Goals as goal
 
 pub returns-then-count-place : goal.returns-then-count-place

@@ -1,10 +1,8 @@
 -- Those from the place on have moved up, as far as the loop has come. Assumes nothing.
 use Prim.Native.Nat.{◌+◌, ◌-◌, ◌≤◌}
-use mathlib.Core.Path.{◌≡◌, refl, sym, ap, subst, ◌∙◌}
-use native.Mathlib.Omega.{arith}
-use lib.ListN.{length, set, get_or, length-set}
-use Rattle.flight.specs.Owners.{RemovedPost}
-use Rattle.flight.proofs.Moves.{moved, moved_next, moved_none, removed_none, removed_there}
+use mathlib.Core.Path.{◌≡◌}
+use lib.ListN.{length}
+use Rattle.flight.proofs.Moves.{moved}
 use Rattle.flight.proofs.owners.remove.Given as goal
 
 abbrev pub invariant-loop-i : goal.invariant-loop-i

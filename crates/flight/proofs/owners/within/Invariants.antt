@@ -1,15 +1,10 @@
-use Prim.Native.Nat.{ℕ, ◌-◌, ◌≤◌, ◌<◌}
-use mathlib.Core.Path.{◌≡◌, refl, sym, ap, ◌∙◌}
+use Prim.Native.Nat.{ℕ, ◌-◌, ◌≤◌}
+use mathlib.Core.Path.{◌≡◌}
 use mathlib.Core.Bool.{Bool, true}
 use mathlib.Core.List.{List}
-use native.Mathlib.Omega.{arith}
-use borrow.Author.Rules.{rules}
-use borrow.Author.Tests.{not-true, not-false}
 use lib.ListN.{length, take, get_or}
 use Rattle.config.specs.Questions.{within}
 use Rattle.laws.specs.Below.{all_below}
-use Rattle.laws.proofs.Below.{below_next, below_no}
-use Rattle.flight.proofs.Scans.{first_at, first_inside}
 use Rattle.flight.proofs.owners.within.Given as goal
 
 -- what is asked of the board at place i

@@ -1,5 +1,4 @@
 use mathlib.Core.Path.{refl}
-use borrow.Author.Rules.{rules}
 use Rattle.client.proofs.Asked.{call_passed}
 use Rattle.parties.proofs.Beginning.{begin_act}
 use Rattle.parties.proofs.begin.read.Goals as goal

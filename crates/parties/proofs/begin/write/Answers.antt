@@ -1,4 +1,3 @@
-use borrow.Author.Rules.{rules}
 use Rattle.parties.proofs.Beginning.{begin_act, fits_idle, kept_long}
 use Rattle.parties.proofs.begin.write.Goals as goal
 

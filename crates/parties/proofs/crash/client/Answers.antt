@@ -1,4 +1,3 @@
-use borrow.Author.Rules.{rules}
 use Rattle.parties.proofs.Crashing.{client_crashed}
 use Rattle.parties.proofs.crash.client.Goals as goal
 

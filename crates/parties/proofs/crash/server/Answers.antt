@@ -1,4 +1,3 @@
-use borrow.Author.Rules.{rules}
 use borrow.Author.Tests.{not-true, not-false}
 use Rattle.parties.proofs.Crashing.{server_crashed, server_is_down}
 use Rattle.parties.proofs.crash.server.Goals as goal

@@ -1,6 +1,5 @@
 use mathlib.Core.Path.{sym, ◌∙◌}
 use native.Mathlib.Omega.{arith}
-use borrow.Author.Rules.{rules}
 use borrow.Author.Tests.{eqb-true, eqb-false}
 use Rattle.parties.proofs.Owned.{client_numbered}
 use Rattle.parties.proofs.ToClient.{moved_act, not_awaited}

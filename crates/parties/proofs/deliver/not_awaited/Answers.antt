@@ -1,5 +1,4 @@
 use mathlib.Core.Path.{sym, ap, ◌∙◌}
-use borrow.Author.Rules.{rules}
 use lib.Dec.{eqb}
 use Rattle.config.specs.Refusal.{verdict_number}
 use Rattle.parties.proofs.deliver.not_awaited.Goals as goal

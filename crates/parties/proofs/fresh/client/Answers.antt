@@ -1,4 +1,3 @@
-use borrow.Author.Rules.{rules}
 use Rattle.record.proofs.Parties.{some_client}
 use Rattle.parties.proofs.Making.{client_fresh, client_refused}
 use Rattle.parties.proofs.fresh.client.Goals as goal

@@ -1,7 +1,3 @@
-use mathlib.Core.Path.{sym, ◌∙◌}
-use mathlib.Core.Bool.{true≢false}
-use Rattle.record.proofs.Parties.{no_client, some_client}
-use borrow.Author.Rules.{rules}
 use Rattle.parties.proofs.fresh.client_number.Given as goal
 
 -- the branch is never taken

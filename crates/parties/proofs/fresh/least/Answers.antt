@@ -1,5 +1,4 @@
 use mathlib.Core.Path.{refl}
-use borrow.Author.Rules.{rules}
 use Rattle.config.proofs.Valid.{least_valid}
 use Rattle.parties.proofs.fresh.least.Goals as goal
 

@@ -1,5 +1,4 @@
 use mathlib.Core.Path.{refl, ap, ◌∙◌}
-use borrow.Author.Rules.{rules}
 use Rattle.config.proofs.Valid.{least_valid}
 use Rattle.parties.specs.Fresh.{fresh_state}
 use Rattle.parties.proofs.fresh.least_client.Goals as goal

@@ -1,5 +1,4 @@
 use Rattle.parties.proofs.Making.{encoded, node_made}
-use borrow.Author.Rules.{rules}
 use Rattle.parties.proofs.fresh.node_through.Goals as goal
 
 pub returns : goal.returns

@@ -1,5 +1,4 @@
 use mathlib.Core.Path.{sym, ◌∙◌}
-use borrow.Author.Rules.{rules}
 use Rattle.parties.proofs.Making.{server-made, server_pre, server_refused}
 use Rattle.parties.proofs.fresh.server.Goals as goal
 

@@ -1,7 +1,6 @@
 use mathlib.Core.Path.{sym, ◌∙◌}
 use mathlib.Core.Bool.{true≢false}
 use Rattle.record.proofs.Parties.{no-server, some_server}
-use borrow.Author.Rules.{rules}
 use Rattle.parties.proofs.fresh.server_number.Goals as goal
 
 pub loop-init : goal.loop-init

@@ -1,7 +1,3 @@
-use mathlib.Core.Path.{sym, ◌∙◌}
-use mathlib.Core.Bool.{true≢false}
-use Rattle.record.proofs.Parties.{no-server, some_server}
-use borrow.Author.Rules.{rules}
 use Rattle.parties.proofs.fresh.server_number.Given as goal
 
 -- the branch is never taken

@@ -1,6 +1,5 @@
 use mathlib.Core.Path.{ap, sym}
 use Rattle.parties.specs.inner.Acted.{ended_by}
-use borrow.Author.Rules.{rules}
 use Rattle.parties.proofs.outcome.ended_by.Goals as goal
 
 pub returns-in-Written : goal.returns-in-Written

@@ -1,6 +1,5 @@
 use mathlib.Core.Path.{sym, ap, ◌∙◌}
 use Rattle.parties.specs.inner.Acted.{moved_on}
-use borrow.Author.Rules.{rules}
 use Rattle.parties.proofs.outcome.moved.Goals as goal
 
 pub returns-in_default : goal.returns-in_default

@@ -1,6 +1,5 @@
 use mathlib.Core.Path.{sym, ap, ◌∙◌}
 use Rattle.parties.specs.inner.Acted.{stepped_on}
-use borrow.Author.Rules.{rules}
 use Rattle.parties.proofs.outcome.stepped.Goals as goal
 
 pub returns-in_default : goal.returns-in_default

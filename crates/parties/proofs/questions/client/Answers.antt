@@ -2,7 +2,6 @@ use Prim.Native.Nat.{◌+◌}
 use mathlib.Core.Path.{sym, ap, ◌∙◌}
 use lib.Dec.{eqb}
 use borrow.Author.Tests.{not-false, not-true}
-use borrow.Author.Rules.{rules}
 use Rattle.config.proofs.Questions.{early}
 use Rattle.parties.proofs.questions.Laws.{other_client, own_client, place_no}
 use Rattle.parties.proofs.questions.client.Goals as goal

@@ -3,7 +3,6 @@ use mathlib.Core.Path.{refl, sym, ap, ◌∙◌}
 use lib.Dec.{eqb}
 use native.Mathlib.Omega.{arith}
 use borrow.Author.Tests.{not-false, not-true}
-use borrow.Author.Rules.{rules}
 use Rattle.config.proofs.Questions.{early}
 use Rattle.config.proofs.Sizes.{store_small}
 use Rattle.config.proofs.Valid.{asked_valid}

@@ -1,5 +1,4 @@
 use mathlib.Core.Path.{ap, ◌∙◌}
-use borrow.Author.Rules.{rules}
 use Rattle.parties.specs.declared.Node.{Node}
 use Rattle.parties.specs.inner.Acted.{quietly}
 use Rattle.parties.proofs.Crashing.{server_is_up, server_restarted}

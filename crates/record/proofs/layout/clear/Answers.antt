@@ -1,10 +1,10 @@
-use mathlib.Core.Path.{◌≡◌, refl, ◌∙◌, ap}
+use mathlib.Core.Path.{refl, ◌∙◌, ap}
 use mathlib.Core.List.{List}
-use Prim.Native.Nat.{ℕ, ◌-◌, ◌≤◌}
+use Prim.Native.Nat.{ℕ}
 use native.Mathlib.Omega.{arith}
-use lib.ListN.{length, set}
+use lib.ListN.{set}
 use borrow.Author.Rules.{rules}
-use Rattle.record.proofs.Bytes.{zeros_to, zeros_more, zeros_all}
+use Rattle.record.proofs.Bytes.{zeros_more, zeros_all}
 use Rattle.record.proofs.layout.clear.Goals as goal
 
 pub loop-i-init : goal.loop-i-init

@@ -1,4 +1,3 @@
-use borrow.Author.Rules.{rules}
 use Rattle.record.proofs.layout.element_end.Goals as goal
 
 pub returns-then-present : goal.returns-then-present

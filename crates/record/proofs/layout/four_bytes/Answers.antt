@@ -1,5 +1,4 @@
 use mathlib.Core.Path.{refl}
-use borrow.Author.Rules.{rules}
 use Rattle.record.specs.Record.{four_bytes}
 use Rattle.record.proofs.layout.four_bytes.Goals as goal
 

@@ -1,9 +1,6 @@
-use mathlib.Core.Path.{◌≡◌, refl, sym, ◌∙◌}
-use Prim.Native.Nat.{◌-◌, ◌≤◌}
-use lib.ListN.{length}
+use mathlib.Core.Path.{refl, sym, ◌∙◌}
 use borrow.Author.Rules.{rules}
-use Rattle.record.specs.Record.{all_zero}
-use Rattle.record.proofs.Bytes.{zero_from, zero_more, zero_end}
+use Rattle.record.proofs.Bytes.{zero_more, zero_end}
 use Rattle.record.proofs.layout.zero.Goals as goal
 
 pub loop-i-init : goal.loop-i-init

@@ -1,9 +1,8 @@
-use mathlib.Core.Path.{◌≡◌, refl, sym, ◌∙◌}
+use mathlib.Core.Path.{◌≡◌}
 use Prim.Native.Nat.{◌-◌, ◌≤◌}
 use lib.ListN.{length}
-use borrow.Author.Rules.{rules}
 use Rattle.record.specs.Record.{all_zero}
-use Rattle.record.proofs.Bytes.{zero_from, zero_more, zero_end}
+use Rattle.record.proofs.Bytes.{zero_from}
 use Rattle.record.proofs.layout.zero.Given as goal
 
 -- the answer from the start is the answer from here

@@ -1,5 +1,4 @@
 use Rattle.parties.proofs.Making.{client_is}
-use borrow.Author.Rules.{rules}
 use Rattle.rig.proofs.fresh.client.Goals as goal
 
 pub returns : goal.returns

@@ -1,11 +1,10 @@
-use Prim.Native.Nat.{◌+◌, ◌-◌, ◌≤◌}
-use mathlib.Core.Path.{◌≡◌, subst, ◌∙◌}
+use Prim.Native.Nat.{◌+◌}
+use mathlib.Core.Path.{subst, ◌∙◌}
 use native.Mathlib.Omega.{arith}
-use lib.ListN.{length, length-set}
+use lib.ListN.{length-set}
 use Rattle.config.proofs.Questions.{within_true}
 use Rattle.rig.specs.inner.Fresh.{FreshClients}
 use Rattle.rig.proofs.Making.{clients_more}
-use borrow.Author.Rules.{rules}
 use Rattle.rig.proofs.fresh.clients.Goals as goal
 
 pub loop-i-init : goal.loop-i-init

@@ -1,11 +1,7 @@
-use Prim.Native.Nat.{◌+◌, ◌-◌, ◌≤◌}
-use mathlib.Core.Path.{◌≡◌, subst, ◌∙◌}
-use native.Mathlib.Omega.{arith}
-use lib.ListN.{length, length-set}
-use Rattle.config.proofs.Questions.{within_true}
+use Prim.Native.Nat.{◌-◌, ◌≤◌}
+use mathlib.Core.Path.{◌≡◌}
+use lib.ListN.{length}
 use Rattle.rig.specs.inner.Fresh.{FreshClients}
-use Rattle.rig.proofs.Making.{clients_more}
-use borrow.Author.Rules.{rules}
 use Rattle.rig.proofs.fresh.clients.Given as goal
 
 abbrev pub invariant-loop-i : goal.invariant-loop-i

@@ -2,7 +2,6 @@ use mathlib.Core.Path.{refl, ap₂}
 use lib.ListN.{replicate}
 use Rattle.client.specs.declared.State as client
 use Rattle.parties.specs.declared.Node.{Node}
-use borrow.Author.Rules.{rules}
 use Rattle.config.proofs.Valid.{least_valid}
 use Rattle.rig.proofs.Making.{least_node}
 use Rattle.rig.proofs.fresh.least.Goals as goal

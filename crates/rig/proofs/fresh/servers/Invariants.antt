@@ -1,20 +1,10 @@
-use Prim.Native.Nat.{ℕ, ◌+◌, ◌-◌, ◌*◌, ◌≤◌}
-use mathlib.Core.Path.{◌≡◌, refl, subst, ◌∙◌}
+use Prim.Native.Nat.{ℕ, ◌-◌, ◌≤◌}
+use mathlib.Core.Path.{◌≡◌}
 use mathlib.Core.List.{List}
-use native.Mathlib.Omega.{arith}
-use borrow.Author.Rules.{rules}
-use borrow.Rule.Slice.PartMut.{same_len_mid}
-use lib.ListN.{length, take, drop, length-set}
-use Rattle.laws.proofs.Parts.{lent_length, part_fits}
+use lib.ListN.{length}
 use Rattle.config.specs.declared.Config.{Config}
-use Rattle.config.proofs.Questions.{within_true}
-use Rattle.config.proofs.Sizes.{store_small}
-use Rattle.config.specs.Config.{store_length}
 use Rattle.parties.specs.declared.Node.{Node}
 use Rattle.rig.specs.inner.Fresh.{FreshServers}
-use Rattle.parties.proofs.Making.{server_passes}
-use Rattle.rig.proofs.Making.{servers_more}
-use Rattle.events.proofs.Lengths.{stores_small}
 use Rattle.rig.proofs.fresh.servers.Given as goal
 
 -- the servers of the places below i are fresh

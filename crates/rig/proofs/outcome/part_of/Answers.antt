@@ -1,6 +1,5 @@
 use mathlib.Core.Path.{refl, sym, subst}
 use native.Mathlib.Omega.{arith}
-use borrow.Author.Rules.{rules}
 use Rattle.laws.proofs.Lists.{at_get_d}
 use Rattle.events.specs.declared.Part.{Part}
 use Rattle.rig.specs.inner.Turn.{PartAtPost}

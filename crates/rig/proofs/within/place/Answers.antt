@@ -1,6 +1,5 @@
 use mathlib.Core.Bool.{◌&&◌}
 use mathlib.Core.Path.{sym, ap, ◌∙◌}
-use borrow.Author.Rules.{rules}
 use borrow.Author.Tests.{not-true, not-false}
 use Rattle.rig.specs.inner.Within.{client_yes}
 use Rattle.rig.proofs.within.place.Goals as goal

@@ -1,7 +1,6 @@
 use mathlib.Core.Option.{some}
 use mathlib.Core.Path.{◌∙◌}
 use native.Mathlib.Omega.{arith}
-use borrow.Author.Rules.{rules}
 use Rattle.parties.specs.Within.{server_in_place}
 use Rattle.parties.proofs.questions.Laws.{place_told}
 use Rattle.rig.proofs.within.Laws.{is_asked, not_asked}

@@ -1,4 +1,4 @@
-use Rattle.std.proofs.Common.{◌≡◌, ℕ, ◌+◌, ◌-◌, ◌≤◌, sym, ap, ◌∙◌, ap₂, ⊎_elim, rules}
+use Rattle.std.proofs.Common.{ℕ, ◌+◌, ◌-◌, sym, ap, ◌∙◌, ap₂, rules}
 use native.Mathlib.Nat.{sub-zero}
 use Rattle.tag.specs.declared.Tag.{Tag}
 use Rattle.server.specs.inner.Places.{least_from}
@@ -21,11 +21,11 @@ loop-i-preserved c =
       search rules,
       l.invariant.1
           ∙ elim c.if-above.branch [
-        | then-above w ↦ least_lower (tag_at a.tags) l.i a.count a.cfg l.tag l.place h (sym c.above.ensures ∙ w.if-above.true)
-          ∙ ap₂ {A = Tag} (λ (u : Tag) (p : ℕ). least_from a.cfg u p (l.i + 1) rest) (sym w.tag-is) (sym w.place-is)
-        | else-above w ↦ least_other (tag_at a.tags) l.i a.count a.cfg l.tag l.place h (sym c.above.ensures ∙ w.if-above.false)
-          ∙ ap₂ {A = Tag} (λ (u : Tag) (p : ℕ). least_from a.cfg u p (l.i + 1) rest) (sym w.tag-is) (sym w.place-is)
-      ],
+            | then-above w ↦ least_lower (tag_at a.tags) l.i a.count a.cfg l.tag l.place h (sym c.above.ensures ∙ w.if-above.true)
+                ∙ ap₂ {A = Tag} (λ (u : Tag) (p : ℕ). least_from a.cfg u p (l.i + 1) rest) (sym w.tag-is) (sym w.place-is)
+            | else-above w ↦ least_other (tag_at a.tags) l.i a.count a.cfg l.tag l.place h (sym c.above.ensures ∙ w.if-above.false)
+                ∙ ap₂ {A = Tag} (λ (u : Tag) (p : ℕ). least_from a.cfg u p (l.i + 1) rest) (sym w.tag-is) (sym w.place-is)
+          ],
     )
 
 pub returns : goal.returns

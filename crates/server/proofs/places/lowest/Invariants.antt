@@ -1,9 +1,6 @@
-use Rattle.std.proofs.Common.{◌≡◌, ℕ, ◌+◌, ◌-◌, ◌≤◌, sym, ap, ◌∙◌, ap₂, ⊎_elim, rules}
-use native.Mathlib.Nat.{sub-zero}
-use Rattle.tag.specs.declared.Tag.{Tag}
+use Rattle.std.proofs.Common.{◌≡◌, ◌-◌, ◌≤◌}
 use Rattle.server.specs.inner.Places.{least_from}
 use Rattle.server.specs.View.{each, tag_at}
-use Rattle.server.proofs.Each.{least_end, least_lower, least_other}
 use Rattle.server.proofs.places.lowest.Given as goal
 
 -- the answer from the start is the answer from here

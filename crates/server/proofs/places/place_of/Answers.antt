@@ -1,5 +1,5 @@
-use Rattle.std.proofs.Common.{◌≡◌, ◌+◌, ◌-◌, ◌<◌, ◌≤◌, sym, refl, ◌∙◌, arith, rules}
-use Rattle.server.specs.View.{each, place_in, tag_at}
+use Rattle.std.proofs.Common.{◌<◌, sym, refl, ◌∙◌, arith, rules}
+use Rattle.server.specs.View.{tag_at}
 use Rattle.server.proofs.Each.{place_end, place_hit, place_miss}
 use Rattle.server.proofs.places.place_of.Goals as goal
 

@@ -1,6 +1,5 @@
-use Rattle.std.proofs.Common.{◌≡◌, ◌+◌, ◌-◌, ◌<◌, ◌≤◌, sym, refl, ◌∙◌, arith, rules}
+use Rattle.std.proofs.Common.{◌≡◌, ◌+◌, ◌-◌, ◌≤◌}
 use Rattle.server.specs.View.{each, place_in, tag_at}
-use Rattle.server.proofs.Each.{place_end, place_hit, place_miss}
 use Rattle.server.proofs.places.place_of.Given as goal
 
 -- the answer from the start is the answer from here

@@ -1,4 +1,4 @@
-use Rattle.std.proofs.Common.{refl, rules}
+use Rattle.std.proofs.Common.{refl}
 use Rattle.server.specs.inner.Keep.{appended}
 use Rattle.server.proofs.Owned.{eight_places}
 use Rattle.server.proofs.serve.append.Goals as goal

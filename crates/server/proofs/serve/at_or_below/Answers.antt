@@ -1,4 +1,4 @@
-use Rattle.std.proofs.Common.{not, sym, ap, ◌∙◌, arith, rules}
+use Rattle.std.proofs.Common.{not, sym, ap, ◌∙◌, arith}
 use Rattle.tag.specs.Tag.{key}
 use Rattle.tag.proofs.Order.{Small}
 use Rattle.protocol.specs.Server.{at_or_below_floor}

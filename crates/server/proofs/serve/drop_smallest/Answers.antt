@@ -1,4 +1,4 @@
-use Rattle.std.proofs.Common.{◌≡◌, ℕ, ◌+◌, ◌*◌, ◌<◌, ◌≤◌, Bool, leb, List, length, set, sym, refl, ap, ◌∙◌, mul-le-mul_right, arith, rules, le-leb}
+use Rattle.std.proofs.Common.{◌≡◌, ℕ, ◌+◌, ◌*◌, ◌<◌, ◌≤◌, Bool, leb, List, length, set, sym, refl, ap, ◌∙◌, mul-le-mul_right, arith, le-leb}
 use borrow.Author.Tests.{lt-leb}
 use Rattle.laws.specs.Parts.{over}
 use Rattle.config.specs.declared.Config.{Config}

@@ -1,4 +1,4 @@
-use Rattle.std.proofs.Common.{◌∙◌, arith, rules}
+use Rattle.std.proofs.Common.{◌∙◌, arith}
 use Rattle.tag.proofs.Order.{Small}
 use Rattle.protocol.proofs.Keys.{higher_key}
 use Rattle.server.specs.inner.Serve.{raised}

@@ -1,4 +1,4 @@
-use Rattle.std.proofs.Common.{refl, rules}
+use Rattle.std.proofs.Common.{refl}
 use Rattle.record.specs.Calls.{with_element}
 use Rattle.record.proofs.Callers.{was_written}
 use Rattle.server.specs.inner.Serve.{reply}

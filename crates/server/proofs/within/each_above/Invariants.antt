@@ -1,11 +1,8 @@
-use Rattle.std.proofs.Common.{◌≡◌, ℕ, ◌-◌, ◌≤◌, sym, ap, ◌∙◌, rules}
-use native.Mathlib.Nat.{sub-zero}
-use borrow.Author.Tests.{not-true, not-false}
+use Rattle.std.proofs.Common.{◌≡◌, ◌-◌, ◌≤◌}
 use Rattle.tag.specs.declared.Tag.{Tag}
 use Rattle.tag.specs.Tag.{above}
 use Rattle.server.specs.Within.{every}
 use Rattle.server.specs.View.{each, tag_at}
-use Rattle.server.proofs.Each.{every_end, every_no, every_yes}
 use Rattle.server.proofs.within.each_above.Given as goal
 
 -- the answer from the start is the answer from here

@@ -1,10 +1,7 @@
-use Rattle.std.proofs.Common.{◌≡◌, ℕ, ◌-◌, ◌≤◌, sym, ap, ◌∙◌, rules}
-use native.Mathlib.Nat.{sub-zero}
-use borrow.Author.Tests.{not-true, not-false}
+use Rattle.std.proofs.Common.{◌≡◌, ◌-◌, ◌≤◌}
 use Rattle.tag.specs.Tag.{allowed}
 use Rattle.server.specs.Within.{every}
 use Rattle.server.specs.View.{each, tag_at}
-use Rattle.server.proofs.Each.{every_end, every_no, every_yes}
 use Rattle.server.proofs.within.each_allowed.Given as goal
 
 -- the answer from the start is the answer from here

@@ -1,4 +1,4 @@
-use Rattle.std.proofs.Common.{◌≡◌, ℕ, ◌-◌, ◌≤◌, Bool, leb, sym, ap, ◌∙◌, rules, le-leb}
+use Rattle.std.proofs.Common.{ℕ, sym, ap, ◌∙◌, rules, le-leb}
 use native.Mathlib.Nat.{sub-zero}
 use borrow.Author.Tests.{lt-leb}
 use Rattle.server.specs.Within.{every}

@@ -1,9 +1,6 @@
-use Rattle.std.proofs.Common.{◌≡◌, ℕ, ◌-◌, ◌≤◌, Bool, leb, sym, ap, ◌∙◌, rules, le-leb}
-use native.Mathlib.Nat.{sub-zero}
-use borrow.Author.Tests.{lt-leb}
+use Rattle.std.proofs.Common.{◌≡◌, ℕ, ◌-◌, ◌≤◌, Bool, leb}
 use Rattle.server.specs.Within.{every}
 use Rattle.server.specs.View.{each, stored_length}
-use Rattle.server.proofs.Each.{every_end, every_no, every_yes}
 use Rattle.server.proofs.within.each_length.Given as goal
 
 abbrev pub fits : ℕ → ℕ → Bool

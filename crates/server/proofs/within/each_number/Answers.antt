@@ -1,4 +1,4 @@
-use Rattle.std.proofs.Common.{◌≡◌, ◌+◌, ◌<◌, ◌≤◌, true, false, length, sym, ◌∙◌, rules, le-leb}
+use Rattle.std.proofs.Common.{◌≡◌, ◌+◌, ◌<◌, ◌≤◌, true, false, length, sym, ◌∙◌, le-leb}
 use borrow.Author.Tests.{lt-leb, not-true, not-false}
 use Rattle.config.specs.declared.Config.{Config}
 use Rattle.config.specs.Number.{server_number}

@@ -1,7 +1,7 @@
-use Rattle.std.proofs.Common.{◌≤◌, true, arith, rules}
+use Rattle.std.proofs.Common.{true, arith, rules}
 use mathlib.Core.Option.{some}
 use Rattle.server.specs.View.{tag_at}
-use Rattle.server.proofs.Spots.{SeenOver, over_all, over_one, seen_none, spread_no}
+use Rattle.server.proofs.Spots.{over_all, over_one, seen_none, spread_no}
 use Rattle.server.proofs.within.eight.Goals as goal
 
 pub loop-i-init : goal.loop-i-init

@@ -1,7 +1,6 @@
-use Rattle.std.proofs.Common.{◌≤◌, true, arith, rules}
-use mathlib.Core.Option.{some}
+use Rattle.std.proofs.Common.{◌≤◌}
 use Rattle.server.specs.View.{tag_at}
-use Rattle.server.proofs.Spots.{SeenOver, over_all, over_one, seen_none, spread_no}
+use Rattle.server.proofs.Spots.{SeenOver}
 use Rattle.server.proofs.within.eight.Given as goal
 
 -- the tags from here on are seen

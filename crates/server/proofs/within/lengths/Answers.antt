@@ -1,4 +1,4 @@
-use Rattle.std.proofs.Common.{arith, rules}
+use Rattle.std.proofs.Common.{arith}
 use Rattle.config.proofs.Sizes.{board_small}
 use Rattle.server.specs.Within.{lengths_within}
 use Rattle.server.proofs.within.lengths.Goals as goal

@@ -1,4 +1,4 @@
-use Rattle.std.proofs.Common.{sym, rules}
+use Rattle.std.proofs.Common.{sym}
 use Rattle.server.proofs.within.numbers.Goals as goal
 
 pub returns-then-quick : goal.returns-then-quick

@@ -1,8 +1,6 @@
-use Rattle.std.proofs.Common.{◌≡◌, ℕ, ◌+◌, ◌-◌, ◌<◌, ◌≤◌, length, sym, ap, ◌∙◌, arith, rules}
-use native.Mathlib.Nat.{sub-zero}
+use Rattle.std.proofs.Common.{◌≡◌, ◌-◌, ◌≤◌}
 use Rattle.server.specs.Within.{once}
-use Rattle.server.specs.View.{each, place_in, tag_at}
-use Rattle.server.proofs.Each.{length_each, once_end, once_no, once_yes, place_among, place_not_among}
+use Rattle.server.specs.View.{each, tag_at}
 use Rattle.server.proofs.within.once.Given as goal
 
 -- the answer from the start is the answer from here

@@ -1,4 +1,4 @@
-use Rattle.std.proofs.Common.{◌≡◌, ℕ, ◌+◌, ◌-◌, ◌*◌, ◌%◌, ◌^◌, ◌<◌, ◌≤◌, true, sym, ap, ◌∙◌, subst, mod-lt, zero-lt-suc, arith, rules}
+use Rattle.std.proofs.Common.{◌≡◌, ℕ, ◌+◌, ◌-◌, ◌*◌, ◌%◌, ◌^◌, ◌<◌, true, sym, ap, ◌∙◌, subst, mod-lt, zero-lt-suc, arith, rules}
 use mathlib.Core.Option.{none}
 use borrow.Author.Tests.{not-false}
 use lib.Bits.{bit_or}

@@ -1,5 +1,4 @@
 use mathlib.Core.Path.{sym, ◌∙◌}
-use borrow.Author.Rules.{rules}
 use Rattle.tag.proofs.Tag.higher.Goals as goal
 
 pub returns-then-above : goal.returns-then-above

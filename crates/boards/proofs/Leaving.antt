@@ -10,7 +10,7 @@ use Rattle.flight.specs.Owners.{FilledPost, RemovedPost}
 use Rattle.parties.specs.Acts.{is_refusal}
 use Rattle.boards.specs.declared.Call.{Call}
 use Rattle.boards.specs.declared.Rig.{Rig}
-use Rattle.boards.specs.inner.Named.{LeavePost, LeavePre, SettlePost, SettlePre, left, removes}
+use Rattle.boards.specs.inner.Named.{LeavePost, LeavePre, SettlePost, SettlePre, removes}
 use Rattle.boards.specs.inner.Outcome.{put_at}
 
 module _ (count code p : ℕ) (owners : List ℕ) where

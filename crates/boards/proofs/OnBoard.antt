@@ -3,7 +3,7 @@
 use Prim.Native.Nat.{ℕ, ◌-◌, ◌*◌, ◌≤◌, ◌<◌}
 use mathlib.Core.Path.{◌≡◌, refl, sym, ap, ap₂, ◌∙◌}
 use mathlib.Core.Bool.{Bool, true, cond, ◌&&◌, false≢true}
-use mathlib.Core.Option.{none, some}
+use mathlib.Core.Option.{some}
 use mathlib.Core.List.{List, [], ◌∷◌, ◌++◌}
 use native.Mathlib.Omega.{arith}
 use borrow.Author.Tests.{eq-eqb, eqb-true, le-leb}
@@ -39,8 +39,8 @@ use Rattle.events.proofs.Entry.{cut_sized}
 use Rattle.boards.specs.declared.Call.{Call}
 use Rattle.boards.specs.declared.Rig.{Rig}
 use Rattle.boards.specs.Calls.{called, event_no}
-use Rattle.boards.specs.Questions.{all_sized, due, event_questions, formed_at, rig_within, sized, sizes}
-use Rattle.boards.specs.View.{Lent, flight, lent_at, owners_of, parties_on, rig_at, view}
+use Rattle.boards.specs.Questions.{all_sized, due, event_questions, formed_at, sized, sizes}
+use Rattle.boards.specs.View.{Lent, lent_at, owners_of, parties_on, rig_at, view}
 use Rattle.boards.specs.inner.Named.{NamedPre, bare, cut_to}
 use Rattle.boards.proofs.EachSize.{SameSizes}
 use Rattle.boards.proofs.Whole as whole

@@ -1,5 +1,4 @@
 use native.Mathlib.Omega.{arith}
-use borrow.Author.Rules.{rules}
 use Rattle.config.proofs.Rooms.{boards_high, boards_low, room_is}
 use Rattle.boards.specs.View.{lent}
 use Rattle.boards.proofs.Codes.{no_code}

@@ -1,6 +1,5 @@
 use mathlib.Core.Path.{sym}
 use native.Mathlib.Omega.{arith}
-use borrow.Author.Rules.{rules}
 use borrow.Author.Tests.{le-leb, lt-leb}
 use Rattle.config.proofs.Questions.{within_true}
 use Rattle.boards.proofs.Codes.{above_codes, below_codes, names_none, names_one}

@@ -1,6 +1,5 @@
 use mathlib.Core.Path.{sym, ◌∙◌}
 use native.Mathlib.Omega.{arith}
-use borrow.Author.Rules.{rules}
 use Rattle.boards.proofs.Due.{all_are, all_boards_fit, all_stores_fit, boards_fit, each_elements_fit, elements_fit, nothing_is, stores_fit}
 use Rattle.boards.proofs.lengths.Goals as goal
 

@@ -1,4 +1,3 @@
-use borrow.Author.Rules.{rules}
 use Rattle.boards.specs.View.{lent}
 use Rattle.boards.specs.Calls.{make_questions}
 use Rattle.boards.proofs.Making.{make_done, make_refused, making}

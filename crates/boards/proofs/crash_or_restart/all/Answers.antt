@@ -1,10 +1,9 @@
-use Prim.Native.Nat.{◌-◌, ◌<◌}
+use Prim.Native.Nat.{◌<◌}
 use mathlib.Core.Path.{◌∙◌}
 use native.Mathlib.Omega.{arith}
-use borrow.Author.Rules.{rules}
 use lib.ListN.{length}
 use Rattle.boards.specs.inner.CrashOrRestart.{as_one}
-use Rattle.boards.proofs.EachBoard.{Turning, by_code, turn_all, turn_next, turn_none}
+use Rattle.boards.proofs.EachBoard.{by_code, turn_all, turn_next, turn_none}
 use Rattle.boards.proofs.OneOf.{read_at}
 use Rattle.boards.proofs.Owned.{board_places}
 use Rattle.boards.proofs.crash_or_restart.all.Goals as goal

@@ -1,5 +1,4 @@
 use mathlib.Core.Path.{ap}
-use borrow.Author.Rules.{rules}
 use lib.ListN.{replicate}
 use Rattle.events.specs.declared.Rig as one
 use Rattle.boards.specs.declared.Rig.{Rig}

@@ -1,6 +1,5 @@
 use Prim.Native.Nat.{◌*◌}
 use native.Mathlib.Omega.{arith}
-use borrow.Author.Rules.{rules}
 use Rattle.laws.proofs.Parts.{part_fits}
 use Rattle.config.specs.Config.{board_length, elements_length, store_length}
 use Rattle.config.proofs.Sizes.{board_small, elements_small, store_small}

@@ -1,11 +1,9 @@
-use Prim.Native.Nat.{◌-◌}
 use mathlib.Core.Path.{refl, ap}
 use native.Mathlib.Omega.{arith}
-use borrow.Author.Rules.{rules}
 use lib.ListN.{length}
 use Rattle.events.specs.View.{lent}
 use Rattle.boards.specs.declared.Rig.{Rig}
-use Rattle.boards.proofs.Making.{FreshBelow, few_boards, fresh_more, still_sized}
+use Rattle.boards.proofs.Making.{few_boards, fresh_more, still_sized}
 use Rattle.boards.proofs.fresh.rig.Goals as goal
 
 pub loop-i-init : goal.loop-i-init

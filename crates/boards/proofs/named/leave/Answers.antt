@@ -1,6 +1,5 @@
 use mathlib.Core.Path.{sym, ◌∙◌}
 use native.Mathlib.Omega.{arith}
-use borrow.Author.Rules.{rules}
 use borrow.Author.Tests.{not-false, not-true}
 use Rattle.boards.proofs.Leaving.{leaves_none, leaves_one}
 use Rattle.boards.proofs.named.leave.Goals as goal

@@ -1,7 +1,6 @@
 use mathlib.Core.Path.{sym}
 use native.Mathlib.Omega.{arith}
 use lib.Seq.{length-take-le}
-use borrow.Author.Rules.{rules}
 use Rattle.events.specs.View.{lent}
 use Rattle.boards.proofs.Lending.{bounds, lent_done}
 use Rattle.boards.proofs.named.lend.Goals as goal

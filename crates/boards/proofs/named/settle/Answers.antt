@@ -1,5 +1,4 @@
 use mathlib.Core.Path.{sym, ◌∙◌}
-use borrow.Author.Rules.{rules}
 use Rattle.boards.proofs.Leaving.{leave_pre, settled, settled_refused}
 use Rattle.boards.proofs.named.settle.Goals as goal
 

@@ -1,4 +1,3 @@
-use borrow.Author.Rules.{rules}
 use Rattle.boards.specs.Questions.{is_up}
 use Rattle.boards.proofs.questions.is_up.Goals as goal
 

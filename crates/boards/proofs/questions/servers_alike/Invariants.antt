@@ -1,19 +1,12 @@
 -- The servers of the places passed are up on both boards or down on both. Assumes nothing.
-use Prim.Native.Nat.{ℕ, ◌-◌, ◌≤◌, ◌<◌}
-use mathlib.Core.Path.{◌≡◌, refl, sym, ap, ◌∙◌}
+use Prim.Native.Nat.{ℕ, ◌-◌, ◌≤◌}
+use mathlib.Core.Path.{◌≡◌}
 use mathlib.Core.Bool.{Bool, true}
-use native.Mathlib.Omega.{arith}
-use borrow.Author.Rules.{rules}
-use borrow.Author.Tests.{not-true, not-false}
-use lib.ListN.{length, get_or, get_elem?}
+use lib.ListN.{get_elem?}
 use Rattle.laws.specs.Below.{all_below}
-use Rattle.laws.proofs.Below.{below_next, below_no}
-use Rattle.parties.specs.declared.Node.{Node}
 use Rattle.events.specs.View.{up_seen}
 use Rattle.boards.specs.declared.OneBoard.{OneBoard}
 use Rattle.boards.specs.Questions.{same}
-use Rattle.boards.proofs.Owned.{server_places}
-use Rattle.boards.proofs.UpAlike.{same_read}
 use Rattle.boards.proofs.questions.servers_alike.Given as goal
 
 -- of a place, what stands there

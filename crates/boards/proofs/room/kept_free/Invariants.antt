@@ -1,12 +1,9 @@
 -- What the boards passed lack is added up. Assumes nothing.
 use Prim.Native.Nat.{◌-◌, ◌≤◌}
-use mathlib.Core.Path.{◌≡◌, ap, ◌∙◌}
-use native.Mathlib.Omega.{arith}
+use mathlib.Core.Path.{◌≡◌}
 use lib.ListN.{take}
 use Rattle.laws.specs.Below.{sum_below}
-use Rattle.laws.proofs.Below.{sum_next}
-use Rattle.config.specs.Room.{kept_free, lacking}
-use Rattle.boards.proofs.Kept.{kept_part}
+use Rattle.config.specs.Room.{lacking}
 use Rattle.boards.proofs.room.kept_free.Given as goal
 
 abbrev pub invariant-loop-i : goal.invariant-loop-i

@@ -1,5 +1,4 @@
 use native.Mathlib.Omega.{arith}
-use borrow.Author.Rules.{rules}
 use lib.ListN.{take}
 use Rattle.boards.proofs.Kept.{lacks_other, lacks_own}
 use Rattle.boards.proofs.room.lacks.Goals as goal

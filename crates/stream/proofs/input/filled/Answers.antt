@@ -1,5 +1,5 @@
 -- `stream::input::filled` meets its contract: each turn but the last reads at least one byte. Assumes nothing.
-use Rattle.std.proofs.Common.{◌≡◌, ℕ, ◌-◌, ◌≤◌, List, length, take, sym, refl, ap, ◌∙◌, take-take, rules}
+use Rattle.std.proofs.Common.{◌≡◌, ℕ, ◌≤◌, List, take, sym, refl, ap, ◌∙◌, take-take, rules}
 use Rattle.stream.proofs.input.filled.Goals as goal
 
 -- what is in front stays where more of it does

@@ -1,5 +1,5 @@
 -- `stream::input::filled` meets its contract: each turn but the last reads at least one byte. Assumes nothing.
-use Rattle.std.proofs.Common.{◌≡◌, ℕ, ◌-◌, ◌≤◌, List, length, take, sym, refl, ap, ◌∙◌, take-take, rules}
+use Rattle.std.proofs.Common.{◌≡◌, ◌-◌, ◌≤◌, length, take}
 use Rattle.stream.proofs.input.filled.Given as goal
 
 abbrev pub invariant-loop-end : goal.invariant-loop-end

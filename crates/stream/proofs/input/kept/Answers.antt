@@ -1,5 +1,5 @@
 -- `stream::input::kept` meets its contract: the first i bytes are moved, and what is behind them is as it was. Assumes nothing.
-use Rattle.std.proofs.Common.{◌≡◌, ℕ, ◌+◌, ◌-◌, ◌<◌, ◌≤◌, List, [], ◌∷◌, ◌++◌, length, get_or, take, drop, set, sym, refl, ap, ◌∙◌, ap₂, add_comm, add-one, arith, length-drop, length-set, get_or-drop, take-suc, drop-drop, take-suc-set, drop-set-lt, rules}
+use Rattle.std.proofs.Common.{◌≡◌, ℕ, ◌+◌, ◌-◌, ◌<◌, List, [], ◌∷◌, ◌++◌, length, get_or, take, drop, set, sym, refl, ap, ◌∙◌, ap₂, add_comm, add-one, arith, length-drop, length-set, get_or-drop, take-suc, drop-drop, take-suc-set, drop-set-lt, rules}
 use Rattle.stream.proofs.input.kept.Goals as goal
 
 module _ (l₀ l : List ℕ) (n i : ℕ) (within : n + i < length l₀) (same : length l ≡ length l₀) (behind : drop i l ≡ drop i l₀) where

@@ -1,5 +1,5 @@
 -- `stream::measured` meets its contract. Assumes nothing.
-use Rattle.std.proofs.Common.{◌≡◌, ℕ, ◌*◌, ◌≤◌, Bool, true, false, refl, ap, ◌∙◌, arith, rules}
+use Rattle.std.proofs.Common.{◌≡◌, ℕ, ◌*◌, ◌≤◌, Bool, true, false, refl, ap, ◌∙◌, arith}
 use Rattle.config.specs.declared.Config.{Config}
 use Rattle.config.specs.declared.Lengths.{Lengths}
 use Rattle.config.specs.Config.{Valid}
@@ -7,8 +7,7 @@ use Rattle.config.specs.Lengths.{messages_length, valid_lengths}
 use Rattle.config.specs.Questions.{within}
 use Rattle.config.proofs.Sizes.{lengths_valid}
 use Rattle.events.proofs.Lengths.{all_elements_small, boards_small, stores_small}
-use Rattle.stream.proofs.measured.Statement.{statement}
-use Rattle.stream.proofs.measured.Tie as tie
+use Rattle.stream.proofs.measured.Goals as goal
 
 messages-small : (m : ℕ) → m ≤ 512 → messages_length m ≤ 40960
 messages-small m h = told (within 1 512 m) refl
@@ -33,32 +32,26 @@ small cfg v m h e =
       elements = omega (arith, ap (λ (x : Lengths). cfg.c * x.elements) e, all_elements_small cfg v);
     }
 
-lengths-requires : tie.Need-lengths-requires
-lengths-requires c κs = search rules
-
-mul-t4 : tie.Need-overflow-mul-t4
-mul-t4 c =
-    let s = c.before.before.before in
-    let x = small s.args.cfg s.requires.0 s.args.m s.requires.1 (c.before.before.lengths.ensures ∙ lengths_valid s.args.cfg s.requires.0 s.args.m) in
+pub overflow_mul-result : goal.overflow_mul-result
+overflow_mul-result c =
+    let s = c in
+    let x = small s.args.cfg s.requires.0 s.args.m s.requires.1 (c.lengths-long.ensures ∙ lengths_valid s.args.cfg s.requires.0 s.args.m) in
     record { fits = omega (arith, x.stores) }
 
-mul-t5 : tie.Need-overflow-mul-t5
-mul-t5 c =
-    let s = c.before.before.before.before.before in
-    let x = small s.args.cfg s.requires.0 s.args.m s.requires.1 (c.before.before.before.before.lengths.ensures ∙ lengths_valid s.args.cfg s.requires.0 s.args.m) in
+pub overflow_mul-result-2 : goal.overflow_mul-result-2
+overflow_mul-result-2 c =
+    let s = c in
+    let x = small s.args.cfg s.requires.0 s.args.m s.requires.1 (c.lengths-long.ensures ∙ lengths_valid s.args.cfg s.requires.0 s.args.m) in
     record { fits = omega (arith, x.boards) }
 
-mul-t6 : tie.Need-overflow-mul-t6
-mul-t6 c =
-    let s = c.before.before.before.before.before.before.before in
-    let x = small s.args.cfg s.requires.0 s.args.m s.requires.1 (c.before.before.before.before.before.before.lengths.ensures ∙ lengths_valid s.args.cfg s.requires.0 s.args.m) in
+pub overflow_mul-result-3 : goal.overflow_mul-result-3
+overflow_mul-result-3 c =
+    let s = c in
+    let x = small s.args.cfg s.requires.0 s.args.m s.requires.1 (c.lengths-long.ensures ∙ lengths_valid s.args.cfg s.requires.0 s.args.m) in
     record { fits = omega (arith, x.elements) }
 
-returns : tie.Need-returns
+pub returns : goal.returns
 returns c =
-    let s = c.before.before.before.before.before.before.before in
-    let x = small s.args.cfg s.requires.0 s.args.m s.requires.1 (c.before.before.before.before.before.before.lengths.ensures ∙ lengths_valid s.args.cfg s.requires.0 s.args.m) in
+    let s = c in
+    let x = small s.args.cfg s.requires.0 s.args.m s.requires.1 (c.lengths-long.ensures ∙ lengths_valid s.args.cfg s.requires.0 s.args.m) in
     (x.messages, x.stores, x.boards, x.elements)
-
-pub measured-spec : {M : Type 1} → statement M
-measured-spec = tie.close (tie.spec lengths-requires mul-t4 mul-t5 mul-t6 returns)

@@ -1,6 +1,5 @@
 -- `products::all` meets its contract: at byte a, the products of a rows were compared. Assumes nothing.
 use mathlib.Core.Path.{◌≡◌, sym, ap, ◌∙◌}
-use Prim.Native.Nat.{◌*◌, ◌≤◌, ◌-◌}
 use native.Mathlib.Omega.{arith}
 use Rattle.products.specs.Multiplier.{all_differ}
 use Rattle.products.proofs.Counted.{all_none}

@@ -1,9 +1,7 @@
 -- `products::all` meets its contract: at byte a, the products of a rows were compared. Assumes nothing.
-use mathlib.Core.Path.{◌≡◌, sym, ap, ◌∙◌}
+use mathlib.Core.Path.{◌≡◌}
 use Prim.Native.Nat.{◌*◌, ◌≤◌, ◌-◌}
-use native.Mathlib.Omega.{arith}
 use Rattle.products.specs.Multiplier.{all_differ}
-use Rattle.products.proofs.Counted.{all_none}
 use Rattle.products.proofs.all.Given as goal
 
 abbrev pub invariant-loop-a : goal.invariant-loop-a

@@ -1,6 +1,5 @@
 -- `products::differs` meets its contract. Assumes nothing.
 use mathlib.Core.Path.{ap, ◌∙◌}
-use borrow.Author.Rules.{rules}
 use Rattle.products.specs.Multiplier.{reduced}
 use Rattle.products.proofs.Counted.{equal, other}
 use Rattle.products.proofs.differs.Goals as goal

@@ -1,6 +1,5 @@
 -- `products::remainder` meets its contract: at i, the i highest terms were taken off. Assumes nothing.
 use mathlib.Core.Path.{◌≡◌, refl, ap, ◌∙◌}
-use Prim.Native.Nat.{◌≤◌, ◌-◌}
 use native.Mathlib.Omega.{arith}
 use borrow.Author.Tests.{eq-eqb, ne_eqb}
 use Rattle.products.specs.Multiplier.{reduced}

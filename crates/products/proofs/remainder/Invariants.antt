@@ -1,11 +1,7 @@
 -- `products::remainder` meets its contract: at i, the i highest terms were taken off. Assumes nothing.
-use mathlib.Core.Path.{◌≡◌, refl, ap, ◌∙◌}
-use mathlib.Core.Logic.{⊎_elim}
+use mathlib.Core.Path.{◌≡◌}
 use Prim.Native.Nat.{◌≤◌, ◌-◌}
-use native.Mathlib.Omega.{arith}
-use borrow.Author.Tests.{eq-eqb, ne_eqb}
 use Rattle.products.specs.Multiplier.{reduced}
-use Rattle.products.proofs.Counted.{reduced_more, reduced_same}
 use Rattle.products.proofs.remainder.Given as goal
 
 abbrev pub invariant-loop-i : goal.invariant-loop-i

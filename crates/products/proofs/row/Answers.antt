@@ -1,6 +1,6 @@
 -- `products::row` meets its contract: at byte b, b products of the row were compared. Assumes nothing.
 use mathlib.Core.Path.{◌≡◌, sym, ap, ◌∙◌}
-use Prim.Native.Nat.{◌+◌, ◌*◌, ◌≤◌, ◌-◌, ◌<◌}
+use Prim.Native.Nat.{◌+◌}
 use native.Mathlib.Omega.{arith}
 use Rattle.products.specs.Multiplier.{all_differ, row_differ}
 use Rattle.products.proofs.Counted.{all_low, all_more, row_low, row_more, row_none}

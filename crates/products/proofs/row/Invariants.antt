@@ -1,9 +1,7 @@
 -- `products::row` meets its contract: at byte b, b products of the row were compared. Assumes nothing.
-use mathlib.Core.Path.{◌≡◌, sym, ap, ◌∙◌}
+use mathlib.Core.Path.{◌≡◌}
 use Prim.Native.Nat.{◌+◌, ◌*◌, ◌≤◌, ◌-◌, ◌<◌}
-use native.Mathlib.Omega.{arith}
 use Rattle.products.specs.Multiplier.{all_differ, row_differ}
-use Rattle.products.proofs.Counted.{all_low, all_more, row_low, row_more, row_none}
 use Rattle.products.proofs.row.Given as goal
 
 abbrev pub invariant-loop-b : goal.invariant-loop-b

@@ -1,6 +1,5 @@
 -- `products::unreduced` meets its contract: at term i, the terms below it were added. Assumes nothing.
 use mathlib.Core.Path.{◌≡◌, refl, ap, ◌∙◌}
-use Prim.Native.Nat.{◌≤◌, ◌-◌}
 use native.Mathlib.Omega.{arith}
 use borrow.Author.Tests.{eq-eqb, ne_eqb}
 use Rattle.products.specs.Multiplier.{shifted}

@@ -1,11 +1,7 @@
 -- `products::unreduced` meets its contract: at term i, the terms below it were added. Assumes nothing.
-use mathlib.Core.Path.{◌≡◌, refl, ap, ◌∙◌}
-use mathlib.Core.Logic.{⊎_elim}
+use mathlib.Core.Path.{◌≡◌}
 use Prim.Native.Nat.{◌≤◌, ◌-◌}
-use native.Mathlib.Omega.{arith}
-use borrow.Author.Tests.{eq-eqb, ne_eqb}
 use Rattle.products.specs.Multiplier.{shifted}
-use Rattle.products.proofs.Counted.{shifted_more, shifted_same}
 use Rattle.products.proofs.unreduced.Given as goal
 
 abbrev pub invariant-loop-i : goal.invariant-loop-i

@@ -3,7 +3,6 @@ use mathlib.Core.Path.{sym}
 use native.Mathlib.Omega.{arith}
 use lib.Seq.{length-take-le}
 use Rattle.refusals.proofs.Owned.{boards_long, elements_long, messages_long, read_long, stores_long}
-use borrow.Author.Rules.{rules}
 use Rattle.refusals.proofs.rigs.event.Goals as goal
 
 pub slice_bounds-event-end : goal.slice_bounds-event-end

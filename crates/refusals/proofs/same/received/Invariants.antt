@@ -1,6 +1,5 @@
 -- `refusals::same::received` is safe and ends. Assumes nothing.
 use Prim.Native.Nat.{◌-◌, ◌≤◌}
-use borrow.Author.Rules.{rules}
 use Rattle.refusals.proofs.same.received.Given as goal
 
 abbrev pub invariant-loop-i : goal.invariant-loop-i

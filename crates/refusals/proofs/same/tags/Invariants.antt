@@ -1,6 +1,5 @@
 -- `refusals::same::tags` is safe and ends. Assumes nothing.
 use Prim.Native.Nat.{◌-◌, ◌≤◌}
-use borrow.Author.Rules.{rules}
 use Rattle.refusals.proofs.same.tags.Given as goal
 
 abbrev pub invariant-loop-i : goal.invariant-loop-i

@@ -56,6 +56,7 @@ pub mod Boards
 pub mod NetworkAtomic
 pub mod Decoded
 mod ShortBoards
+mod OtherLengths
 mod Lengths
 mod Cleared
 mod Ties

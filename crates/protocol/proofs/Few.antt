@@ -9,7 +9,7 @@ use Rattle.config.specs.declared.Config.{Config}
 use Rattle.tag.specs.declared.Tag.{Tag}
 use Rattle.record.specs.declared.Kind.{Kind}
 use Rattle.record.specs.Message.{Message}
-use Rattle.protocol.specs.Client.{Client, Moved, Phase, idle, asking, pre_writing, finalising_write, finalising_read, down, ask_again, asked, awaited, client_step, counted, end_read, ends, enough, enough_to_read, highest_number, is_cleared, next_tag, receives, send_each, send_pre_writes, send_read_finalises, send_write_finalises, settle, settling, spent, stays}
+use Rattle.protocol.specs.Client.{Client, Moved, Phase, idle, asking, pre_writing, finalising_write, finalising_read, down, ask_again, asked, awaited, client_step, counted, end_read, ends, enough, enough_to_read, highest_number, is_cleared, next_tag, receives, send_each, send_pre_writes, send_queries, send_read_finalises, send_write_finalises, settle, settling, spent, stays}
 use Rattle.protocol.proofs.Basics.{cond_elim, length_to_each}
 
 module _ {Value Element : Type 0} (key : Tag → ℕ) (encode : Value → ℕ → Element) (decode : List (ℕ × Element) → Value) (cfg : Config) (c : ℕ) where

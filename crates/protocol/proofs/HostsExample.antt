@@ -1,8 +1,8 @@
 -- A run of hosts, evaluated in the model, with messages that are doubled, late or lost: N 3, k 1, D 0, two clients, starting board 0. A message is named
 -- by its place among all that were sent, from 0.
 use Prim.Native.Nat.{ℕ}
-use mathlib.Core.Path.{◌≡◌, refl}
-use mathlib.Core.Bool.{cond}
+use mathlib.Core.Path.{◌≡◌, refl, subst}
+use mathlib.Core.Bool.{Bool, true, false, cond}
 use mathlib.Core.Option.{Option, none, some}
 use mathlib.Core.List.{List, [], ◌∷◌, ◌++◌, Memᴰ, map}
 use native.Mathlib.Decide.{ℕ_discrete}

@@ -56,7 +56,6 @@ pub mod Boards
 pub mod NetworkAtomic
 pub mod Decoded
 mod ShortBoards
-mod OtherLengths
 mod Lengths
 mod Cleared
 mod Ties

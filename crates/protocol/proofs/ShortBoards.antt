@@ -2,32 +2,32 @@
 -- after, and the starting board has length V". V is 1 here, and the starting board is one byte, 0. Each byte below is 0 too: a length is all
 -- that tells these boards apart.
 use Prim.Native.Nat.{ℕ, zero, suc}
-use mathlib.Core.Path.{◌≡◌, refl, ap}
+use mathlib.Core.Path.{◌≡◌, refl, ap, ◌∙◌}
 use mathlib.Core.Logic.{◌⊎◌, inl, inr}
 use mathlib.Core.List.{List, [], ◌∷◌, Memᴰ}
 use native.Mathlib.Omega.{arith}
 use Rattle.tag.specs.declared.Tag.{Tag}
-use Rattle.protocol.specs.Board.{nothing_ended, written_by, read_by, history, after, Shown, MustStand, Fits}
+use Rattle.protocol.specs.Board.{nothing_ended, written_by, read_by, history, after, Shown, MustStand, StandsFirst, Fits}
 use Rattle.protocol.specs.Boards.{Board, BoardAnswer, BoardAtomic, BoardEvent, starting_board}
 use Rattle.protocol.proofs.Evaluate.{computed}
 use Rattle.protocol.proofs.Example.{config}
-use Rattle.protocol.proofs.Refute.{held, fits_one, fits_two}
+use Rattle.protocol.proofs.Refute.{held, carried, fits_one, fits_two}
 
-abbrev pub tag : ℕ → ℕ → Tag
+abbrev tag : ℕ → ℕ → Tag
 tag z c = record { number = z; client = c }
 
 -- the byte 0, with a length
-abbrev pub zero_of : ℕ → Board
+abbrev zero_of : ℕ → Board
 zero_of n = record { length = n; bytes = 0 ∷ [] }
 
-abbrev pub start : Board
+abbrev start : Board
 start = starting_board config (0 ∷ [])
 
-abbrev pub event : ℕ → ℕ → Board → BoardAnswer → BoardEvent
+abbrev event : ℕ → ℕ → Board → BoardAnswer → BoardEvent
 event code party board answer = record { call = record { code = code; party = party; position = 0; board = board }; answer = answer }
 
 -- client 1 writes with this length, and then client 2 reads with that
-abbrev pub wrote_and_read : ℕ → ℕ → List BoardEvent
+abbrev wrote_and_read : ℕ → ℕ → List BoardEvent
 wrote_and_read n m =
     event 1 1 (zero_of n) nothing_ended ∷
     event 3 0 start (written_by 1 (tag 1 1)) ∷
@@ -48,6 +48,29 @@ not_atomic events none a = none a.order a.fits
 -- some order does
 abbrev pub SomeOrder : List BoardEvent → Type 0
 SomeOrder events = (order : List ℕ) × Fits (history events) start order
+
+-- A write of length n, and then a read of another length.
+other_length : (n m : ℕ) → (m ≡ n → ⊥) → NoOrder (wrote_and_read n m)
+unfolding computed
+other_length n m other order fits =
+    let first = fits.in_time 0 2 (fits.ended 0 tt) (fits.ended 2 tt) (omega arith) in
+    let z = carried (history (wrote_and_read n m)) (λ (s : Board). s.length ≡ n) order start 0 2 (λ s h. refl) kept first fits.shown in
+    other (ap (λ (s : Board). s.length) z.2 ∙ z.1)
+  where
+    kept : (p : ℕ) → StandsFirst 0 p order → (s : Board) → s.length ≡ n → (after (history (wrote_and_read n m) p) s).length ≡ n
+    kept zero h s e = refl
+    kept (suc zero) h s e = e
+    kept (suc (suc zero)) h s e = e
+    kept (suc (suc (suc zero))) h s e = e
+    kept (suc (suc (suc (suc p)))) h s e = e
+
+-- a write of byte 0 with length 1, and then a read of length 0
+pub shortened_has_none : NoOrder (wrote_and_read 1 0)
+shortened_has_none = other_length 1 0 (λ e. omega (arith, e))
+
+-- a write of length 0, and then a read of byte 0 with length 1
+pub lengthened_has_none : NoOrder (wrote_and_read 0 1)
+lengthened_has_none = other_length 0 1 (λ e. omega (arith, e))
 
 -- the starting board has length V, and a read of length 0 does not show it
 pub unwritten_has_none : NoOrder (read_only 0)

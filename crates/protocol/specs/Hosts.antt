@@ -1,6 +1,6 @@
 -- The parties as hosts run them, each where it likes: there is no list of messages from which one is taken. A message that was ever sent may be handed over, any
 -- number of times, in any order, or never. A party that is not called again has crashed; one that is called again goes on from what it kept.
-use Rattle.std.specs.Prelude.{ℕ, ◌≡◌}
+use Rattle.std.specs.Prelude.{ℕ, ◌≡◌, true}
 use Rattle.std.proofs.Math.Option.{none, some}
 use mathlib.Core.List.{List, [], ◌∷◌, ◌++◌, Memᴰ}
 use Rattle.config.specs.declared.Config.{Config}

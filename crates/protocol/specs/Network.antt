@@ -1,6 +1,6 @@
 -- Document 02, "Group visits: several boards, one network": the parties of each board, and the messages of all in flight. An event names its
 -- board, and is that board's event; a crash or a restart names none, and is one on every board.
-use Rattle.std.specs.Prelude.{ℕ, ◌-◌, ◌≡◌, Bool, true, false, cond, ◌&&◌, List, [], ◌∷◌, ◌++◌, eqb, length, replicate}
+use Rattle.std.specs.Prelude.{ℕ, ◌+◌, ◌-◌, ◌≡◌, Bool, true, false, cond, ◌&&◌, List, [], ◌∷◌, ◌++◌, eqb, length, replicate}
 use Rattle.std.proofs.Math.Option.{Option, none, some}
 use Rattle.laws.specs.Lists.{without}
 use Rattle.laws.specs.Owners.{own, place_of}

@@ -1,5 +1,5 @@
 -- What is kept for each number, of servers or of clients: a function from numbers has no length to carry about.
-use Rattle.std.specs.Prelude.{ℕ, zero, suc, Bool, false, cond, List, [], ◌∷◌, ◌++◌, eqb}
+use Rattle.std.specs.Prelude.{ℕ, zero, suc, ◌+◌, Bool, false, cond, List, [], ◌∷◌, ◌++◌, eqb}
 use Rattle.std.proofs.Math.Option.{Option, none, some}
 unfoldable pub use Rattle.laws.specs.Lists.{to_list}
 unfoldable pub use Rattle.laws.specs.Servers.{count}

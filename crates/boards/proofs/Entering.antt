@@ -13,10 +13,10 @@ use Rattle.config.specs.declared.Refusal.{Refusal}
 use Rattle.config.specs.declared.Room.{Room}
 use Rattle.config.specs.Config.{board_length}
 use Rattle.config.specs.Questions.{Question, ask, first_no, numbered}
-use Rattle.config.specs.Refusal.{clamped, refusal_number}
+use Rattle.config.specs.Refusal.{refusal_number}
 use Rattle.config.specs.Room.{room_questions}
-use Rattle.config.proofs.Questions.{Given, first_no_given, first_no_pass, first_no_stop, numbered_both, within_true}
-use Rattle.config.proofs.Refusals.{refusal_given}
+use Rattle.config.proofs.Questions.{first_no_pass, first_no_stop, numbered_both, within_true}
+use Rattle.config.proofs.Refusals.{refusal_some}
 use Rattle.config.proofs.Rooms.{room_questions_numbered}
 use Rattle.protocol.specs.Board.{refused}
 use Rattle.protocol.specs.Boards.{network_after6}
@@ -61,19 +61,20 @@ module _ (cfg : Config) (room : Room) (r : Rig) (a : Call) (board read : List �
   unfolding first numbered
   first_numbered = numbered_both (room_questions cfg room) (ask 22 there ∷ ask 6 six ∷ []) (room_questions_numbered cfg room) refl
 
+  -- one of them is answered no
+  pub early_refused : (why : Refusal) → refusal_number why ≡ asked_no cfg room r a (length board) (length read) (sizes l) l.owners → {t : Turn}
+      → t ≡ unturned_by why r → EventPost cfg room r (called a board) read l t read l
+  unfolding first
+  early_refused why e {t} is =
+      let some = refusal_some why e in
+      let early : event_no cfg room r (called a board) read l ≡ refusal_number why = number_is ∙ first_no_stop first own some.1 ∙ sym e in
+      subst (λ (z : Turn). EventPost cfg room r (called a board) read l z read l) (sym is)
+      (refused_event cfg room r (called a board) read l (λ z. some.0 (sym early ∙ z)) (ap refused (sym early)) refl refl refl)
+
   module _ {got : ℕ} (e : got ≡ asked_no cfg room r a (length board) (length read) (sizes l) l.owners) where
     got_first : got ≡ first_no first
     unfolding first
     got_first = e
-
-    -- one of them is answered no
-    module _ (ne : got ≡ 0 → ⊥) {why : Refusal} (number : refusal_number why ≡ clamped got) {t : Turn} (is : t ≡ unturned_by why r) where
-      pub early_refused : EventPost cfg room r (called a board) read l t read l
-      early_refused =
-          let early : event_no cfg room r (called a board) read l ≡ got = number_is ∙ first_no_stop first own (λ z. ne (got_first ∙ z)) ∙ sym got_first in
-          let told : refusal_number why ≡ got = refusal_given (subst Given (sym got_first) (first_no_given first first_numbered)) ne number in
-          subst (λ (z : Turn). EventPost cfg room r (called a board) read l z read l) (sym is)
-          (refused_event cfg room r (called a board) read l (λ z. ne (sym early ∙ z)) (ap refused (told ∙ sym early)) refl refl refl)
 
     -- none is
     module _ (z : got ≡ 0) where

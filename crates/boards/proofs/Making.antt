@@ -1,5 +1,6 @@
 -- A fresh rig of several boards. In order: how great the buffers are; the rig that a refused making of one board gives; what the questions
 -- show; one board's parts as the code lends them; one board more; the rig. Assumes nothing.
+use Rattle.std.proofs.Common.{Result, Ok, Err}
 use Prim.Native.Nat.{ℕ, ◌+◌, ◌-◌, ◌*◌, ◌≤◌, ◌<◌, min}
 use mathlib.Core.Path.{◌≡◌, refl, sym, ap, ap₂, subst, fun_ext, ◌∙◌}
 use mathlib.Core.Bool.{Bool, true, false, cond, ◌&&◌}
@@ -16,8 +17,10 @@ use Rattle.laws.proofs.Bools.{and_left, and_right}
 use Rattle.laws.proofs.Parts.{lent_is, over_lent, over_length, part_fits, part_length, part_other, part_own}
 use Rattle.config.specs.declared.Config.{Config}
 use Rattle.config.specs.declared.Room.{Room}
-use Rattle.config.specs.declared.Verdict.{Verdict}
+use Rattle.config.specs.Refusal.{refusal_number, verdict_number}
 use Rattle.config.specs.Config.{Valid, board_length, elements_length, least, record_length, rig_questions, store_length}
+use Rattle.config.specs.declared.Refusal.{Refusal}
+use Rattle.config.proofs.Refusals.{refusal_some}
 use Rattle.config.specs.Questions.{ask, first_no, last_question, numbered, within}
 use Rattle.config.specs.Refusal.{passing15, verdict_number}
 use Rattle.config.specs.Room.{fits_room, owners_within, room_questions}
@@ -290,18 +293,15 @@ unfolding protocol.fresh_parties
 all_up cfg x y = record { servers = λ s. refl; clients = λ c. refl }
 
 module _ (cfg : Config) (room : Room) (start : List ℕ) (l : Lent) (got : ℕ) (asked : got ≡ make_no cfg room start l) where
-  number_given : Given (make_no cfg room start l)
-  unfolding make_questions room_questions rig_questions numbered
-  number_given = first_no_given (make_questions cfg room start l) refl
-
   -- a making that is refused
-  pub make_refused : (got ≡ 0 → ⊥) → (verdict : Verdict) (r : Rig) → verdict_number verdict ≡ min (passing15 got) last_question → r ≡ least_rig
-      → MakePost cfg room start l (record { verdict = verdict; rig = r }) l
-  make_refused some_no verdict r e least =
+  pub make_refused : (why : Refusal) → refusal_number why ≡ got → (r : Rig) → r ≡ least_rig
+      → MakePost cfg room start l (record { verdict = Err why; rig = r }) l
+  make_refused why e r least =
+      let some = (refusal_some why (e ∙ asked)).1 in
       record {
-        number = verdict_given (subst Given (sym asked) number_given) e ∙ asked;
-        seen = λ z. absurd (some_no (asked ∙ z));
-        within = λ z. absurd (some_no (asked ∙ z));
+        number = e ∙ asked;
+        seen = λ z. absurd (some z);
+        within = λ z. absurd (some z);
         lengths = refl;
         held = λ _. refl;
         refused = λ _. least;
@@ -373,7 +373,7 @@ module _ (cfg : Config) (room : Room) (start : List ℕ) (l : Lent) (got : ℕ) 
           ap (λ (n : ℕ). parties_within cfg room r && owners_within room (take n l.owners) && fits_room room (take n l.owners)) post.nothing
           ∙ ap₂ ◌&&◌ (ap₂ ◌&&◌ boards_pass (none_within room)) (none_room room)
 
-      pub make_done : MakePost cfg room start l (record { verdict = Verdict.Accepted; rig = r }) left
+      pub make_done : MakePost cfg room start l (record { verdict = (Ok tt); rig = r }) left
       make_done =
           record {
             number = sym passes;

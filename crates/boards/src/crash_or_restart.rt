@@ -35,8 +35,7 @@ pub(crate) fn all(cfg: Config, room: Room, rig: Rig, call: Call) -> Turn
     );
     let answer = first.answer;
     let mut left = outcome::put(rig, 0, first.rig, count);
-    let mut i = 1;
-    while i < room.boards {
+    for i in 1..room.boards {
         let turn = rig::crash_or_restart(
             cfg,
             room.m,
@@ -45,7 +44,6 @@ pub(crate) fn all(cfg: Config, room: Room, rig: Rig, call: Call) -> Turn
             call.party,
         );
         left = outcome::put(left, i, turn.rig, count);
-        i += 1;
     }
     Turn { answer, rig: left }
 }

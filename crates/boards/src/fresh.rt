@@ -87,11 +87,9 @@ pub(crate) fn rig(
     ensures { FreshPost cfg room start.now (one_lent messages.old stores.old boards.old elements.old) result (one_lent messages.new stores.new boards.new elements.new) }
 {
     let mut rig = least();
-    let mut i = 0;
-    while i < room.boards {
+    for i in 0..room.boards {
         let x = one(cfg, room, i, start, messages, stores, boards, elements);
         rig = outcome::put(rig, i, x, 0);
-        i += 1;
     }
     rig
 }

@@ -12,6 +12,7 @@ mod outcome;
 mod questions;
 mod room;
 
+ghost use Rattle.config.specs.Refusal.{verdict_number};
 ghost use Rattle.std.specs.Prelude.{◌≡◌, length};
 ghost use Rattle.protocol.specs.Network.{board_exists};
 ghost use Rattle.protocol.specs.Rig.{code_of};
@@ -20,7 +21,7 @@ ghost use Rattle.boards.specs.Questions.{lengths_of};
 ghost use Rattle.boards.specs.View.{lent};
 ghost use Rattle.boards.specs.inner.Questions.{asked_no, lengths_no, start_no};
 
-use config::{Config, Refusal, Room, Verdict};
+use config::{Config, Refusal, Room};
 use parties::{Answer, Node};
 
 // The parties of one board. Server s and client c stand in the places s - 1 and c - 1; the places past N and C are not in use.
@@ -50,10 +51,10 @@ pub struct Call {
     pub length: u16,
 }
 
-// What the making of a rig leaves.
+// What the making of a rig leaves. The rig stands beside the verdict: `MakePost` says of a refusal too which it is.
 #[derive(Clone, Copy)]
 pub struct Made {
-    pub verdict: Verdict,
+    pub verdict: Result<(), Refusal>,
     pub rig: Rig,
 }
 
@@ -78,7 +79,7 @@ pub struct Sizes {
 pub fn lengths(cfg: Config, room: Room) -> Sizes
     ensures { result ≡ lengths_of cfg room }
 {
-    if cfg.ask_room(room) != 0 {
+    let Ok(()) = cfg.ask_room(room) else {
         return Sizes {
             messages: 0,
             owners: 0,
@@ -86,7 +87,7 @@ pub fn lengths(cfg: Config, room: Room) -> Sizes
             boards: 0,
             elements: 0,
         };
-    }
+    };
     let one = cfg.lengths(room.m);
     Sizes {
         messages: one.messages,
@@ -98,20 +99,17 @@ pub fn lengths(cfg: Config, room: Room) -> Sizes
 }
 
 // Questions 1 to 5, 21 and 22, and 6 of the lengths of the starting boards and of the buffers lent to a rig.
-fn ask_make(cfg: Config, room: Room, start: usize, sizes: Sizes) -> u8
-    ensures { result ≡ start_no cfg room start sizes }
+fn ask_make(cfg: Config, room: Room, start: usize, sizes: Sizes) -> Result<(), Refusal>
+    ensures { verdict_number result ≡ start_no cfg room start sizes }
 {
-    let no = cfg.ask_room(room);
-    if no != 0 {
-        return no;
-    }
+    cfg.ask_room(room)?;
     if start != room.boards * (cfg.k * cfg.e) {
-        return 6;
+        return Err(Refusal::Shape);
     }
     if !questions::sized(sizes, lengths(cfg, room)) {
-        return 6;
+        return Err(Refusal::Shape);
     }
-    0
+    Ok(())
 }
 
 // A fresh rig: questions 1 to 5, 21 and 22, and 6. Of each board the servers' elements of its starting board go into their stores. On a refusal the
@@ -135,15 +133,14 @@ pub fn make(
         boards: boards.len(),
         elements: elements.len(),
     };
-    let no = ask_make(cfg, room, start.len(), sizes);
-    if no != 0 {
+    if let Err(why) = ask_make(cfg, room, start.len(), sizes) {
         return Made {
-            verdict: Verdict::of(no),
+            verdict: Err(why),
             rig: fresh::least(),
         };
     }
     Made {
-        verdict: Verdict::Accepted,
+        verdict: Ok(()),
         rig: fresh::rig(cfg, room, start, messages, stores, boards, elements),
     }
 }
@@ -165,27 +162,31 @@ fn exists(room: Room, call: Call) -> bool
 }
 
 // Questions 1 to 5, 21 and 22, and 6 of the lengths of what is handed in.
-fn ask_lengths(cfg: Config, room: Room, call: Call, board: usize, read: usize, sizes: Sizes) -> u8
-    ensures { result ≡ lengths_no cfg room call board read sizes }
+fn ask_lengths(
+    cfg: Config,
+    room: Room,
+    call: Call,
+    board: usize,
+    read: usize,
+    sizes: Sizes,
+) -> Result<(), Refusal>
+    ensures { verdict_number result ≡ lengths_no cfg room call board read sizes }
 {
-    let no = cfg.ask_room(room);
-    if no != 0 {
-        return no;
-    }
+    cfg.ask_room(room)?;
     if !exists(room, call) {
-        return 22;
+        return Err(Refusal::Boards);
     }
     let v = cfg.k * cfg.e;
     if board != v {
-        return 6;
+        return Err(Refusal::Shape);
     }
     if read != v {
-        return 6;
+        return Err(Refusal::Shape);
     }
     if !questions::sized(sizes, lengths(cfg, room)) {
-        return 6;
+        return Err(Refusal::Shape);
     }
-    0
+    Ok(())
 }
 
 // Questions 1 to 6, 21 and 22 of an event.
@@ -198,24 +199,21 @@ fn ask(
     read: usize,
     sizes: Sizes,
     owners: &[u8],
-) -> u8
+) -> Result<(), Refusal>
     requires { length owners.now ≡ sizes.owners }
-    ensures { result ≡ asked_no cfg room rig call board read sizes owners.now }
+    ensures { verdict_number result ≡ asked_no cfg room rig call board read sizes owners.now }
 {
-    let no = ask_lengths(cfg, room, call, board, read, sizes);
-    if no != 0 {
-        return no;
-    }
+    ask_lengths(cfg, room, call, board, read, sizes)?;
     if room.m < rig.count {
-        return 6;
+        return Err(Refusal::Shape);
     }
     if !questions::flight(room, rig.count, owners) {
-        return 6;
+        return Err(Refusal::Shape);
     }
     if !questions::parties(cfg, room, rig) {
-        return 6;
+        return Err(Refusal::Shape);
     }
-    0
+    Ok(())
 }
 
 // An event of the rig: questions 1 to 5, 21, 22, 6, 19 and 7 to 13. `board` is the board handed in, of which the call has the length, `read` the
@@ -242,9 +240,8 @@ pub fn event(
         boards: boards.len(),
         elements: elements.len(),
     };
-    let no = ask(cfg, room, rig, call, board.len(), read.len(), sizes, owners);
-    if no != 0 {
-        return outcome::unturned(rig, Refusal::of(no));
+    if let Err(why) = ask(cfg, room, rig, call, board.len(), read.len(), sizes, owners) {
+        return outcome::unturned(rig, why);
     }
     if call.code < 1 {
         return outcome::unturned(rig, Refusal::Event);

@@ -70,14 +70,12 @@ fn servers_alike(cfg: Config, x: OneBoard, y: OneBoard) -> bool
     requires { Valid cfg }
     ensures { result ≡ servers_alike cfg x.servers y.servers }
 {
-    let mut i = 0;
-    while i < cfg.n {
+    for i in 0..cfg.n {
         let one = x.servers[i];
         let other = y.servers[i];
         if !same(one.up, other.up) {
             return false;
         }
-        i += 1;
     }
     true
 }
@@ -87,8 +85,7 @@ fn clients_alike(cfg: Config, x: OneBoard, y: OneBoard) -> bool
     requires { Valid cfg }
     ensures { result ≡ clients_alike cfg x.clients y.clients }
 {
-    let mut i = 0;
-    while i < cfg.c {
+    for i in 0..cfg.c {
         let one = x.clients[i];
         let other = y.clients[i];
         let first = one.phase;
@@ -96,7 +93,6 @@ fn clients_alike(cfg: Config, x: OneBoard, y: OneBoard) -> bool
         if !same(is_up(first), is_up(second)) {
             return false;
         }
-        i += 1;
     }
     true
 }
@@ -106,9 +102,9 @@ fn board(cfg: Config, m: usize, first: OneBoard, x: OneBoard, count: usize) -> b
     requires { first_no (rig_questions cfg m) ≡ 0 }
     ensures { result ≡ (one_within cfg m (rig_with (some x) count) && up_alike cfg (rig_with (some x) count) (rig_with (some first) count)) }
 {
-    if rig::ask(cfg, m, outcome::one(x, count)) != 0 {
+    let Ok(()) = rig::ask(cfg, m, outcome::one(x, count)) else {
         return false;
-    }
+    };
     if !servers_alike(cfg, x, first) {
         return false;
     }
@@ -121,12 +117,10 @@ pub(crate) fn parties(cfg: Config, room: Room, rig: Rig) -> bool
     ensures { result ≡ parties_within cfg room rig }
 {
     let first = rig.boards[0];
-    let mut i = 0;
-    while i < room.boards {
+    for i in 0..room.boards {
         if !board(cfg, room.m, first, rig.boards[i], rig.count) {
             return false;
         }
-        i += 1;
     }
     true
 }

@@ -28,10 +28,8 @@ pub(crate) fn kept_free(room: Room, b: u8, count: usize, owners: &[u8]) -> usize
     ensures { result ≡ kept_free room b (take count owners.now) }
 {
     let mut free = 0;
-    let mut i = 0;
-    while i < room.boards {
+    for i in 0..room.boards {
         free += lacks(room, b, i, count, owners);
-        i += 1;
     }
     free
 }

@@ -9,12 +9,13 @@ use borrow.Author.Tests.{eq-eqb, ne_eqb, ltb-true}
 use lib.Dec.{eqb, leb}
 use lib.ListN.{length}
 use Rattle.config.specs.declared.Config.{Config}
+use Rattle.config.specs.declared.Refusal.{Refusal}
 use Rattle.config.specs.Config.{Valid, board_length}
 use Rattle.config.specs.Number.{client_number}
-use Rattle.config.specs.Questions.{Question, first_no, numbered}
-use Rattle.config.specs.Refusal.{verdict_number}
+use Rattle.config.specs.Questions.{Question, first_no}
+use Rattle.config.specs.Refusal.{refusal_number, verdict_number}
 use Rattle.config.proofs.Questions.{yes_next}
-use Rattle.config.proofs.Refusals.{verdict_is}
+use Rattle.config.proofs.Refusals.{refusal_some}
 use Rattle.tag.specs.Tag.{start}
 use Rattle.protocol.specs.Boards as boards
 use Rattle.protocol.specs.Boards.{Board, BoardClient, BoardMoved, board_of}
@@ -28,7 +29,7 @@ use Rattle.client.specs.State.{bare, lengths_within, phase_of, phase_within, sta
 use Rattle.client.specs.inner.Outcome.{RefusedPost, begun_of}
 use Rattle.client.specs.inner.Send.{AnnouncePost, AnnouncePre, opening_of}
 use Rattle.client.specs.inner.Settle.{Moves}
-use Rattle.client.proofs.Asked.{call_numbered, call_passed}
+use Rattle.client.proofs.Asked.{call_passed}
 use Rattle.client.proofs.Phases.{all_in, self_in, tag-within}
 use Rattle.client.proofs.Seen.{nothing_is}
 use Rattle.client.proofs.Sets.{member_zero}
@@ -37,13 +38,13 @@ use Rattle.client.proofs.Settling.{announced, nobody_within, opens}
 -- ---- refused, moved
 
 module _ (cfg : Config) (x : State) (before after : BoardClient) (move : BoardMoved) (sends : List ℕ) (qs : List Question) where
-  pub refused : {n : ℕ} {r : Moved} → numbered qs ≡ true → n ≡ first_no qs → (n ≡ 0 → ⊥) → RefusedPost x n r → after ≡ before
+  pub refused : (why : Refusal) {r : Moved} → refusal_number why ≡ first_no qs → RefusedPost x (refusal_number why) r → after ≡ before
       → Answered cfg (first_no qs) x before after move sends sends r
   unfolding protocol.stays records_of
-  refused known e stop h same =
-      let out : eqb (first_no qs) 0 ≡ false = ne_eqb (first_no qs) 0 (λ z. stop (e ∙ z)) in
+  refused why e h same =
+      let out : eqb (first_no qs) 0 ≡ false = ne_eqb (first_no qs) 0 (refusal_some why e).1 in
       record {
-        number = verdict_is qs known e h.verdict;
+        number = h.verdict ∙ e;
         held = λ _. h.state;
         self = ap (λ (y : State). y.me) h.state;
         client = same ∙ rw out;
@@ -120,17 +121,17 @@ module _ (cfg : Config) (sized : Bool) (x : State) (others : List Question) wher
           lengths = s.same_lengths ∙ same;
         }
 
-  pub begin-refused : numbered others ≡ true → (board : Option Board) (kept es sends : List ℕ) {n : ℕ} {r : Moved}
-      → n ≡ first_no (call_questions cfg sized x others) → (n ≡ 0 → ⊥) → RefusedPost x n r
+  pub begin-refused : (board : Option Board) (kept es sends : List ℕ) (why : Refusal) {r : Moved}
+      → refusal_number why ≡ first_no (call_questions cfg sized x others) → RefusedPost x (refusal_number why) r
       → BeginPost cfg (first_no (call_questions cfg sized x others)) x board kept kept es sends sends r
-  begin-refused known board kept es sends e stop h =
+  begin-refused board kept es sends why e h =
       record {
         answered =
             refused cfg x (view cfg x kept es) _ (boards.begin_client cfg (client_number x.me) (view cfg x kept es) board) sends beginning
-            (call_numbered cfg x sized others known) e stop h (ap (λ (y : State). view cfg y kept es) h.state);
+            why e h (ap (λ (y : State). view cfg y kept es) h.state);
         nothing = h.ended;
-        keeps = rw (ne_eqb (first_no beginning) 0 (λ z. stop (e ∙ z)));
-        length = ap (λ (y : State). y.length) h.state ∙ rw (ne_eqb (first_no beginning) 0 (λ z. stop (e ∙ z)));
+        keeps = rw (ne_eqb (first_no beginning) 0 (refusal_some why e).1);
+        length = ap (λ (y : State). y.length) h.state ∙ rw (ne_eqb (first_no beginning) 0 (refusal_some why e).1);
         lengths = ap (λ (y : State). y.lengths) h.state;
       }
 
@@ -140,7 +141,3 @@ unfolding protocol.begin_questions view
 operation-below cfg x pass =
     ltb-true x.operation protocol.highest_number
     (yes_next 11 _ [] (omega arith) (yes_next 10 _ _ (omega arith) (yes_next 9 _ _ (omega arith) pass).1).1).0
-
-pub begin-numbered : (cfg : Config) (x : State) → numbered (protocol.begin_questions (bare cfg x)) ≡ true
-unfolding numbered protocol.begin_questions
-begin-numbered cfg x = refl

@@ -7,9 +7,12 @@ use Prim.Native.Nat.{ℕ}
 use native.Mathlib.Omega.{arith}
 use Rattle.laws.proofs.Bools.{and_left, and_right}
 use Rattle.config.specs.declared.Config.{Config}
+use Rattle.config.specs.declared.Refusal.{Refusal}
 use Rattle.config.specs.Config.{questions, Valid}
-use Rattle.config.specs.Questions.{Question, ask, first_no, numbered}
+use Rattle.config.specs.Questions.{Question, ask, first_no}
+use Rattle.config.specs.Refusal.{refusal_number}
 use Rattle.config.proofs.Questions.{early, first_no_pass, none_first, none_rest, questions_numbered, yes_next}
+use Rattle.config.proofs.Refusals.{refusal_some}
 use Rattle.config.proofs.Valid.{valid, valid_asked}
 use Rattle.client.specs.declared.State.{State}
 use Rattle.client.specs.Questions.{call_questions, state_questions}
@@ -46,10 +49,6 @@ module _ (cfg : Config) (x : State) where
   pub call_rest : Valid cfg → within ≡ true → (sized : Bool) (rest : List Question) → first_no (call_questions cfg sized x rest) ≡ cond sized (first_no rest) 6
   call_rest v w sized rest = call v sized rest ∙ six sized within rest w
 
-  pub call_numbered : (sized : Bool) (rest : List Question) → numbered rest ≡ true → numbered (call_questions cfg sized x rest) ≡ true
-  unfolding call_questions numbered questions
-  call_numbered sized rest h = h
-
   -- all are answered yes
   pub call_passed : (sized : Bool) (rest : List Question) → first_no (call_questions cfg sized x rest) ≡ 0
       → Valid cfg × (sized ≡ true) × (within ≡ true) × (first_no rest ≡ 0)
@@ -59,31 +58,31 @@ module _ (cfg : Config) (x : State) where
       let p = yes_next 6 (sized && within) rest (omega arith) (none_rest (questions cfg) (ask 6 (sized && within) ∷ rest) (questions_numbered cfg) h) in
       (v, and_left sized within p.0, and_right sized within p.0, p.1)
 
-  -- the state alone, as the code asks it
-  module _ {n : ℕ} (asked : n ≡ first_no (questions cfg)) where
-    pub state_stopped : (n ≡ 0 → ⊥) → n ≡ first_no (state_questions cfg x)
-    unfolding call_questions
-    state_stopped s = early cfg asked s (ask 6 within ∷ [])
+  -- the state alone, as the code asks it: the configuration's are asked first
+  pub state_stopped : (why : Refusal) → refusal_number why ≡ first_no (questions cfg) → refusal_number why ≡ first_no (state_questions cfg x)
+  unfolding call_questions
+  state_stopped why e = early cfg e (refusal_some why e).0 (ask 6 within ∷ [])
 
-    pub state_asked : n ≡ 0 → first_no (state_questions cfg x) ≡ cond within 0 6
-    unfolding first_no
-    state_asked z = call (valid cfg (sym asked ∙ z)) true []
+  pub state_asked : 0 ≡ first_no (questions cfg) → first_no (state_questions cfg x) ≡ cond within 0 6
+  unfolding first_no
+  state_asked e = call (valid cfg (sym e)) true []
 
   -- ---- the state's questions are asked first
 
-  module _ {n : ℕ} (asked : n ≡ first_no (state_questions cfg x)) where
-    pub passed : n ≡ 0 → Valid cfg × (within ≡ true)
-    passed z = let p = call_passed true [] (sym asked ∙ z) in (p.0, p.2)
+  -- one of them is answered no
+  pub stopped : (why : Refusal) → refusal_number why ≡ first_no (state_questions cfg x) → (sized : Bool) (rest : List Question)
+      → refusal_number why ≡ first_no (call_questions cfg sized x rest)
+  unfolding call_questions
+  stopped why e sized rest = e ∙ six_no (questions cfg) rest sized within (refusal_some why e).1
 
-    -- one of them is answered no
-    pub stopped : (n ≡ 0 → ⊥) → (sized : Bool) (rest : List Question) → n ≡ first_no (call_questions cfg sized x rest)
-    unfolding call_questions
-    stopped s sized rest = asked ∙ six_no (questions cfg) rest sized within (λ z. s (asked ∙ z))
+  -- none is: the buffers are not of their lengths, or they are
+  module _ (none : 0 ≡ first_no (state_questions cfg x)) where
+    pub passed : Valid cfg × (within ≡ true)
+    passed = let p = call_passed true [] (sym none) in (p.0, p.2)
 
-    -- none is: the buffers are not of their lengths, or they are
-    module _ (none : n ≡ 0) {sized : Bool} where
+    module _ {sized : Bool} where
       pub short : sized ≡ false → (rest : List Question) → 6 ≡ first_no (call_questions cfg sized x rest)
-      short h rest = sym (call_rest (passed none).0 (passed none).1 sized rest ∙ rw h)
+      short h rest = sym (call_rest passed.0 passed.1 sized rest ∙ rw h)
 
-      pub others : sized ≡ true → {m : ℕ} (rest : List Question) → m ≡ first_no rest → m ≡ first_no (call_questions cfg sized x rest)
-      others h rest e = e ∙ sym (call_rest (passed none).0 (passed none).1 sized rest ∙ rw h)
+      pub others : sized ≡ true → {n : ℕ} (rest : List Question) → n ≡ first_no rest → n ≡ first_no (call_questions cfg sized x rest)
+      others h rest e = e ∙ sym (call_rest passed.0 passed.1 sized rest ∙ rw h)

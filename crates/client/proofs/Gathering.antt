@@ -14,7 +14,7 @@ use Rattle.laws.specs.Parts.{over, part}
 use Rattle.laws.proofs.Bools.{and_left, and_right}
 use Rattle.laws.proofs.Parts.{part_length}
 use Rattle.config.specs.declared.Config.{Config}
-use Rattle.config.specs.declared.Verdict.{Verdict}
+use Rattle.config.specs.Refusal.{Verdict}
 use Rattle.config.specs.Questions.{first_no}
 use Rattle.config.proofs.Valid.{valid_asked}
 use Rattle.code.specs.Decode.{DecodePost, decode_questions}

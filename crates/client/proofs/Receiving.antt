@@ -20,11 +20,10 @@ use Rattle.config.proofs.Refusals.{refusal_low}
 use Rattle.tag.specs.declared.Tag.{Tag}
 use Rattle.tag.specs.Tag.{allowed, key}
 use Rattle.tag.proofs.Order.{same_eqb, same_one, small}
-use Rattle.record.specs.declared.Reading.{Reading}
-use Rattle.record.specs.Calls.{ReadPost}
+use Rattle.record.specs.Calls.{read_questions}
 use Rattle.record.specs.Kinds.{is_for_client}
 use Rattle.record.specs.Record.{clauses, kind_at, kind_number, message_of, operation_at, present_at, well_formed}
-use Rattle.record.proofs.Callers.{read_12, was_refused}
+use Rattle.record.proofs.Callers.{read_12}
 use Rattle.record.proofs.Clauses.{clause, its_kind, its_tag, kind-number}
 use Rattle.protocol.specs.Boards.{BoardMessage, awaited}
 use Rattle.protocol.specs.Client as protocol
@@ -44,12 +43,12 @@ use Rattle.client.proofs.Phases.{phase_in, tag_in}
 
 -- ---- what reading tells
 
-pub ill_formed : (cfg : Config) (message : List ℕ) → Valid cfg → length message ≡ 80 → (r : Reading) → ReadPost cfg message r
-    → (why : Refusal) → r ≡ Reading.No why → well_formed cfg message ≡ false
-ill_formed cfg message v long r post why e = go (well_formed cfg message) (was_refused cfg message r post why e ∙ read_12 cfg message v long)
+pub ill_formed : (cfg : Config) (message : List ℕ) → Valid cfg → length message ≡ 80 → (why : Refusal)
+    → refusal_number why ≡ first_no (read_questions cfg message) → (well_formed cfg message ≡ false) × (refusal_number why ≡ 12)
+ill_formed cfg message v long why e = go (well_formed cfg message) (e ∙ read_12 cfg message v long)
   where
-    go : (b : Bool) → refusal_number why ≡ cond b 0 12 → b ≡ false
-    go false h = refl
+    go : (b : Bool) → refusal_number why ≡ cond b 0 12 → (b ≡ false) × (refusal_number why ≡ 12)
+    go false h = (refl, h)
     go true h = absurd (omega (arith, refusal_low why))
 
 -- ---- what the questions show

@@ -12,7 +12,7 @@ use Rattle.laws.proofs.Bools.{and_left}
 use Rattle.laws.proofs.Parts.{over_lent, over_there}
 use Rattle.config.specs.declared.Config.{Config}
 use Rattle.config.specs.declared.Server.{Server}
-use Rattle.config.specs.declared.Verdict.{Verdict}
+use Rattle.config.specs.Refusal.{Verdict}
 use Rattle.config.specs.Config.{board_length}
 use Rattle.config.specs.Number.{client_number, server_number}
 use Rattle.config.specs.Questions.{within}

@@ -1,4 +1,5 @@
 -- A step: refused, not awaited, or the protocol's, which asks again or counts the answer. Assumes nothing.
+use Rattle.std.proofs.Common.{Some, None}
 use mathlib.Core.Path.{◌≡◌, refl, sym, ap, ap₂, ◌∙◌, subst}
 use mathlib.Core.Bool.{Bool, true, false, cond, ◌&&◌, true≢false}
 use mathlib.Core.Option.{none, some, some-injective}
@@ -9,10 +10,14 @@ use borrow.Author.Tests.{eq-eqb, ne_eqb}
 use lib.Dec.{eqb, leb}
 use lib.ListN.{length}
 use Rattle.config.specs.declared.Config.{Config}
+use Rattle.config.specs.declared.Refusal.{Refusal}
+use Rattle.config.specs.declared.Refusal.TheVariants.{NotAwaited}
 use Rattle.config.specs.Config.{board_length}
 use Rattle.config.specs.Number.{client_number, server_number}
-use Rattle.config.specs.Questions.{first_no, numbered, within}
+use Rattle.config.specs.Questions.{first_no, within}
+use Rattle.config.specs.Refusal.{refusal_number}
 use Rattle.config.proofs.Questions.{within_high, within_low}
+use Rattle.config.proofs.Refusals.{refusal_some}
 use Rattle.tag.specs.Tag.{allowed}
 use Rattle.record.specs.declared.Header.{Header}
 use Rattle.record.specs.Calls.{with_element}
@@ -22,7 +27,6 @@ use Rattle.record.proofs.Clauses.{its_fit, its_server, its_tag}
 use Rattle.protocol.specs.Boards as boards
 use Rattle.protocol.specs.Boards.{BoardMessage, BoardPhase}
 use Rattle.protocol.specs.Client as protocol
-use Rattle.client.specs.declared.count.Awaited.{Awaited}
 use Rattle.client.specs.declared.count.Taken.{Taken}
 use Rattle.client.specs.declared.Ended.{Ended}
 use Rattle.client.specs.declared.Moved.{Moved}
@@ -31,7 +35,7 @@ use Rattle.client.specs.declared.Phase.TheVariants.{Idle, Asking, PreWriting, Fi
 use Rattle.client.specs.declared.State.{State}
 use Rattle.client.specs.declared.questions.Sizes.{Sizes}
 use Rattle.client.specs.Calls.{StepPost, client_step, ended_of}
-use Rattle.client.specs.Questions.{answer_questions, step_questions}
+use Rattle.client.specs.Questions.{step_questions}
 use Rattle.client.specs.Quorum.{OwnTag}
 use Rattle.client.specs.State.{Lent, Slots, length_placed, length_placed_at, lengths_within, lent, phase_of, phase_within, placed, placed_at, seen, slots, slots_of, to_write, view}
 use Rattle.client.specs.inner.Again.{AskAgainPost, AskAgainPre}
@@ -41,7 +45,6 @@ use Rattle.client.specs.inner.Place.{TakePre}
 use Rattle.client.specs.inner.Questions.{Received}
 use Rattle.client.specs.inner.Settle.{Moves, SettlePost, SettlePre, settle_of}
 use Rattle.client.proofs.Answers.{moved, refused}
-use Rattle.client.proofs.Asked.{call_numbered}
 use Rattle.client.proofs.Counting.{awaits_is, counting_is, counting_lengths, counting_within, lengths_are}
 use Rattle.client.proofs.Onward.{step_again}
 use Rattle.client.proofs.Phases.{all_in, lengths-in, phase_in, self_in}
@@ -53,15 +56,15 @@ sizes_of l = record { kept = length l.kept; elements = length l.elements; sends 
 
 -- ---- refused
 
-pub step_refused : (cfg : Config) (x : State) (message : List ℕ) (l : Lent) {n : ℕ} {r : Moved} → n ≡ first_no (step_questions cfg x message l) → (n ≡ 0 → ⊥)
-    → RefusedPost x n r → StepPost cfg x message l l r
-unfolding protocol.stays numbered
-step_refused cfg x message l {n} {r} e stop h =
+pub step_refused : (cfg : Config) (x : State) (message : List ℕ) (l : Lent) (why : Refusal) {r : Moved}
+    → refusal_number why ≡ first_no (step_questions cfg x message l) → RefusedPost x (refusal_number why) r → StepPost cfg x message l l r
+unfolding protocol.stays
+step_refused cfg x message l why {r} e h =
     let number = first_no (step_questions cfg x message l) in
-    let out : eqb number 0 ≡ false = ne_eqb number 0 (λ z. stop (e ∙ z)) in
+    let out : eqb number 0 ≡ false = ne_eqb number 0 (refusal_some why e).1 in
     record {
       answered =
-          refused cfg x (seen cfg x l) _ (client_step cfg x message l) l.sends (step_questions cfg x message l) (call_numbered cfg x _ (answer_questions cfg x message _) refl) e stop h
+          refused cfg x (seen cfg x l) _ (client_step cfg x message l) l.sends (step_questions cfg x message l) why e h
           (ap (λ (y : State). seen cfg y l) h.state);
       ended = ap (λ (w : Ended). ended_of w l.board) h.ended ∙ rw out;
       lent = rw out;
@@ -74,11 +77,11 @@ step_refused cfg x message l {n} {r} e stop h =
 -- ---- an answer for this client
 
 -- what the code found: it is awaited, or not
-answer_as : (b : Bool) (t u : Taken) → cond b (Awaited.Answer t) Awaited.Other ≡ Awaited.Answer u → (b ≡ true) × (t ≡ u)
+answer_as : (b : Bool) (t u : Taken) → cond b (Some t) None ≡ Some u → (b ≡ true) × (t ≡ u)
 answer_as true t u e = (refl, cc)
 answer_as false t u e = let z : ◌≡◌ {A = ℕ} 0 1 = cc in absurd (omega arith)
 
-other_as : (b : Bool) (t : Taken) → cond b (Awaited.Answer t) Awaited.Other ≡ Awaited.Other → b ≡ false
+other_as : (b : Bool) (t : Taken) → cond b (Some t) None ≡ None → b ≡ false
 other_as true t e = let z : ◌≡◌ {A = ℕ} 0 1 = cc in absurd (omega arith)
 other_as false t e = refl
 
@@ -151,10 +154,10 @@ module _ (cfg : Config) (x : State) (message : List ℕ) (l : Lent) (k : Receive
   number : first_no (step_questions cfg x message l) ≡ cond awaited 0 14
   number = received_number cfg x message (sizes_of l) k awaited
 
-  pub not_awaited : {a : Awaited} → a ≡ count_of cfg x h → a ≡ Awaited.Other → {r : Moved} → RefusedPost x 14 r → StepPost cfg x message l l r
-  not_awaited e o post =
-      let out : awaited ≡ false = awaited_is ∙ other_as (eqb h.operation x.operation && awaits_of x.phase h) (taken_of cfg x.phase h) (sym e ∙ o) in
-      step_refused cfg x message l (sym (number ∙ rw out)) (λ z. omega arith) post
+  pub not_awaited : None ≡ count_of cfg x h → {r : Moved} → RefusedPost x 14 r → StepPost cfg x message l l r
+  not_awaited e post =
+      let out : awaited ≡ false = awaited_is ∙ other_as (eqb h.operation x.operation && awaits_of x.phase h) (taken_of cfg x.phase h) (sym e) in
+      step_refused cfg x message l NotAwaited (sym (number ∙ rw out)) post
 
   pub takes : TakePre cfg h message l.elements
   takes =
@@ -175,9 +178,9 @@ module _ (cfg : Config) (x : State) (message : List ℕ) (l : Lent) (k : Receive
 
   -- ---- it is awaited
 
-  module _ {a : Awaited} (e : a ≡ count_of cfg x h) {t : Taken} (answer : a ≡ Awaited.Answer t) where
+  module _ {t : Taken} (e : Some t ≡ count_of cfg x h) where
     got : ((eqb h.operation x.operation && awaits_of x.phase h) ≡ true) × (taken_of cfg x.phase h ≡ t)
-    got = answer_as (eqb h.operation x.operation && awaits_of x.phase h) (taken_of cfg x.phase h) t (sym e ∙ answer)
+    got = answer_as (eqb h.operation x.operation && awaits_of x.phase h) (taken_of cfg x.phase h) t (sym e)
 
     due : awaited ≡ true
     due = awaited_is ∙ got.0

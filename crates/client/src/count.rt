@@ -12,15 +12,6 @@ use config::Config;
 use record::{Header, Kind};
 use tag::Tag;
 
-// What an answer is to a client.
-#[derive(Clone, Copy)]
-pub(crate) enum Awaited {
-    // It is awaited.
-    Answer(Taken),
-    // It is not.
-    Other,
-}
-
 // How an awaited answer is taken.
 #[derive(Clone, Copy)]
 pub(crate) enum Taken {
@@ -31,22 +22,22 @@ pub(crate) enum Taken {
 }
 
 // How an answer is taken, if the client awaits it.
-pub(crate) fn count(cfg: Config, x: State, h: Header) -> Awaited
+pub(crate) fn count(cfg: Config, x: State, h: Header) -> Option<Taken>
     requires { (Valid cfg) × (server_number h.server < 32) }
     ensures { result ≡ count_of cfg x h }
 {
     if h.operation != x.operation {
-        return Awaited::Other;
+        return None;
     }
     let phase = x.phase;
     if !awaits(phase, h) {
-        return Awaited::Other;
+        return None;
     }
     let kind = h.kind;
     if kind.number() == 9 {
-        return Awaited::Answer(Taken::Cleared);
+        return Some(Taken::Cleared);
     }
-    Awaited::Answer(Taken::Counted(counting(cfg, phase, h)))
+    Some(Taken::Counted(counting(cfg, phase, h)))
 }
 
 // Whether a phase awaits an answer: judged as of its kind, of a server not counted yet and, for kinds 4, 6 and 8, of its tag.

@@ -11,9 +11,7 @@ pub(crate) fn gather(cfg: Config, sent: u32, elements: &[u8], numbers: &mut [u8]
     ensures { GatherPost cfg (lowest cfg elements.now sent cfg.n) numbers.old numbers.new packed.old packed.new cfg.k }
 {
     let mut found = 0;
-    let mut s = 0;
-    while s < cfg.n {
-        s += 1;
+    for s in 1..=cfg.n {
         found = pick(cfg, sent, s, found, elements, numbers, packed);
     }
 }

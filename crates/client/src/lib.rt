@@ -5,15 +5,16 @@
 ghost use Rattle.std.specs.Prelude.{List, ◌≡◌, ℕ};
 ghost use Rattle.std.proofs.Math.Option.{none, some};
 ghost use Rattle.config.specs.Questions.{first_no};
+ghost use Rattle.config.specs.Refusal.{verdict_number};
 ghost use Rattle.client.specs.Calls.{BeginPost, CrashPost, FreshPost, StepPost};
 ghost use Rattle.protocol.specs.Boards.{board_of};
 ghost use Rattle.client.specs.State.{lent};
 ghost use Rattle.client.specs.Questions.{ask_begin_questions, begin_read_questions, begin_write_questions, state_questions};
 
-use config::{Client, Config, NewClient, Verdict};
-use count::{Awaited, Taken};
+use config::{Client, Config, Refusal};
+use count::Taken;
 use outcome::{accepted, begun, counted, in_phase, refused};
-use questions::{Asked, Sizes};
+use questions::Sizes;
 use tag::Tag;
 
 // The highest number of a tag, and of an operation.
@@ -33,7 +34,7 @@ mod show;
 mod zeros;
 
 // Where a client stands in its operation. A set of servers is the bits of a number: bit s is server s.
-#[derive(Clone, Copy)]
+#[derive(Clone, Copy, PartialEq, Eq)]
 pub enum Phase {
     Idle,
     // It writes or reads; the highest tag answered so far; the servers counted.
@@ -62,7 +63,7 @@ pub enum Phase {
 // A client: its own number, its operation number, its phase, the length of the board that it keeps to write, in use while it asks to write,
 // and the lengths sent with the elements that it has received, that of server s at s - 1, in use while it finalises a read, of the servers
 // that sent one.
-#[derive(Clone, Copy)]
+#[derive(Clone, Copy, PartialEq, Eq)]
 pub struct State {
     pub me: Client,
     pub operation: u32,
@@ -72,7 +73,7 @@ pub struct State {
 }
 
 // How an operation ends, if a call ends it. What a read shows is in the lent board: so many bytes, zeros after.
-#[derive(Clone, Copy)]
+#[derive(Clone, Copy, PartialEq, Eq)]
 pub enum Ended {
     Nothing,
     Written(Tag),
@@ -83,7 +84,7 @@ pub enum Ended {
 // What a call leaves: its verdict, the client, how many records stand at the front of the sends, and how the operation ended.
 #[derive(Clone, Copy)]
 pub struct Moved {
-    pub verdict: Verdict,
+    pub verdict: Result<(), Refusal>,
     pub state: State,
     pub sent: usize,
     pub ended: Ended,
@@ -92,32 +93,26 @@ pub struct Moved {
 // A fresh client, and the verdict of its making. Where that is a refusal, the client is of no use.
 #[derive(Clone, Copy)]
 pub struct NewState {
-    pub verdict: Verdict,
+    pub verdict: Result<(), Refusal>,
     pub state: State,
 }
 
-// Questions 1 to 5 and 21, and 6 of a state: the number of the first that is answered no, or 0.
-pub fn ask(cfg: Config, state: State) -> u8
-    ensures { result ≡ first_no (state_questions cfg state) }
+// Questions 1 to 5 and 21, and 6 of a state: the first that is answered no is the refusal.
+pub fn ask(cfg: Config, state: State) -> Result<(), Refusal>
+    ensures { verdict_number result ≡ first_no (state_questions cfg state) }
 {
-    let no = cfg.ask();
-    if no != 0 {
-        return no;
-    }
+    cfg.ask()?;
     if !questions::within(cfg, state) {
-        return 6;
+        return Err(Refusal::Shape);
     }
-    0
+    Ok(())
 }
 
 // The same and, of a client that is to begin, 9, 10 and 11.
-pub fn ask_begin(cfg: Config, state: State) -> u8
-    ensures { result ≡ first_no (ask_begin_questions cfg state) }
+pub fn ask_begin(cfg: Config, state: State) -> Result<(), Refusal>
+    ensures { verdict_number result ≡ first_no (ask_begin_questions cfg state) }
 {
-    let no = ask(cfg, state);
-    if no != 0 {
-        return no;
-    }
+    ask(cfg, state)?;
     questions::idle(state)
 }
 
@@ -132,15 +127,9 @@ pub fn fresh(cfg: Config, me: Client) -> NewState
         length: 0,
         lengths: [0; 16],
     };
-    match Client::new(cfg, me.number()) {
-        NewClient::No(why) => NewState {
-            verdict: Verdict::No(why),
-            state,
-        },
-        NewClient::Made(_me) => NewState {
-            verdict: Verdict::Accepted,
-            state,
-        },
+    NewState {
+        verdict: Client::new(cfg, me.number()).map(|_| ()),
+        state,
     }
 }
 
@@ -155,9 +144,9 @@ pub fn begin_write(
 ) -> Moved
     ensures { (es : List ℕ) → BeginPost cfg (first_no (begin_write_questions cfg state length board.now kept.old sends.old)) state (some (board_of length board.now)) kept.old kept.new es sends.old sends.new result }
 {
-    let no = questions::begin_write(cfg, state, length, board.len(), kept.len(), sends.len());
-    if no != 0 {
-        return refused(state, no);
+    let asked = questions::begin_write(cfg, state, length, board.len(), kept.len(), sends.len());
+    if let Err(why) = asked {
+        return refused(state, why);
     }
     copies::copy(board, kept);
     zeros::cut(length, kept);
@@ -168,9 +157,8 @@ pub fn begin_write(
 pub fn begin_read(cfg: Config, state: State, sends: &mut [u8]) -> Moved
     ensures { (kept es : List ℕ) → BeginPost cfg (first_no (begin_read_questions cfg state sends.old)) state none kept kept es sends.old sends.new result }
 {
-    let no = questions::begin_read(cfg, state, sends.len());
-    if no != 0 {
-        return refused(state, no);
+    if let Err(why) = questions::begin_read(cfg, state, sends.len()) {
+        return refused(state, why);
     }
     again::ask_to_read(cfg, state, sends)
 }
@@ -194,12 +182,11 @@ pub fn step(
         sends: sends.len(),
         board: board.len(),
     };
-    let asked = questions::receive(cfg, state, message, sizes);
-    match asked {
-        Asked::No(no) => refused(state, no),
-        Asked::Answer(h) => {
-            let Awaited::Answer(taken) = count::count(cfg, state, h) else {
-                return refused(state, 14);
+    match questions::receive(cfg, state, message, sizes) {
+        Err(why) => refused(state, why),
+        Ok(h) => {
+            let Some(taken) = count::count(cfg, state, h) else {
+                return refused(state, Refusal::NotAwaited);
             };
             match taken {
                 Taken::Cleared => again::ask_again(cfg, state, sends),
@@ -216,13 +203,12 @@ pub fn step(
 pub fn crash(cfg: Config, state: State) -> Moved
     ensures { CrashPost cfg state result }
 {
-    let no = ask(cfg, state);
-    if no != 0 {
-        return refused(state, no);
+    if let Err(why) = ask(cfg, state) {
+        return refused(state, why);
     }
     let phase = state.phase;
     let Phase::Down = phase else {
         return accepted(in_phase(state, Phase::Down), 0, Ended::Nothing);
     };
-    refused(state, 9)
+    refused(state, Refusal::UpOrDown)
 }

@@ -1,21 +1,22 @@
 // What a call leaves of a client.
 ghost use Rattle.std.specs.Prelude.{◌≡◌, ◌≤◌, ◌<◌};
 ghost use Rattle.config.specs.Number.{server_number};
+ghost use Rattle.config.specs.Refusal.{refusal_number};
 ghost use Rattle.record.specs.Record.{highest_number};
 ghost use Rattle.client.specs.Calls.{in_phase};
 ghost use Rattle.client.specs.inner.Outcome.{CountedPost, RefusedPost, accepted_of, begun_of};
 
 use super::{Ended, Moved, Phase, State};
-use config::Verdict;
+use config::Refusal;
 use record::Header;
 use tag::Tag;
 
-// A client that is as it was, with the refusal of a number: nothing is sent and nothing ends.
-pub(crate) fn refused(x: State, no: u8) -> Moved
-    ensures { RefusedPost x no result }
+// A client that is as it was, with a refusal: nothing is sent and nothing ends.
+pub(crate) fn refused(x: State, why: Refusal) -> Moved
+    ensures { RefusedPost x (refusal_number why) result }
 {
     Moved {
-        verdict: Verdict::of(no),
+        verdict: Err(why),
         state: x,
         sent: 0,
         ended: Ended::Nothing,
@@ -27,7 +28,7 @@ pub(crate) fn accepted(state: State, sent: usize, ended: Ended) -> Moved
     ensures { result ≡ accepted_of state sent ended }
 {
     Moved {
-        verdict: Verdict::Accepted,
+        verdict: Ok(()),
         state,
         sent,
         ended,

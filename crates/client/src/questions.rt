@@ -5,6 +5,7 @@ ghost use Rattle.config.specs.declared.Config.{Config};
 ghost use Rattle.config.specs.Config.{Valid, board_length};
 ghost use Rattle.config.specs.Number.{client_number};
 ghost use Rattle.config.specs.Questions.{ask as question, first_no};
+ghost use Rattle.config.specs.Refusal.{verdict_number};
 ghost use Rattle.record.specs.Kinds.{is_for_client};
 ghost use Rattle.protocol.specs.Client.{begin_questions};
 ghost use Rattle.client.specs.Servers.{member};
@@ -13,8 +14,8 @@ ghost use Rattle.client.specs.Questions.{call_questions, is_sends, write_sized};
 ghost use Rattle.client.specs.inner.Questions.{ReceivePost, sized};
 
 use super::{HIGHEST_NUMBER, Phase, State, ask, servers};
-use config::{Config, RECORD};
-use record::{Header, Reading};
+use config::{Config, RECORD, Refusal};
+use record::Header;
 use tag::Tag;
 
 // The lengths of the buffers that a step is lent.
@@ -26,16 +27,7 @@ pub(crate) struct Sizes {
     pub board: usize,
 }
 
-// What the first questions of a step tell.
-#[derive(Clone, Copy)]
-pub(crate) enum Asked {
-    // The number of the first that is answered no.
-    No(u8),
-    // The header of an answer for this client.
-    Answer(Header),
-}
-
-// Questions 1 to 5, 21, 6, 19, 9, 10 and 11 of begin write: the number of the first that is answered no, or 0.
+// Questions 1 to 5, 21, 6, 19, 9, 10 and 11 of begin write: the first that is answered no is the refusal.
 pub(crate) fn begin_write(
     cfg: Config,
     x: State,
@@ -43,54 +35,48 @@ pub(crate) fn begin_write(
     board: usize,
     kept: usize,
     sends: usize,
-) -> u8
-    ensures { result ≡ first_no (call_questions cfg (write_sized cfg board kept sends) x (question 19 (leb length (board_length cfg)) ∷ begin_questions (bare cfg x))) }
+) -> Result<(), Refusal>
+    ensures { verdict_number result ≡ first_no (call_questions cfg (write_sized cfg board kept sends) x (question 19 (leb length (board_length cfg)) ∷ begin_questions (bare cfg x))) }
 {
-    let no = ask(cfg, x);
-    if no != 0 {
-        return no;
-    }
+    ask(cfg, x)?;
     if !write_sized(cfg, board, kept, sends) {
-        return 6;
+        return Err(Refusal::Shape);
     }
     if board < length as usize {
-        return 19;
+        return Err(Refusal::Length);
     }
     idle(x)
 }
 
 // The same of begin read.
-pub(crate) fn begin_read(cfg: Config, x: State, sends: usize) -> u8
-    ensures { result ≡ first_no (call_questions cfg (is_sends cfg sends) x (begin_questions (bare cfg x))) }
+pub(crate) fn begin_read(cfg: Config, x: State, sends: usize) -> Result<(), Refusal>
+    ensures { verdict_number result ≡ first_no (call_questions cfg (is_sends cfg sends) x (begin_questions (bare cfg x))) }
 {
-    let no = ask(cfg, x);
-    if no != 0 {
-        return no;
-    }
+    ask(cfg, x)?;
     if sends != RECORD * cfg.n {
-        return 6;
+        return Err(Refusal::Shape);
     }
     idle(x)
 }
 
-// Questions 1 to 5, 21, 6, 12 and 16 of a step.
-pub(crate) fn receive(cfg: Config, x: State, message: &[u8], sizes: Sizes) -> Asked
+// Questions 1 to 5, 21, 6, 12 and 16 of a step: the header of an answer for this client, or the refusal.
+pub(crate) fn receive(
+    cfg: Config,
+    x: State,
+    message: &[u8],
+    sizes: Sizes,
+) -> Result<Header, Refusal>
     ensures { ReceivePost cfg x message.now sizes result }
 {
-    let no = ask(cfg, x);
-    if no != 0 {
-        return Asked::No(no);
-    }
+    ask(cfg, x)?;
     if !step_sized(cfg, message.len(), sizes) {
-        return Asked::No(6);
+        return Err(Refusal::Shape);
     }
-    let Reading::Message(h) = record::read(cfg, message) else {
-        return Asked::No(12);
-    };
+    let h = record::read(cfg, message)?;
     if !is_for(x, h) {
-        return Asked::No(16);
+        return Err(Refusal::Misdirected);
     }
-    Asked::Answer(h)
+    Ok(h)
 }
 
 fn step_sized(cfg: Config, message: usize, sizes: Sizes) -> bool
@@ -196,12 +182,10 @@ fn sent_within(cfg: Config, sent: u32, lengths: [u16; 16]) -> bool
     ensures { result ≡ all_below cfg.n (λ i. cond (member sent (i + 1)) (leb (get_or lengths i 0) (board_length cfg)) true) }
 {
     let v = cfg.k * cfg.e;
-    let mut i = 0;
-    while i < cfg.n {
+    for i in 0..cfg.n {
         if !length_within(v, servers::has(sent, (i + 1) as u8), lengths[i]) {
             return false;
         }
-        i += 1;
     }
     true
 }
@@ -238,19 +222,19 @@ fn tag_within(cfg: Config, tag: Tag, counted: u32) -> bool
     servers::within(cfg.n, counted)
 }
 
-// Questions 9, 10 and 11: the number of the first that is answered no, or 0.
-pub(crate) fn idle(x: State) -> u8
-    ensures { (cfg : Config) → result ≡ first_no (begin_questions (bare cfg x)) }
+// Questions 9, 10 and 11: the first that is answered no is the refusal.
+pub(crate) fn idle(x: State) -> Result<(), Refusal>
+    ensures { (cfg : Config) → verdict_number result ≡ first_no (begin_questions (bare cfg x)) }
 {
     let phase = x.phase;
     match phase {
         Phase::Idle => {
             if x.operation < HIGHEST_NUMBER {
-                return 0;
+                return Ok(());
             }
-            11
+            Err(Refusal::Exhausted)
         }
-        Phase::Down => 9,
-        _ => 10,
+        Phase::Down => Err(Refusal::UpOrDown),
+        _ => Err(Refusal::Busy),
     }
 }

@@ -7,7 +7,7 @@ ghost use Rattle.client.specs.inner.Send.{AddressPre, AnnouncePost, AnnouncePre,
 
 use super::outcome::accepted;
 use super::{Ended, Moved, Phase, State, zeros};
-use config::{Client, Config, MOST_SERVERS, MOST_WIDTH, NewServer, RECORD, Server};
+use config::{Client, Config, MOST_SERVERS, MOST_WIDTH, RECORD, Server};
 use record::{Header, Kind};
 use tag::Tag;
 
@@ -94,12 +94,10 @@ fn to_each(cfg: Config, b: Broadcast, board: &[u8], sends: &mut [u8])
     requires { ToEachPre cfg b board.now sends.old }
     ensures { sends.new ≡ records_of cfg (broadcast cfg b board.now) }
 {
-    let mut s = 0;
-    while s < cfg.n {
-        let at = RECORD * s;
+    for i in 0..cfg.n {
+        let at = RECORD * i;
         let end = at + RECORD;
-        s += 1;
-        to_one(cfg, b, s as u8, board, &mut sends[at..end]);
+        to_one(cfg, b, (i + 1) as u8, board, &mut sends[at..end]);
     }
 }
 
@@ -121,7 +119,7 @@ fn fill(cfg: Config, b: Broadcast, s: u8, board: &[u8], buffer: &mut [u8])
         return;
     }
     let end = 16 + cfg.e;
-    code::encode(cfg, board, s, &mut buffer[16..end]);
+    let _ = code::encode(cfg, board, s, &mut buffer[16..end]);
 }
 
 // Writes the record of a message to server s, all but the element.
@@ -129,7 +127,7 @@ fn address(cfg: Config, b: Broadcast, s: u8, buffer: &mut [u8])
     requires { AddressPre cfg b s buffer.old }
     ensures { buffer.new ≡ record_of cfg (addressed cfg b s buffer.old) }
 {
-    let NewServer::Made(server) = Server::new(cfg, s) else {
+    let Ok(server) = Server::new(cfg, s) else {
         return;
     };
     let kind = b.kind;
@@ -144,5 +142,5 @@ fn address(cfg: Config, b: Broadcast, s: u8, buffer: &mut [u8])
         present: b.element,
         length: b.length,
     };
-    record::write(cfg, h, buffer);
+    let _ = record::write(cfg, h, buffer);
 }

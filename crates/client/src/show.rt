@@ -21,7 +21,7 @@ pub(crate) fn show(
     gather::gather(cfg, sent, elements, &mut numbers, &mut packed);
     let k = cfg.k;
     let size = k * cfg.e;
-    code::decode(cfg, &numbers[..k], &packed[..size], board);
+    let _ = code::decode(cfg, &numbers[..k], &packed[..size], board);
     let low = numbers[0] as usize - 1;
     let length = lengths[low];
     zeros::cut(length, board);

@@ -6,9 +6,8 @@ ghost use Rattle.protocol.specs.Boards.{cut as cut_at};
 pub(crate) fn cut(length: u16, board: &mut [u8])
     ensures { board.new ≡ cut_at length board.old }
 {
-    let mut i = length as usize;
-    while i < board.len() {
-        board[i] = 0;
-        i += 1;
+    let from = length as usize;
+    if from < board.len() {
+        board[from..].fill(0);
     }
 }

@@ -4,7 +4,7 @@ use mathlib.Core.Path.{◌≡◌, ◌∙◌}
 use mathlib.Core.List.{List}
 use native.Mathlib.Decide.{dec_lt}
 use native.Mathlib.Omega.{arith}
-use lib.ListN.{get_or, take, replicate, get_or-replicate, length-replicate, get_or-eq_default}
+use lib.ListN.{get_or, take, get_or-eq_default}
 use lib.Seq.{get_or-take, length-take-le}
 use Rattle.field.specs.Field.{plus, times}
 use Rattle.laws.specs.Bytes.{tabulate}
@@ -40,10 +40,3 @@ numbers_small k servers u t = go (dec_lt t 16) (dec_lt t k)
         )
     go (no l) m =
         omega (arith, get_or-eq_default (tabulate 16 (λ i. get_or (take k servers) i 0)) 0 {n = t} (rw length_tabulate (omega arith)))
-
-pub same_small : (s : ℕ) → s ≤ 16 → AdvancePre (replicate 16 s)
-same_small s h t = go (dec_lt t 16)
-  where
-    go : Dec (t < 16) → get_or (replicate 16 s) t 0 < 32
-    go (yes l) = omega (arith, get_or-replicate 16 t s 0 l)
-    go (no l) = omega (arith, get_or-eq_default (replicate 16 s) 0 {n = t} (omega (arith, length-replicate 16 s)))

@@ -11,7 +11,7 @@ use lib.ListN.{length, get_or, take, drop}
 use Rattle.laws.specs.Parts.{over}
 use Rattle.laws.proofs.Parts.{over_back, over_byte, over_byte_after, over_byte_before, over_length, over_same, taken_length}
 use Rattle.config.specs.declared.Config.{Config}
-use Rattle.config.specs.declared.Verdict.{Verdict}
+use Rattle.config.specs.Refusal.{Verdict}
 use Rattle.config.specs.Config.{Valid, board_length}
 use Rattle.config.specs.Questions.{first_no}
 use Rattle.config.specs.Refusal.{verdict_number}

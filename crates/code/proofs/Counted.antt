@@ -1,16 +1,13 @@
 -- Whether `count` elements of e bytes have `total` bytes, told by division.
-use Prim.Native.Nat.{ℕ, ◌+◌, ◌*◌, ◌/◌, ◌%◌, ◌<◌, ◌≤◌}
+use Prim.Native.Nat.{ℕ, ◌+◌, ◌*◌, ◌/◌, ◌%◌, ◌≤◌}
 use mathlib.Core.Path.{◌≡◌, sym, ap, ◌∙◌}
 use mathlib.Core.Bool.{false}
 use native.Mathlib.Omega.{arith}
-use native.Mathlib.Nat.{div-add-mod', mul-le-mul_left}
+use native.Mathlib.Nat.{div-add-mod'}
 use native.Mathlib.Decide.{ℕ_discrete}
 use borrow.Author.Tests.{eq-eqb, ne_eqb}
 use lib.Arith.{digits_div}
 use lib.Dec.{eqb}
-
-pub product_small : (count e : ℕ) → count < 65536 → e ≤ 64 → count * e < 4194304
-product_small count e h l = omega (arith, mul-le-mul_left count l)
 
 quotient : (count e : ℕ) → 1 ≤ e → count * e / e ≡ count
 quotient count e l = ap (λ n. n / e) (omega arith) ∙ digits_div count {m = e} {r = 0} l

@@ -2,7 +2,7 @@
 use Prim.Native.Nat.{ℕ, ◌*◌, ◌<◌, ◌≤◌}
 use mathlib.Core.Path.{◌≡◌, refl, sym, ◌∙◌}
 use mathlib.Core.Bool.{Bool, true, false, ◌&&◌}
-use mathlib.Core.List.{◌++◌, List, [], ◌∷◌}
+use mathlib.Core.List.{List, [], ◌∷◌}
 use native.Mathlib.Omega.{arith}
 use borrow.Author.Tests.{eq-eqb, ne_eqb, eqb-true, le-leb, lt-leb, leb-true}
 use lib.Dec.{eqb, leb}
@@ -10,8 +10,8 @@ use lib.ListN.{length}
 use Rattle.laws.proofs.Bools.{and_left, and_right}
 use Rattle.config.specs.declared.Config.{Config}
 use Rattle.config.specs.Config.{questions, board_length}
-use Rattle.config.specs.Questions.{ask, first_no, numbered}
-use Rattle.config.proofs.Questions.{Given, early, first_no_given, first_no_pass, none_first, numbered_both, questions_numbered, first_no_yes, first_no_no}
+use Rattle.config.specs.Questions.{ask, first_no}
+use Rattle.config.proofs.Questions.{early, first_no_pass, none_first, questions_numbered, first_no_yes, first_no_no}
 use Rattle.config.proofs.Valid.{valid}
 use Rattle.code.specs.Decode.{decode_questions}
 use Rattle.code.specs.inner.Calls.{DecodePre}
@@ -61,11 +61,6 @@ module _ (cfg : Config) (servers : List ℕ) (elements buffer : ℕ) where
         rises = y.1;
         enough = leb-true cfg.k (length servers) y.2;
       }
-
-  pub answer_given : Given answer
-  unfolding decode_questions numbered
-  answer_given = first_no_given (questions cfg ++ ask 6 shape ∷ ask 17 up ∷ ask 18 many ∷ [])
-      (numbered_both (questions cfg) (ask 6 shape ∷ ask 17 up ∷ ask 18 many ∷ []) (questions_numbered cfg) refl)
 
   module _ (none : first_no (questions cfg) ≡ 0) where
     misshaped : shape ≡ false → 6 ≡ answer

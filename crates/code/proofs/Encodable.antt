@@ -2,15 +2,15 @@
 use Prim.Native.Nat.{ℕ, ◌≤◌}
 use mathlib.Core.Path.{◌≡◌, refl, sym, ◌∙◌}
 use mathlib.Core.Bool.{Bool, true, false, ◌&&◌}
-use mathlib.Core.List.{◌++◌, [], ◌∷◌}
+use mathlib.Core.List.{[], ◌∷◌}
 use native.Mathlib.Omega.{arith}
 use borrow.Author.Tests.{eq-eqb, ne_eqb, eqb-true}
 use lib.Dec.{eqb}
 use Rattle.laws.proofs.Bools.{and_left, and_right}
 use Rattle.config.specs.declared.Config.{Config}
 use Rattle.config.specs.Config.{questions, board_length}
-use Rattle.config.specs.Questions.{ask, within, first_no, numbered}
-use Rattle.config.proofs.Questions.{Given, early, first_no_given, first_no_pass, none_first, numbered_both, questions_numbered, first_no_yes, first_no_no, within_low, within_high, within_true}
+use Rattle.config.specs.Questions.{ask, within, first_no}
+use Rattle.config.proofs.Questions.{early, first_no_pass, none_first, questions_numbered, first_no_yes, first_no_no, within_low, within_high, within_true}
 use Rattle.config.proofs.Valid.{valid}
 use Rattle.code.specs.Encode.{encode_questions}
 use Rattle.code.specs.inner.Calls.{EncodePre}
@@ -52,11 +52,6 @@ module _ (cfg : Config) (board s part : ℕ) where
         server_low = within_low 1 cfg.n s y.1;
         server_high = within_high 1 cfg.n s y.1;
       }
-
-  pub answer_given : Given answer
-  unfolding encode_questions numbered
-  answer_given = first_no_given (questions cfg ++ ask 6 shape ∷ ask 18 server ∷ [])
-      (numbered_both (questions cfg) (ask 6 shape ∷ ask 18 server ∷ []) (questions_numbered cfg) refl)
 
   module _ (none : first_no (questions cfg) ≡ 0) where
     misshaped : shape ≡ false → 6 ≡ answer

@@ -1,16 +1,16 @@
 -- The questions of `encode_all`: which is the first no, and what is known where there is none.
 use Prim.Native.Nat.{ℕ, ◌+◌, ◌*◌, ◌<◌, ◌≤◌}
-use mathlib.Core.Path.{◌≡◌, refl, sym}
+use mathlib.Core.Path.{◌≡◌, sym}
 use mathlib.Core.Bool.{Bool, true, false, ◌&&◌}
-use mathlib.Core.List.{◌++◌, [], ◌∷◌}
+use mathlib.Core.List.{[], ◌∷◌}
 use native.Mathlib.Omega.{arith}
 use borrow.Author.Tests.{eq-eqb, ne_eqb, eqb-true, le-leb, lt-leb, leb-true}
 use lib.Dec.{eqb, leb}
 use Rattle.laws.proofs.Bools.{and_left, and_right}
 use Rattle.config.specs.declared.Config.{Config}
 use Rattle.config.specs.Config.{questions, board_length}
-use Rattle.config.specs.Questions.{ask, first_no, numbered}
-use Rattle.config.proofs.Questions.{Given, early, first_no_given, last_all, last_no, last_yes, numbered_both, questions_numbered}
+use Rattle.config.specs.Questions.{ask, first_no}
+use Rattle.config.proofs.Questions.{early, last_all, last_no, last_yes, questions_numbered}
 use Rattle.config.proofs.Valid.{valid}
 use Rattle.code.specs.EncodeAll.{encode_all_questions}
 use Rattle.code.specs.inner.Calls.{EncodeAllPre}
@@ -50,11 +50,6 @@ module _ (cfg : Config) (board offset distance buffer : ℕ) where
         fits = leb-true (offset + cfg.e) distance (and_left within_record whole p);
         buffer_length = eqb-true buffer (distance * cfg.n) (and_right within_record whole p);
       }
-
-  pub answer_given : Given answer
-  unfolding encode_all_questions numbered
-  answer_given = first_no_given (questions cfg ++ ask 6 shape ∷ [])
-      (numbered_both (questions cfg) (ask 6 shape ∷ []) (questions_numbered cfg) refl)
 
   module _ (none : first_no (questions cfg) ≡ 0) where
     misshaped : shape ≡ false → 6 ≡ answer

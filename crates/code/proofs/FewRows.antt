@@ -1,5 +1,5 @@
 -- The value of few rows at a server, and that it is the element.
-use Prim.Native.Nat.{ℕ, ◌+◌, ◌*◌, ◌-◌, ◌<◌, ◌≤◌}
+use Prim.Native.Nat.{ℕ, ◌+◌, ◌*◌, ◌-◌, ◌<◌}
 use mathlib.Core.Path.{◌≡◌, refl, sym, ap, ap₂, ◌∙◌}
 use mathlib.Core.List.{List, [], ◌∷◌}
 use native.Mathlib.Omega.{arith}
@@ -10,7 +10,6 @@ use Rattle.field.specs.Field.{plus, times}
 use Rattle.field.proofs.Laws.{plus-zero, times_zero_right}
 use Rattle.laws.specs.Bytes.{Bytes, tabulate}
 use Rattle.laws.proofs.Bytes.{tabulate_cong}
-use Rattle.laws.proofs.Parts.{taken_length}
 use Rattle.code.specs.Element.{byte_field, element, element_byte}
 use Rattle.code.specs.Polynomial.{value}
 use Rattle.code.specs.inner.Calls.{FewPre}
@@ -29,10 +28,6 @@ row_before s x r t p e h = ap (plus x) (e ∙ ap (times s) h)
 
 -- ---- rows of a board, as they are lent
 
-pub lent_long : (board : List ℕ) (at to e : ℕ) → to ≡ at + e → to ≤ length board → length (take (to - at) (drop at board)) ≡ e
-lent_long board at to e is room =
-    let n : to - at ≡ e = omega arith in ap (λ m. length (take m (drop at board))) n ∙ taken_length board at e (omega arith)
-
 row_byte : (board : List ℕ) (at to e i j : ℕ) → at ≡ i * e → to ≡ at + e → j < e
     → get_or (take (to - at) (drop at board)) j 0 ≡ get_or board (i * e + j) 0
 row_byte board at to e i j start end h =
@@ -42,11 +37,7 @@ module _ (cfg : Config) (board : List ℕ) (s part : ℕ) (pre : FewPre cfg (len
   abbrev e : ℕ
   e = cfg.e
 
-  -- how long a board of n rows is
-  pub long : (n : ℕ) → cfg.k ≡ n → length board ≡ n * e
-  long n is = pre.asked.board-length ∙ ap (λ m. m * e) is
-
-  pub server : s < 8
+  server : s < 8
   server = omega (arith, pre.asked.server_high, pre.few_servers)
 
   -- bytes that are the values of a board's columns are the element

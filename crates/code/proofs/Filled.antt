@@ -83,6 +83,17 @@ module _ {A : Type 0} where
       ∙ sym (append_assoc (tabulate n f) (tabulate e (λ j. f (n + j))) (drop (n + e) l))
       ∙ ap (λ k. k ++ drop (n + e) l) (tabulate_append n e f)
 
+-- a list by its elements: one of the same ones, and any
+pub replicate_tabulate : {A : Type 0} (n : ℕ) (x : A) → replicate n x ≡ tabulate n (λ i. x)
+unfolding tabulate
+replicate_tabulate zero x = refl
+replicate_tabulate (suc n) x = ap (◌∷◌ x) (replicate_tabulate n x)
+
+pub itself : (l : List ℕ) (n : ℕ) → length l ≡ n → l ≡ tabulate n (λ i. get_or l i 0)
+itself l n size =
+    ext_get_or 0 l (tabulate n (λ i. get_or l i 0)) (size ∙ sym (length_tabulate n (λ i. get_or l i 0)))
+    (λ i h. let below : i < n = omega (arith, size) in sym (get_d_tabulate n (λ i. get_or l i 0) i 0 below))
+
 -- zeros that are filled as far as f is not 0
 pub filled_zeros : (f : ℕ → ℕ) (n m : ℕ) → n ≤ m → ((i : ℕ) → n ≤ i → f i ≡ 0) → filled f n (replicate m 0) ≡ tabulate m f
 filled_zeros f n m h z =

@@ -1,13 +1,13 @@
 -- The first 16 coefficients of the product of all (x + s), one server after the other.
-use Prim.Native.Nat.{ℕ, zero, suc, ◌+◌, ◌-◌, ◌<◌, ◌≤◌}
+use Prim.Native.Nat.{ℕ, zero, suc, ◌+◌, ◌<◌}
 use mathlib.Core.Path.{◌≡◌, refl, sym, ap, ap₂, ◌∙◌}
-use mathlib.Core.List.{List, [], ◌∷◌, ◌++◌}
+use mathlib.Core.List.{List, [], ◌∷◌, ◌++◌, append-nil}
 use native.Mathlib.Omega.{arith}
 use native.Mathlib.Nat.{zero-add}
 use native.Mathlib.Numerals.{add-one}
 use lib.Bits.{xor_zero_l}
 use lib.ListN.{length, get_or, take, replicate, get_or-replicate, get_or-eq_default}
-use lib.Seq.{take-suc}
+use lib.Seq.{get_or-take, take-suc}
 use Rattle.field.specs.Field.{plus, times}
 use Rattle.field.proofs.Laws.{times_zero_right, times_one, plus-zero}
 use Rattle.laws.specs.Bytes.{tabulate}
@@ -48,11 +48,9 @@ once p s =
     (λ i h. ap₂ plus (first_below p i h) (ap (times s) (get_d_tabulate 16 (λ j. get_or p j 0) i 0 h)) ∙ sym (carried_at s 0 p i))
 
 -- the coefficients of x p, and s times p, in 16 lanes
-pub below_at : (p : List ℕ) (i : ℕ) → 1 ≤ i → get_or p (i - 1) 0 ≡ get_or (0 ∷ p) i 0
-below_at p i h = ap (λ n. get_or (0 ∷ p) n 0) one
-  where
-    one : suc (i - 1) ≡ i
-    one = omega arith
+pub below_at : (p below : List ℕ) → below ≡ take 15 p → (i : ℕ) → i < 16 → get_or (0 ∷ (below ++ [])) i 0 ≡ get_or (0 ∷ p) i 0
+below_at p below e zero h = refl
+below_at p below e (suc i) h = ap (λ l. get_or l i 0) (append-nil below ∙ e) ∙ get_or-take 15 p i 0 (omega arith)
 
 pub shifted : (p below : List ℕ) (s : ℕ) → ((i : ℕ) → i < 16 → get_or below i 0 ≡ get_or (0 ∷ p) i 0)
     → advanced p (replicate 16 s) below ≡ rooted_once p s

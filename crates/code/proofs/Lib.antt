@@ -25,6 +25,7 @@ mod Interpolated
 mod Lagrange
 mod LaidLaws
 mod Lent
+mod Made
 mod Numbers
 mod Padded
 mod PowerChoices

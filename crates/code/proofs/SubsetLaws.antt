@@ -9,7 +9,7 @@ use lib.ListN.{length, get_or, take, drop, replicate, length-replicate, get_or-r
 use lib.Seq.{get_or-take, get_or-drop}
 use lib.Bits.{xor_zero_r, xor_zero_l}
 use Rattle.laws.specs.Parts.{over}
-use Rattle.laws.proofs.Parts.{part_fits, lent_length, over_lent, over_length, over_byte, over_byte_before, over_byte_after}
+use Rattle.laws.proofs.Parts.{over_lent, over_length, over_byte, over_byte_before, over_byte_after}
 use Rattle.laws.proofs.Xor.{xor_assoc}
 use Rattle.field.specs.Field.{plus}
 use Rattle.code.specs.inner.Subsets.{chosen, Ready, PlacePost, Rows, GroupPost, FillPost}
@@ -104,10 +104,6 @@ rows_more e j x before after hj h p v i hv hi =
 
 -- ---- the groups of a table
 
--- the rows of group g lie in those of four groups
-pub rows_fit : (e g : ℕ) → e ≤ 64 → g < 4 → 4 * e * g + 4 * e ≤ 1024
-rows_fit e g he hg = omega (arith, part_fits g 4 (4 * e) hg, mul_comm (4 * e) g)
-
 -- a byte of a lent part
 lent_at : (at n i : ℕ) (l : List ℕ) → i < n → get_or (take (at + n - at) (drop at l)) i 0 ≡ get_or l (at + i) 0
 lent_at at n i l h = get_or-take (at + n - at) (drop at l) i 0 (omega arith) ∙ get_or-drop at l i 0
@@ -132,15 +128,6 @@ filling_none e rows table zeros =
       size = ap length zeros ∙ length-replicate {A = ℕ} 4096 0;
       clear = λ h j hh hj. ap (λ l. get_or l (1024 * h + j) 0) zeros ∙ get_or-replicate 4096 (1024 * h + j) 0 0 (omega arith);
       sums = λ h v j hh hv hj. absurd (omega arith);
-    }
-
--- the part of the next group
-pub filling_ready : (e g : ℕ) (rows table : List ℕ) → g < 4 → Filling e g rows table
-    → Ready (take (1024 * g + 1024 - 1024 * g) (drop (1024 * g) table))
-filling_ready e g rows table hg f =
-    record {
-      size = lent_length table (1024 * g) 1024 (omega (arith, f.size));
-      clear = λ j hj. lent_at (1024 * g) 1024 j table (omega arith) ∙ f.clear g j hg hj;
     }
 
 module _ (e g : ℕ) (rows table part : List ℕ) (he : e ≤ 64) (hg : g < 4) (f : Filling e g rows table)

@@ -8,7 +8,7 @@ use borrow.Author.Tests.{eq-eqb}
 use lib.ListN.{length, get_or, drop}
 use lib.Seq.{get_or-drop, get_or-take}
 use Rattle.config.specs.declared.Config.{Config}
-use Rattle.config.specs.declared.Verdict.{Verdict}
+use Rattle.config.specs.Refusal.{Verdict}
 use Rattle.config.specs.Config.{board_length}
 use Rattle.config.specs.Questions.{first_no}
 use Rattle.config.specs.Refusal.{verdict_number}

@@ -1,7 +1,7 @@
 -- The bytes around a lent part: document 02, L4; and those around the parts of all elements.
 use Rattle.std.specs.Prelude.{ℕ, suc, ◌+◌, ◌*◌, ◌<◌, ◌≤◌, ◌⊎◌, ◌≡◌, List, length, get_or}
 use Rattle.config.specs.declared.Config.{Config}
-use Rattle.config.specs.declared.Verdict.{Verdict}
+use Rattle.config.specs.Refusal.{Verdict}
 use Rattle.config.specs.Questions.{first_no}
 use Rattle.config.specs.Refusal.{verdict_number}
 use Rattle.code.specs.Element.{element_byte}

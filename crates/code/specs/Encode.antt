@@ -1,7 +1,7 @@
 -- What the call `encode` answers.
 use Rattle.std.specs.Prelude.{ℕ, ◌&&◌, cond, ◌≡◌, List, [], ◌∷◌, ◌++◌, eqb, length}
 use Rattle.config.specs.declared.Config.{Config}
-use Rattle.config.specs.declared.Verdict.{Verdict}
+use Rattle.config.specs.Refusal.{Verdict}
 use Rattle.config.specs.Config.{questions, board_length}
 use Rattle.config.specs.Questions.{Question, ask, within, first_no}
 use Rattle.config.specs.Refusal.{verdict_number}

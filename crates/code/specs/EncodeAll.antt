@@ -1,7 +1,7 @@
 -- What the call `encode_all` answers: the elements of all servers at once, each in its record of the caller's buffer.
 use Rattle.std.specs.Prelude.{ℕ, suc, ◌+◌, ◌*◌, ◌&&◌, cond, ◌≡◌, List, [], ◌∷◌, ◌++◌, eqb, leb, length}
 use Rattle.config.specs.declared.Config.{Config}
-use Rattle.config.specs.declared.Verdict.{Verdict}
+use Rattle.config.specs.Refusal.{Verdict}
 use Rattle.config.specs.Config.{questions, board_length}
 use Rattle.config.specs.Questions.{Question, ask, first_no}
 use Rattle.config.specs.Refusal.{verdict_number}

@@ -72,12 +72,10 @@ fn by_multiples(cfg: Config, inverse: &[[u8; 16]; 16], elements: &[u8], buffer: 
     let k = cfg.k;
     let e = cfg.e;
     let mut table = [0u8; 1024];
-    crate::row::clear(buffer);
-    let mut r = 0;
-    while r < k {
+    buffer.fill(0);
+    for r in 0..k {
         let at = r * e;
         spread(k, r, inverse, &elements[at..at + e], &mut table, buffer);
-        r += 1;
     }
 }
 
@@ -95,10 +93,8 @@ fn spread(
 {
     let e = x.len();
     crate::row::multiply(x, table);
-    let mut i = 0;
-    while i < k {
+    for i in 0..k {
         let at = i * e;
         crate::row::add(&mut board[at..at + e], inverse[i][r], table);
-        i += 1;
     }
 }

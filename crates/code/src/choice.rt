@@ -3,44 +3,28 @@ ghost use Rattle.std.specs.Prelude.{◌≡◌, ◌<◌, length};
 ghost use Rattle.code.specs.inner.Choice.{GroupPost, chosen_lanes, column, halved, square_of};
 ghost use Rattle.code.specs.inner.Combine.{ChoicesOf};
 
+use std::array;
+
 // column r of the square
 fn column(square: &[[u8; 16]; 16], r: usize) -> [u8; 16]
     requires { r < 16 }
     ensures { result ≡ column square.now r }
 {
-    let mut c = [0u8; 16];
-    let mut i = 0;
-    while i < 16 {
-        c[i] = square[i][r];
-        i += 1;
-    }
-    c
+    array::from_fn(|i| square[i][r])
 }
 
 // each lane without its last digit
 fn halved(a: [u8; 16]) -> [u8; 16]
     ensures { result ≡ halved a }
 {
-    let mut r = [0u8; 16];
-    let mut i = 0;
-    while i < 16 {
-        r[i] = a[i] / 2;
-        i += 1;
-    }
-    r
+    a.map(|lane| lane / 2)
 }
 
 // in each lane the choice that the last digits of four make
 fn chosen(a: [u8; 16], b: [u8; 16], c: [u8; 16], d: [u8; 16]) -> [u8; 16]
     ensures { result ≡ chosen_lanes a b c d }
 {
-    let mut r = [0u8; 16];
-    let mut i = 0;
-    while i < 16 {
-        r[i] = a[i] % 2 + b[i] % 2 * 2 + c[i] % 2 * 4 + d[i] % 2 * 8;
-        i += 1;
-    }
-    r
+    array::from_fn(|i| a[i] % 2 + b[i] % 2 * 2 + c[i] % 2 * 4 + d[i] % 2 * 8)
 }
 
 // the choices of group g, digit by digit
@@ -52,8 +36,7 @@ fn group(g: usize, square: &[[u8; 16]; 16], choices: &mut [u8])
     let mut b = column(square, 4 * g + 1);
     let mut c = column(square, 4 * g + 2);
     let mut d = column(square, 4 * g + 3);
-    let mut digit = 0;
-    while digit < 8 {
+    for digit in 0..8 {
         let lanes = chosen(a, b, c, d);
         let at = 64 * digit + 16 * g;
         copies::copy(&lanes, &mut choices[at..at + 16]);
@@ -65,7 +48,6 @@ fn group(g: usize, square: &[[u8; 16]; 16], choices: &mut [u8])
         c = half;
         let half = halved(d);
         d = half;
-        digit += 1;
     }
 }
 
@@ -74,10 +56,8 @@ pub(crate) fn of(square: &[[u8; 16]; 16]) -> [u8; 512]
     ensures { ChoicesOf (square_of square.now) result }
 {
     let mut choices = [0u8; 512];
-    let mut g = 0;
-    while g < 4 {
+    for g in 0..4 {
         group(g, square, &mut choices);
-        g += 1;
     }
     choices
 }

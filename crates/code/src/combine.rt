@@ -5,6 +5,7 @@ ghost use Rattle.laws.specs.Bytes.{tabulate};
 ghost use Rattle.code.specs.inner.Combine.{CombinePost, CombinePre, EachPost, EachPre, OnePost, Small, Without, added, empty, last_byte, next};
 
 use config::Config;
+use std::array;
 
 // Where combinations go: so many, the first at the offset, each a distance from the one before.
 #[derive(Clone, Copy)]
@@ -19,11 +20,7 @@ fn empty(table: &[u8; 4096]) -> [u8; 64]
     ensures { result ≡ empty table.now }
 {
     let mut r = [0u8; 64];
-    let mut j = 0;
-    while j < 64 {
-        r[j] = table[j];
-        j += 1;
-    }
+    r.copy_from_slice(&table[..64]);
     r
 }
 
@@ -34,13 +31,7 @@ fn next(row: [u8; 64], v: u8, w: u8, table: &[u8; 4096]) -> [u8; 64]
 {
     let first = 64 * v as usize;
     let second = 1024 + 64 * w as usize;
-    let mut r = [0u8; 64];
-    let mut j = 0;
-    while j < 64 {
-        r[j] = field::double(row[j]) ^ (table[first + j] ^ table[second + j]);
-        j += 1;
-    }
-    r
+    array::from_fn(|j| field::double(row[j]) ^ (table[first + j] ^ table[second + j]))
 }
 
 // the row, plus a sum of the third group and one of the fourth
@@ -50,13 +41,7 @@ fn add(row: [u8; 64], v: u8, w: u8, table: &[u8; 4096]) -> [u8; 64]
 {
     let third = 2048 + 64 * v as usize;
     let fourth = 3072 + 64 * w as usize;
-    let mut r = [0u8; 64];
-    let mut j = 0;
-    while j < 64 {
-        r[j] = row[j] ^ (table[third + j] ^ table[fourth + j]);
-        j += 1;
-    }
-    r
+    array::from_fn(|j| row[j] ^ (table[third + j] ^ table[fourth + j]))
 }
 
 // Combination t by all digits but the last. It begins with the sum of no row.
@@ -65,9 +50,7 @@ fn upper(k: usize, t: usize, choices: &[u8; 512], table: &[u8; 4096]) -> [u8; 64
     ensures { Without k t choices.now table.now result 1 }
 {
     let mut row = empty(table);
-    let mut b = 8;
-    while 1 < b {
-        b -= 1;
+    for b in (1..8).rev() {
         let at = 64 * b + t;
         let more = next(row, choices[at], choices[at + 16], table);
         row = more;
@@ -88,11 +71,9 @@ fn last(row: [u8; 64], v: u8, w: u8, y: u8, z: u8, table: &[u8; 4096], part: &mu
     let second = 1024 + 64 * w as usize;
     let third = 2048 + 64 * y as usize;
     let fourth = 3072 + 64 * z as usize;
-    let mut j = 0;
-    while j < part.len() {
+    for j in 0..part.len() {
         let sum = table[first + j] ^ table[second + j] ^ table[third + j] ^ table[fourth + j];
         part[j] = field::double(row[j]) ^ sum;
-        j += 1;
     }
 }
 
@@ -125,11 +106,9 @@ fn each(
     requires { EachPre e choices.now places (length buffer.old) }
     ensures { EachPost k e choices.now table.now places buffer.old buffer.new }
 {
-    let mut t = 0;
-    while t < places.count {
+    for t in 0..places.count {
         let at = places.offset + t * places.distance;
         one(k, t, choices, table, &mut buffer[at..at + e]);
-        t += 1;
     }
 }
 

@@ -39,11 +39,9 @@ fn each(cfg: Config, board: &[u8], offset: usize, distance: usize, buffer: &mut 
     ensures { buffer.new ≡ with_elements cfg board.now offset distance buffer.old }
 {
     let e = cfg.e;
-    let mut t = 0;
-    while t < cfg.n {
+    for t in 0..cfg.n {
         let at = offset + t * distance;
-        t += 1;
-        one(cfg, board, t as u8, &mut buffer[at..at + e]);
+        one(cfg, board, t as u8 + 1, &mut buffer[at..at + e]);
     }
 }
 

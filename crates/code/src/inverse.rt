@@ -5,31 +5,21 @@ ghost use Rattle.std.specs.Prelude.{◌≡◌, ℕ, ◌<◌, ◌≤◌, get_or, 
 ghost use Rattle.field.specs.Field.{inverse_of};
 ghost use Rattle.code.specs.inner.Lanes.{InvertPost, ScalePost, AdvancePre, InvertPre, advanced, first_roots, numbers, rooted_once, scaled_lanes};
 
+use std::array;
+
 // in each lane s times x, plus c
 fn advance(x: [u8; 16], s: [u8; 16], c: [u8; 16]) -> [u8; 16]
     requires { AdvancePre s }
     ensures { result ≡ advanced x s c }
 {
-    let mut r = [0u8; 16];
-    let mut t = 0;
-    while t < 16 {
-        r[t] = c[t] ^ crate::digit::small(s[t], x[t]);
-        t += 1;
-    }
-    r
+    array::from_fn(|t| c[t] ^ crate::digit::small(s[t], x[t]))
 }
 
 // in each lane d times x
 fn multiply(x: [u8; 16], d: [u8; 16]) -> [u8; 16]
     ensures { result ≡ scaled_lanes x d }
 {
-    let mut r = [0u8; 16];
-    let mut t = 0;
-    while t < 16 {
-        r[t] = crate::digit::product(d[t], x[t]);
-        t += 1;
-    }
-    r
+    array::from_fn(|t| crate::digit::product(d[t], x[t]))
 }
 
 // the first 16 coefficients of (x + s) p
@@ -38,11 +28,7 @@ fn root(p: [u8; 16], s: u8) -> [u8; 16]
     ensures { result ≡ rooted_once p s }
 {
     let mut below = [0u8; 16];
-    let mut i = 1;
-    while i < 16 {
-        below[i] = p[i - 1];
-        i += 1;
-    }
+    below[1..].copy_from_slice(&p[..15]);
     let each = [s; 16];
     advance(p, each, below)
 }
@@ -55,11 +41,8 @@ fn roots(k: usize, servers: &[u8]) -> [u8; 16]
     let mut p = [0u8; 16];
     p[0] = servers[0];
     p[1] = 1;
-    let mut r = 1;
-    while r < k {
-        let q = root(p, servers[r]);
-        p = q;
-        r += 1;
+    for s in &servers[1..k] {
+        p = root(p, *s);
     }
     p
 }
@@ -70,11 +53,7 @@ fn lanes(k: usize, servers: &[u8]) -> [u8; 16]
     ensures { result ≡ numbers k servers.now }
 {
     let mut s = [0u8; 16];
-    let mut r = 0;
-    while r < k {
-        s[r] = servers[r];
-        r += 1;
-    }
+    s[..k].copy_from_slice(&servers[..k]);
     s
 }
 
@@ -84,10 +63,8 @@ fn inverted(k: usize, v: [u8; 16]) -> [u8; 16]
     ensures { (i : ℕ) → i < k → get_or result i 0 ≡ inverse_of (get_or v i 0) }
 {
     let mut d = [0u8; 16];
-    let mut r = 0;
-    while r < k {
+    for r in 0..k {
         d[r] = field::inverse(v[r]);
-        r += 1;
     }
     d
 }
@@ -101,13 +78,11 @@ pub(crate) fn invert(k: usize, servers: &[u8]) -> [[u8; 16]; 16]
     let mut inverse = [[0u8; 16]; 16];
     let mut q = [1u8; 16];
     let mut v = [1u8; 16];
-    let mut i = k - 1;
-    inverse[i] = q;
-    while 0 < i {
-        let c = [p[i]; 16];
+    inverse[k - 1] = q;
+    for i in (0..k - 1).rev() {
+        let c = [p[i + 1]; 16];
         let w = advance(q, s, c);
         q = w;
-        i -= 1;
         inverse[i] = q;
         let w = advance(v, s, q);
         v = w;
@@ -121,10 +96,7 @@ fn scale(k: usize, d: [u8; 16], rows: &mut [[u8; 16]; 16])
     requires { (k ≤ 16) × (length rows.old ≡ 16) }
     ensures { ScalePost k d rows.old rows.new }
 {
-    let mut i = 0;
-    while i < k {
-        let row = multiply(rows[i], d);
-        rows[i] = row;
-        i += 1;
+    for i in 0..k {
+        rows[i] = multiply(rows[i], d);
     }
 }

@@ -6,7 +6,7 @@ ghost use Rattle.code.specs.Decode.{DecodePost};
 ghost use Rattle.code.specs.Encode.{EncodePost};
 ghost use Rattle.code.specs.EncodeAll.{EncodeAllPost};
 
-use config::{Config, Verdict};
+use config::{Config, Refusal};
 
 mod board;
 mod choice;
@@ -22,15 +22,12 @@ mod subsets;
 
 // The element of server s of a board, into a lent part of E bytes. The part may start anywhere in the caller's buffer, and the bytes
 // around it stay: specs/Around.
-pub fn encode(cfg: Config, board: &[u8], s: u8, part: &mut [u8]) -> Verdict
+pub fn encode(cfg: Config, board: &[u8], s: u8, part: &mut [u8]) -> Result<(), Refusal>
     ensures { EncodePost cfg board.now s part.old part.new result }
 {
-    let no = question::encode(cfg, board.len(), s, part.len());
-    if no != 0 {
-        return Verdict::of(no);
-    }
+    question::encode(cfg, board.len(), s, part.len())?;
     element::encode(cfg, board, s, part);
-    Verdict::Accepted
+    Ok(())
 }
 
 // The elements of all servers of a board, into a lent buffer of N records of `distance` bytes: each element stands `offset` bytes behind the
@@ -41,26 +38,25 @@ pub fn encode_all(
     offset: usize,
     distance: usize,
     buffer: &mut [u8],
-) -> Verdict
+) -> Result<(), Refusal>
     ensures { EncodeAllPost cfg board.now offset distance buffer.old buffer.new result }
 {
-    let no = question::encode_all(cfg, board.len(), offset, distance, buffer.len());
-    if no != 0 {
-        return Verdict::of(no);
-    }
+    question::encode_all(cfg, board.len(), offset, distance, buffer.len())?;
     elements::encode(cfg, board, offset, distance, buffer);
-    Verdict::Accepted
+    Ok(())
 }
 
 // The board of which the first k of these servers hold these elements, into a buffer of V bytes. The elements stand one after
 // the other.
-pub fn decode(cfg: Config, servers: &[u8], elements: &[u8], buffer: &mut [u8]) -> Verdict
+pub fn decode(
+    cfg: Config,
+    servers: &[u8],
+    elements: &[u8],
+    buffer: &mut [u8],
+) -> Result<(), Refusal>
     ensures { DecodePost cfg servers.now elements.now buffer.old buffer.new result }
 {
-    let no = question::decode(cfg, servers, elements.len(), buffer.len());
-    if no != 0 {
-        return Verdict::of(no);
-    }
+    question::decode(cfg, servers, elements.len(), buffer.len())?;
     board::decode(cfg, servers, elements, buffer);
-    Verdict::Accepted
+    Ok(())
 }

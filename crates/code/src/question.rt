@@ -1,30 +1,28 @@
-// The questions of the three calls: the number of the first that is answered no, or 0.
+// The questions of the three calls: the first that is answered no is the refusal.
 ghost use Rattle.std.specs.Prelude.{◌≡◌, ◌*◌, ◌≤◌, eqb};
 ghost use Rattle.config.specs.Questions.{first_no};
+ghost use Rattle.config.specs.Refusal.{verdict_number};
 ghost use Rattle.code.specs.Encode.{encode_questions};
 ghost use Rattle.code.specs.EncodeAll.{encode_all_questions};
 ghost use Rattle.code.specs.Decode.{decode_questions};
 ghost use Rattle.code.specs.Decoded.{rising};
 
-use config::Config;
+use config::{Config, Refusal};
 
-pub(crate) fn encode(cfg: Config, board: usize, s: u8, part: usize) -> u8
-    ensures { result ≡ first_no (encode_questions cfg board s part) }
+pub(crate) fn encode(cfg: Config, board: usize, s: u8, part: usize) -> Result<(), Refusal>
+    ensures { verdict_number result ≡ first_no (encode_questions cfg board s part) }
 {
-    let no = cfg.ask();
-    if no != 0 {
-        return no;
-    }
+    cfg.ask()?;
     if board != cfg.k * cfg.e {
-        return 6;
+        return Err(Refusal::Shape);
     }
     if part != cfg.e {
-        return 6;
+        return Err(Refusal::Shape);
     }
     if !cfg.server_exists(s as usize) {
-        return 18;
+        return Err(Refusal::Elements);
     }
-    0
+    Ok(())
 }
 
 pub(crate) fn encode_all(
@@ -33,48 +31,47 @@ pub(crate) fn encode_all(
     offset: usize,
     distance: usize,
     buffer: usize,
-) -> u8
-    ensures { result ≡ first_no (encode_all_questions cfg board offset distance buffer) }
+) -> Result<(), Refusal>
+    ensures { verdict_number result ≡ first_no (encode_all_questions cfg board offset distance buffer) }
 {
-    let no = cfg.ask();
-    if no != 0 {
-        return no;
-    }
+    cfg.ask()?;
     if cfg.k * cfg.e != board {
-        return 6;
+        return Err(Refusal::Shape);
     }
     if distance < cfg.e {
-        return 6;
+        return Err(Refusal::Shape);
     }
     if distance - cfg.e < offset {
-        return 6;
+        return Err(Refusal::Shape);
     }
     if !joined(distance, cfg.n, buffer) {
-        return 6;
+        return Err(Refusal::Shape);
     }
-    0
+    Ok(())
 }
 
-pub(crate) fn decode(cfg: Config, servers: &[u8], elements: usize, buffer: usize) -> u8
-    ensures { result ≡ first_no (decode_questions cfg servers.now elements buffer) }
+pub(crate) fn decode(
+    cfg: Config,
+    servers: &[u8],
+    elements: usize,
+    buffer: usize,
+) -> Result<(), Refusal>
+    ensures { verdict_number result ≡ first_no (decode_questions cfg servers.now elements buffer) }
 {
-    let no = cfg.ask();
-    if no != 0 {
-        return no;
-    }
+    cfg.ask()?;
     if !joined(servers.len(), cfg.e, elements) {
-        return 6;
+        return Err(Refusal::Shape);
     }
     if buffer != cfg.k * cfg.e {
-        return 6;
+        return Err(Refusal::Shape);
     }
     if !rising(cfg.n, servers) {
-        return 17;
+        return Err(Refusal::NotRising);
     }
     if servers.len() < cfg.k {
-        return 18;
+        return Err(Refusal::Elements);
     }
-    0
+    Ok(())
 }
 
 // whether count × e is the total
@@ -96,9 +93,8 @@ fn rising(n: usize, servers: &[u8]) -> bool
     ensures { result ≡ rising n servers.now }
 {
     let mut low = 0;
-    let mut r = 0;
-    while r < servers.len() {
-        let s = servers[r] as usize;
+    for server in servers {
+        let s = *server as usize;
         if s <= low {
             return false;
         }
@@ -106,7 +102,6 @@ fn rising(n: usize, servers: &[u8]) -> bool
             return false;
         }
         low = s;
-        r += 1;
     }
     true
 }

@@ -1,7 +1,7 @@
 // Rows of E bytes: a step of Horner's rule, the value of few rows, and the multiples of an element and their sums.
 ghost use Rattle.std.specs.Prelude.{◌≡◌, ℕ, ◌<◌, ◌≤◌, List, [], ◌∷◌, length};
 ghost use Rattle.laws.specs.Bytes.{tabulate};
-ghost use Rattle.code.specs.inner.Row.{added, stepped, value_at, zeros};
+ghost use Rattle.code.specs.inner.Row.{added, stepped, value_at};
 ghost use Rattle.code.specs.inner.Table.{MultiplyPost, PlacePost, Ready};
 
 // s times the row, plus another: one step of Horner's rule
@@ -9,10 +9,8 @@ pub(crate) fn step(row: &mut [u8], s: u8, more: &[u8])
     requires { ((1 ≤ s) × (s ≤ 16)) × (length row.old ≡ length more.now) }
     ensures { row.new ≡ stepped row.old s more.now }
 {
-    let mut j = 0;
-    while j < more.len() {
-        row[j] = more[j] ^ crate::digit::by_server(row[j], s);
-        j += 1;
+    for (j, x) in row.iter_mut().enumerate() {
+        *x = more[j] ^ crate::digit::by_server(*x, s);
     }
 }
 
@@ -21,10 +19,8 @@ pub(crate) fn two(s: u8, a: &[u8], b: &[u8], part: &mut [u8])
     requires { (s < 8) × (length a.now ≡ length part.old) × (length b.now ≡ length part.old) }
     ensures { part.new ≡ tabulate (length part.old) (value_at (a.now ∷ b.now ∷ []) s) }
 {
-    let mut j = 0;
-    while j < part.len() {
+    for j in 0..part.len() {
         part[j] = a[j] ^ crate::digit::tiny(s, b[j]);
-        j += 1;
     }
 }
 
@@ -33,11 +29,9 @@ pub(crate) fn three(s: u8, a: &[u8], b: &[u8], c: &[u8], part: &mut [u8])
     requires { (s < 8) × (length a.now ≡ length part.old) × (length b.now ≡ length part.old) × (length c.now ≡ length part.old) }
     ensures { part.new ≡ tabulate (length part.old) (value_at (a.now ∷ b.now ∷ c.now ∷ []) s) }
 {
-    let mut j = 0;
-    while j < part.len() {
+    for j in 0..part.len() {
         let top = b[j] ^ crate::digit::tiny(s, c[j]);
         part[j] = a[j] ^ crate::digit::tiny(s, top);
-        j += 1;
     }
 }
 
@@ -46,12 +40,10 @@ pub(crate) fn four(s: u8, a: &[u8], b: &[u8], c: &[u8], d: &[u8], part: &mut [u8
     requires { (s < 8) × (length a.now ≡ length part.old) × (length b.now ≡ length part.old) × (length c.now ≡ length part.old) × (length d.now ≡ length part.old) }
     ensures { part.new ≡ tabulate (length part.old) (value_at (a.now ∷ b.now ∷ c.now ∷ d.now ∷ []) s) }
 {
-    let mut j = 0;
-    while j < part.len() {
+    for j in 0..part.len() {
         let top = c[j] ^ crate::digit::tiny(s, d[j]);
         let mid = b[j] ^ crate::digit::tiny(s, top);
         part[j] = a[j] ^ crate::digit::tiny(s, mid);
-        j += 1;
     }
 }
 
@@ -87,10 +79,8 @@ pub(crate) fn multiply(x: &[u8], table: &mut [u8])
     requires { Ready table.old × (length x.now ≤ 64) }
     ensures { MultiplyPost x.now table.new }
 {
-    let mut j = 0;
-    while j < x.len() {
-        place(j, x[j], table);
-        j += 1;
+    for (j, byte) in x.iter().enumerate() {
+        place(j, *byte, table);
     }
 }
 
@@ -103,21 +93,8 @@ pub(crate) fn add(row: &mut [u8], c: u8, table: &[u8])
     let at1 = 256 + 64 * (c / 4 % 4) as usize;
     let at2 = 512 + 64 * (c / 16 % 4) as usize;
     let at3 = 768 + 64 * (c / 64) as usize;
-    let mut j = 0;
-    while j < row.len() {
+    for j in 0..row.len() {
         let sum = table[at3 + j] ^ table[at2 + j] ^ table[at1 + j] ^ table[at0 + j];
-        row[j] = row[j] ^ sum;
-        j += 1;
-    }
-}
-
-// a row of zeros
-pub(crate) fn clear(row: &mut [u8])
-    ensures { row.new ≡ zeros (length row.old) }
-{
-    let mut j = 0;
-    while j < row.len() {
-        row[j] = 0;
-        j += 1;
+        row[j] ^= sum;
     }
 }

@@ -32,10 +32,8 @@ fn group(e: usize, x: &[u8], table: &mut [u8])
     requires { Ready table.old × (e ≤ 64) × (length x.now ≡ 4 * e) }
     ensures { GroupPost e x.now table.new }
 {
-    let mut j = 0;
-    while j < e {
+    for j in 0..e {
         place(j, x[j], x[e + j], x[2 * e + j], x[3 * e + j], table);
-        j += 1;
     }
 }
 
@@ -44,11 +42,9 @@ pub(crate) fn fill(e: usize, rows: &[u8], table: &mut [u8])
     requires { (e ≤ 64) × (length rows.now ≡ 1024) × (table.old ≡ replicate 4096 0) }
     ensures { FillPost e rows.now table.new }
 {
-    let mut g = 0;
-    while g < 4 {
+    for g in 0..4 {
         let at = 4 * e * g;
         let to = 1024 * g;
         group(e, &rows[at..at + 4 * e], &mut table[to..to + 1024]);
-        g += 1;
     }
 }

@@ -1,4 +1,5 @@
-mod Number
+pub mod Exits
+pub mod Number
 pub mod OwnersWithin
 pub mod Questions
 pub mod Refusals

@@ -3,12 +3,12 @@ use mathlib.Core.Path.{◌≡◌, refl, sym, ◌∙◌, subst}
 use mathlib.Core.Bool.{Bool, true, false, cond}
 use mathlib.Core.List.{List}
 use Prim.Native.Nat.{ℕ, min, ◌≤◌}
+use Rattle.std.proofs.Common.{Result, Ok, Err}
 use native.Mathlib.Omega.{arith}
 use borrow.Author.Tests.{ne_eqb}
 use lib.Dec.{eqb}
 use Rattle.config.specs.declared.Refusal.{Refusal}
 use Rattle.config.specs.declared.Refusal.TheVariants.{Servers, Threshold, Depth, Width, Clients, Shape, Event, Missing, UpOrDown, Busy, Exhausted, IllFormed, Full, NotAwaited, Misdirected, NotRising, Elements, Length, Seed, Rank, Boards, Contradiction, Saved, Sources, Right, Errors, Uncorrectable}
-use Rattle.config.specs.declared.Verdict.{Verdict}
 use Rattle.config.specs.Questions.{Question, first_no, is_question, last_question, numbered}
 use Rattle.config.specs.Refusal.{clamped, passing15, refusal_number, verdict_number}
 use Rattle.config.proofs.Questions.{Given, first_no_given, question_not_15, question_within, within_low}
@@ -45,13 +45,17 @@ refusal_question Uncorrectable = refl
 pub refusal_low : (why : Refusal) → 1 ≤ refusal_number why
 refusal_low why = within_low 1 last_question (refusal_number why) (question_within (refusal_number why) (refusal_question why))
 
+-- a refusal's number is not 0, nor is one that equals it
+pub refusal_some : (why : Refusal) {n : ℕ} → refusal_number why ≡ n → (refusal_number why ≡ 0 → ⊥) × (n ≡ 0 → ⊥)
+refusal_some why e = (λ z. omega (arith, refusal_low why, z), λ z. omega (arith, refusal_low why, e ∙ z))
+
 -- "Number 15 is no longer given.": no refusal has it, and so no verdict
 pub refusal_not_15 : (why : Refusal) → refusal_number why ≡ 15 → ⊥
 refusal_not_15 why = question_not_15 (refusal_number why) (refusal_question why)
 
-pub verdict_not_15 : (v : Verdict) → verdict_number v ≡ 15 → ⊥
-verdict_not_15 Verdict.Accepted e = omega arith
-verdict_not_15 (Verdict.No why) e = refusal_not_15 why e
+pub verdict_not_15 : {T : Type 0} (v : Result T Refusal) → verdict_number v ≡ 15 → ⊥
+verdict_not_15 (Ok given) e = omega arith
+verdict_not_15 (Err why) e = refusal_not_15 why e
 
 -- any other number than 15 stays
 pub passing_other : (x : ℕ) → (x ≡ 15 → ⊥) → passing15 x ≡ x

@@ -1,8 +1,7 @@
 -- The numbers of refusals: documents 01's and 02's questions, by number.
-use Rattle.std.specs.Prelude.{ℕ, min, max, cond, eqb}
+use Rattle.std.specs.Prelude.{ℕ, min, max, cond, eqb, Result, Ok, Err}
 use Rattle.config.specs.declared.Refusal.{Refusal}
 use Rattle.config.specs.declared.Refusal.TheVariants.{Servers, Threshold, Depth, Width, Clients, Shape, Event, Missing, UpOrDown, Busy, Exhausted, IllFormed, Full, NotAwaited, Misdirected, NotRising, Elements, Length, Seed, Rank, Boards, Contradiction, Saved, Sources, Right, Errors, Uncorrectable}
-use Rattle.config.specs.declared.Verdict.{Verdict}
 use Rattle.config.specs.Questions.{last_question}
 
 -- the number of a refusal
@@ -43,7 +42,11 @@ passing15 x = cond (eqb x 15) 16 x
 abbrev pub clamped : ℕ → ℕ
 clamped x = max 1 (min (passing15 x) last_question)
 
--- the number of a verdict: 0 where nothing was refused
-abbrev pub verdict_number : Verdict → ℕ
-verdict_number Verdict.Accepted = 0
-verdict_number (Verdict.No why) = refusal_number why
+-- the answer of a call that gives nothing else back
+abbrev pub Verdict : Type 0
+Verdict = Result (Unit {0}) Refusal
+
+-- the number of an answer that may be a refusal: 0 where nothing was refused
+abbrev pub verdict_number : {T : Type 0} → Result T Refusal → ℕ
+verdict_number (Ok given) = 0
+verdict_number (Err why) = refusal_number why

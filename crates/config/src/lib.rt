@@ -71,45 +71,39 @@ pub const LEAST: Config = Config {
 };
 
 impl Config {
-    // Questions 1 to 5 and 21: the number of the first that is answered no, or 0.
-    pub fn ask(self) -> u8
-        ensures { result ≡ first_no (questions self) }
+    // Questions 1 to 5 and 21: the first that is answered no is the refusal.
+    pub fn ask(self) -> Result<(), Refusal>
+        ensures { verdict_number result ≡ first_no (questions self) }
     {
         self.ask_rig(1)
     }
 
     // The same as the rig puts them: question 5 is of C and of M, the most messages in flight.
-    pub fn ask_rig(self, m: usize) -> u8
-        ensures { result ≡ first_no (rig_questions self m) }
+    pub fn ask_rig(self, m: usize) -> Result<(), Refusal>
+        ensures { verdict_number result ≡ first_no (rig_questions self m) }
     {
-        let no = to_five(self);
-        if no != 0 {
-            return no;
-        }
+        to_five(self)?;
         if !within(1, MOST_MESSAGES, m) {
-            return 5;
+            return Err(Refusal::Clients);
         }
         if !ranks_within(self) {
-            return 21;
+            return Err(Refusal::Rank);
         }
-        0
+        Ok(())
     }
 
     // Questions 1 to 5, 21 and 22 as the rig puts them: 22 is of the boards and of their shares of the messages.
-    pub fn ask_room(self, room: Room) -> u8
-        ensures { result ≡ first_no (room_questions self room) }
+    pub fn ask_room(self, room: Room) -> Result<(), Refusal>
+        ensures { verdict_number result ≡ first_no (room_questions self room) }
     {
-        let asked = self.ask_rig(room.m);
-        if asked != 0 {
-            return asked;
-        }
+        self.ask_rig(room.m)?;
         if !within(1, MOST_BOARDS, room.boards) {
-            return 22;
+            return Err(Refusal::Boards);
         }
         if !shares_fit(room) {
-            return 22;
+            return Err(Refusal::Boards);
         }
-        0
+        Ok(())
     }
 
     // The rank of a client; 0 where there is none of this number.
@@ -152,7 +146,7 @@ impl Config {
     pub fn lengths(self, m: usize) -> Lengths
         ensures { result ≡ lengths_of self m }
     {
-        if self.ask() != 0 {
+        let Ok(()) = self.ask() else {
             return Lengths {
                 board: 0,
                 store: 0,
@@ -160,7 +154,7 @@ impl Config {
                 elements: 0,
                 messages: 0,
             };
-        }
+        };
         Lengths {
             board: self.k * self.e,
             store: (self.d + 1) * self.e,
@@ -193,25 +187,25 @@ pub struct Lengths {
 }
 
 // Questions 1 to 5.
-fn to_five(cfg: Config) -> u8
-    ensures { result ≡ first_no (questions_to5 cfg) }
+fn to_five(cfg: Config) -> Result<(), Refusal>
+    ensures { verdict_number result ≡ first_no (questions_to5 cfg) }
 {
     if !within(1, MOST_SERVERS, cfg.n) {
-        return 1;
+        return Err(Refusal::Servers);
     }
     if !within(1, cfg.n, cfg.k) {
-        return 2;
+        return Err(Refusal::Threshold);
     }
     if MOST_DEPTH < cfg.d {
-        return 3;
+        return Err(Refusal::Depth);
     }
     if !within(1, MOST_WIDTH, cfg.e) {
-        return 4;
+        return Err(Refusal::Width);
     }
     if !within(1, MOST_CLIENTS, cfg.c) {
-        return 5;
+        return Err(Refusal::Clients);
     }
-    0
+    Ok(())
 }
 
 // Question 21: whether the rank of each client, 1 to C, is at most 3.
@@ -219,12 +213,10 @@ fn ranks_within(cfg: Config) -> bool
     requires { cfg.c ≤ most_clients }
     ensures { result ≡ ranks_within cfg }
 {
-    let mut i = 0;
-    while i < cfg.c {
-        if HIGHEST_RANK < cfg.ranks[i] {
+    for rank in &cfg.ranks[..cfg.c] {
+        if HIGHEST_RANK < *rank {
             return false;
         }
-        i += 1;
     }
     true
 }
@@ -235,30 +227,24 @@ fn shares_fit(room: Room) -> bool
     ensures { result ≡ leb (shares_sum room) room.m }
 {
     let mut left = room.m;
-    let mut board = 0;
-    while board < room.boards {
-        let share = room.shares[board];
-        if left < share {
+    for share in &room.shares[..room.boards] {
+        if left < *share {
             return false;
         }
-        left -= share;
-        board += 1;
+        left -= *share;
     }
     true
 }
 
 // Questions 1 to 5 and 21, and one more: is x within 1 to `high`?
-fn ask_then(cfg: Config, number: u8, high: usize, x: usize) -> u8
-    ensures { result ≡ first_no (questions cfg ++ question number (inside 1 high x) ∷ []) }
+fn ask_then(cfg: Config, why: Refusal, high: usize, x: usize) -> Result<(), Refusal>
+    ensures { verdict_number result ≡ first_no (questions cfg ++ question (refusal_number why) (inside 1 high x) ∷ []) }
 {
-    let no = cfg.ask();
-    if no != 0 {
-        return no;
-    }
+    cfg.ask()?;
     if !within(1, high, x) {
-        return number;
+        return Err(why);
     }
-    0
+    Ok(())
 }
 
 // low ≤ x ≤ high
@@ -272,11 +258,11 @@ fn within(low: usize, high: usize, x: usize) -> bool
 }
 
 // A server's number, 1 to N of the configuration that it was made for.
-#[derive(Clone, Copy)]
+#[derive(Clone, Copy, PartialEq, Eq, Debug)]
 pub struct Server(u8);
 
 // A client's number, 1 to C of the configuration that it was made for.
-#[derive(Clone, Copy)]
+#[derive(Clone, Copy, PartialEq, Eq, Debug)]
 pub struct Client(u8);
 
 // The first server, which every configuration has.
@@ -285,28 +271,13 @@ pub const FIRST_SERVER: Server = Server(1);
 // The first client, which every configuration has.
 pub const FIRST_CLIENT: Client = Client(1);
 
-#[derive(Clone, Copy)]
-pub enum NewServer {
-    Made(Server),
-    No(Refusal),
-}
-
-#[derive(Clone, Copy)]
-pub enum NewClient {
-    Made(Client),
-    No(Refusal),
-}
-
 impl Server {
     // The server of a number: questions 1 to 5, 21, and 8, whether it exists.
-    pub fn new(cfg: Config, s: u8) -> NewServer
+    pub fn new(cfg: Config, s: u8) -> Result<Server, Refusal>
         ensures { NewServerPost cfg s result }
     {
-        let no = ask_then(cfg, 8, cfg.n, s as usize);
-        if no != 0 {
-            return NewServer::No(Refusal::of(no));
-        }
-        NewServer::Made(Server(s))
+        ask_then(cfg, Refusal::Missing, cfg.n, s as usize)?;
+        Ok(Server(s))
     }
 
     pub fn number(self) -> u8
@@ -318,14 +289,11 @@ impl Server {
 
 impl Client {
     // The client of a number: questions 1 to 5, 21, and 8, whether it exists.
-    pub fn new(cfg: Config, c: u8) -> NewClient
+    pub fn new(cfg: Config, c: u8) -> Result<Client, Refusal>
         ensures { NewClientPost cfg c result }
     {
-        let no = ask_then(cfg, 8, cfg.c, c as usize);
-        if no != 0 {
-            return NewClient::No(Refusal::of(no));
-        }
-        NewClient::Made(Client(c))
+        ask_then(cfg, Refusal::Missing, cfg.c, c as usize)?;
+        Ok(Client(c))
     }
 
     pub fn number(self) -> u8
@@ -337,7 +305,7 @@ impl Client {
 
 // What the questions are about: a refusal names the first that was answered no. 1 to 18, without 15, are document 01's; 19 to 28 are document
 // 02's.
-#[derive(Clone, Copy)]
+#[derive(Clone, Copy, PartialEq, Eq, Debug)]
 pub enum Refusal {
     // 1: N is out of range.
     Servers,
@@ -475,31 +443,22 @@ impl Refusal {
     }
 }
 
-// The answer of a call that gives nothing else back.
-#[derive(Clone, Copy)]
-pub enum Verdict {
-    Accepted,
-    No(Refusal),
+// The verdict of a refusal's number, or of 0.
+pub fn verdict_of(no: u8) -> Result<(), Refusal>
+    ensures { verdict_number result ≡ min (passing15 no) last_question }
+{
+    if no == 0 {
+        return Ok(());
+    }
+    Err(Refusal::of(no))
 }
 
-impl Verdict {
-    // The verdict of a refusal's number, or of 0.
-    pub fn of(no: u8) -> Verdict
-        ensures { verdict_number result ≡ min (passing15 no) last_question }
-    {
-        if no == 0 {
-            return Verdict::Accepted;
-        }
-        Verdict::No(Refusal::of(no))
-    }
-
-    // A refusal's number, or 0.
-    pub fn number(self) -> u8
-        ensures { result ≡ verdict_number self }
-    {
-        match self {
-            Verdict::Accepted => 0,
-            Verdict::No(why) => why.number(),
-        }
+// The number of a verdict: a refusal's, or 0.
+pub fn verdict_number(verdict: Result<(), Refusal>) -> u8
+    ensures { result ≡ verdict_number verdict }
+{
+    match verdict {
+        Ok(()) => 0,
+        Err(why) => why.number(),
     }
 }

@@ -1,10 +1,11 @@
 -- Document 02, L3: the seed, the draws, and question 20.
-use Rattle.std.specs.Prelude.{ℕ, ◌*◌, ◌/◌, ◌%◌, ◌^◌, not, List, [], ◌∷◌, eqb}
+use Rattle.std.specs.Prelude.{ℕ, ◌*◌, ◌/◌, ◌%◌, ◌^◌, not, List, [], ◌∷◌, eqb, Result, Ok, Err}
 use Rattle.std.specs.Int.Bits.{bit_xor}
 use Rattle.config.specs.Number as number
 use Rattle.config.specs.Questions.{Question, ask}
-use Rattle.config.specs.Refusal.{refusal_number}
-use Rattle.draws.specs.declared.NewGenerator.{NewGenerator}
+use Rattle.config.specs.Refusal.{verdict_number}
+use Rattle.config.specs.declared.Refusal.{Refusal}
+use Rattle.draws.specs.declared.Generator.{Generator}
 use Rattle.draws.specs.declared.Next.{Next}
 
 -- "a stated seed, 2,463,534,242 when none is given"
@@ -34,15 +35,14 @@ after x = record { draw = x; generator = record { 0 = x } }
 abbrev pub seed_questions : ℕ → List Question
 seed_questions seed = ask 20 (not (eqb seed 0)) ∷ []
 
--- the number of the constructor's answer, and what it made wraps
-abbrev pub new_generator_number : NewGenerator → ℕ
-new_generator_number (NewGenerator.Made g) = 0
-new_generator_number (NewGenerator.No why) = refusal_number why
+-- the answer of the constructor, and what it made wraps: 0 where it made none
+abbrev pub NewGenerator : Type 0
+NewGenerator = Result Generator Refusal
 
 abbrev pub generator_made : NewGenerator → ℕ
-generator_made (NewGenerator.Made g) = g.0
-generator_made (NewGenerator.No why) = 0
+generator_made (Ok g) = g.0
+generator_made (Err why) = 0
 
 -- a generator is made exactly of a seed that passes, and wraps it
 abbrev pub NewGeneratorPost : ℕ → NewGenerator → Type 0
-NewGeneratorPost seed r = number.NewPost (seed_questions seed) seed (new_generator_number r) (generator_made r)
+NewGeneratorPost seed r = number.NewPost (seed_questions seed) seed (verdict_number r) (generator_made r)

@@ -8,17 +8,11 @@ ghost use Rattle.draws.specs.Draws.{NewGeneratorPost, after, default_seed, draw}
 use config::Refusal;
 
 // The seed, or the last draw.
-#[derive(Clone, Copy)]
+#[derive(Clone, Copy, PartialEq, Eq, Debug)]
 pub struct Generator(u32);
 
-#[derive(Clone, Copy)]
-pub enum NewGenerator {
-    Made(Generator),
-    No(Refusal),
-}
-
 // A draw, and the generator that goes on from it.
-#[derive(Clone, Copy)]
+#[derive(Clone, Copy, PartialEq, Eq, Debug)]
 pub struct Next {
     pub draw: u32,
     pub generator: Generator,
@@ -29,13 +23,13 @@ impl Generator {
     pub const DEFAULT_SEED: u32 = 2_463_534_242;
 
     // The generator of a seed: question 20, whether it is other than 0.
-    pub fn new(seed: u32) -> NewGenerator
+    pub fn new(seed: u32) -> Result<Generator, Refusal>
         ensures { NewGeneratorPost seed result }
     {
         if seed == 0 {
-            return NewGenerator::No(Refusal::Seed);
+            return Err(Refusal::Seed);
         }
-        NewGenerator::Made(Generator(seed))
+        Ok(Generator(seed))
     }
 
     // The generator of the default seed, where none is given.

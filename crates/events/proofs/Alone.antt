@@ -1,6 +1,6 @@
 -- Events 6, 7 and 8 by themselves. Assumes nothing.
 use Prim.Native.Nat.{ℕ}
-use mathlib.Core.Path.{◌≡◌, sym, ap, ap₂, subst, ◌∙◌}
+use mathlib.Core.Path.{◌≡◌, sym, ap, ap₂, ◌∙◌}
 use mathlib.Core.Bool.{Bool, true, ◌&&◌}
 use mathlib.Core.List.{List, []}
 use native.Mathlib.Omega.{arith}
@@ -11,9 +11,9 @@ use Rattle.config.specs.declared.Config.{Config}
 use Rattle.config.specs.declared.Refusal.{Refusal}
 use Rattle.config.specs.Config.{rig_questions}
 use Rattle.config.specs.Questions.{first_no}
-use Rattle.config.specs.Refusal.{clamped, refusal_number}
-use Rattle.config.proofs.Questions.{Given, last_all, last_yes, rig_questions_numbered}
-use Rattle.config.proofs.Refusals.{refusal_given}
+use Rattle.config.specs.Refusal.{refusal_number}
+use Rattle.config.proofs.Questions.{last_all, last_yes, rig_questions_numbered}
+use Rattle.config.proofs.Refusals.{refusal_some}
 use Rattle.protocol.specs.Board.{refused}
 use Rattle.parties.specs.Acts.{answer_of}
 use Rattle.events.specs.declared.Call.{Call}
@@ -25,7 +25,6 @@ use Rattle.events.specs.Questions.{all_sized, has_places, part_within, places_of
 use Rattle.events.specs.Calls.{AloneChangePost, called, alone_no, alone_within}
 use Rattle.events.specs.inner.CrashOrRestart.{BarePost}
 use Rattle.events.specs.inner.Part.{Names, refusing}
-use Rattle.events.proofs.Entry.{six_given}
 
 -- what stands in the messages says only of event 3 which places it names
 pub places_any : (cfg : Config) (n k : ℕ) (a : Call) (xs ys : List ℕ) → (a.code ≡ 3 → ⊥) → places_of cfg n a xs ≡ places_of cfg k a ys
@@ -70,16 +69,15 @@ module _ (cfg : Config) (m : ℕ) (p : Part) (a : Call) where
         }
 
   -- one of them is answered no
-  pub alone_refused : {x : Change} {got : ℕ} → got ≡ alone_no cfg m p a → (got ≡ 0 → ⊥) → {why : Refusal} → refusal_number why ≡ clamped got → x ≡ refusing why p
+  pub alone_refused : {x : Change} (why : Refusal) → refusal_number why ≡ alone_no cfg m p a → x ≡ refusing why p
       → AloneChangePost cfg m p a x
-  alone_refused {x} {got} e ne {why} number is =
+  alone_refused {x} why e is =
       record {
         server = ap (λ (z : Change). z.part.server) is;
         client = ap (λ (z : Change). z.part.client) is;
         refuses = λ _ read. (
-          ap (λ (z : Change). answer_of z.answer read) is
-              ∙ ap refused (refusal_given (subst Given (sym e) (six_given cfg m (alone_within cfg m p a))) ne number ∙ e),
+          ap (λ (z : Change). answer_of z.answer read) is ∙ ap refused e,
           ap (λ (z : Change). z.part) is,
         );
-        event = λ z. absurd (ne (e ∙ z));
+        event = λ z. absurd ((refusal_some why e).1 z);
       }

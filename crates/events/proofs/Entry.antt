@@ -14,8 +14,8 @@ use Rattle.config.specs.declared.Config.{Config}
 use Rattle.config.specs.declared.Refusal.{Refusal}
 use Rattle.config.specs.Config.{Valid, board_length, rig_questions, store_length}
 use Rattle.config.specs.Questions.{ask, first_no, numbered}
-use Rattle.config.specs.Refusal.{clamped, refusal_number}
-use Rattle.config.proofs.Refusals.{refusal_given}
+use Rattle.config.specs.Refusal.{refusal_number}
+use Rattle.config.proofs.Refusals.{refusal_some}
 use Rattle.config.proofs.Questions.{Given, first_no_given, first_no_stop, last_all, last_no, last_yes, numbered_both, rig_questions_numbered}
 use Rattle.config.proofs.Valid.{rig_most, rig_valid}
 use Rattle.protocol.specs.Board.{refused}
@@ -99,22 +99,16 @@ module _ (cfg : Config) (m : ℕ) (p : Part) (a : Call) (board read : List ℕ) 
   six = long && few && its && part_within cfg p
 
   -- a refusal by one of its questions
-  module _ {got : ℕ} (e : got ≡ part_no cfg m p a board read l) (ne : got ≡ 0 → ⊥) {why : Refusal} (number : refusal_number why ≡ clamped got)
-      {x : Change} (refuses : x ≡ refusing why p)
-    where
-      got_given : Given got
-      unfolding part_questions
-      got_given = subst Given (sym e) (six_given cfg m six)
-
-      pub part_refused : ChangePost cfg m p a board read l x read l
-      part_refused =
-          subst (λ (z : Change). ChangePost cfg m p a board read l z read l) (sym refuses)
-          (record {
-            server = refl;
-            client = refl;
-            refuses = λ _. (ap refused (refusal_given got_given ne number ∙ e), refl, refl, refl);
-            event = λ z. absurd (ne (e ∙ z));
-          })
+  pub part_refused : (why : Refusal) → refusal_number why ≡ part_no cfg m p a board read l → {x : Change} → x ≡ refusing why p
+      → ChangePost cfg m p a board read l x read l
+  part_refused why e {x} refuses =
+      subst (λ (z : Change). ChangePost cfg m p a board read l z read l) (sym refuses)
+      (record {
+        server = refl;
+        client = refl;
+        refuses = λ _. (ap refused e, refl, refl, refl);
+        event = λ z. absurd ((refusal_some why e).1 z);
+      })
 
   -- 6 is asked of the lengths and of how many are in flight
   pub lent_no : (got : ℕ) → got ≡ first_no (rig_questions cfg m ++ ask 6 (long && few) ∷ []) → (got ≡ 0 → ⊥) → got ≡ part_no cfg m p a board read l
@@ -224,16 +218,15 @@ module _ (cfg : Config) (m : ℕ) (r : Rig) (a : Call) (board read : List ℕ) (
       ∙ sym e
 
   -- it is past its limits, or one of 1 to 5 and 21 is answered no
-  pub rig_refused : {got : ℕ} → got ≡ first_no (rig_questions cfg m ++ ask 6 (rig_within cfg m r) ∷ []) → (got ≡ 0 → ⊥)
-      → {why : Refusal} → refusal_number why ≡ clamped got → {t : Turn} → t ≡ record { answer = Answer.No why; rig = r }
-      → EventPost cfg m r (called a board) read l t read l
-  rig_refused {got} e ne {why} number {t} refuses =
-      let six-is : got ≡ first_no (rig_questions cfg m ++ ask 6 (all-long && rig_within cfg m r) ∷ []) =
-      stricter cfg m (rig_within cfg m r) (all-long && rig_within cfg m r) got (right_no all-long (rig_within cfg m r)) e ne in
-      let its : refusal_number why ≡ got = refusal_given (subst Given (sym e) (six_given cfg m (rig_within cfg m r))) ne number in
+  pub rig_refused : (why : Refusal) → refusal_number why ≡ first_no (rig_questions cfg m ++ ask 6 (rig_within cfg m r) ∷ [])
+      → {t : Turn} → t ≡ record { answer = Answer.No why; rig = r } → EventPost cfg m r (called a board) read l t read l
+  rig_refused why e {t} refuses =
+      let ne = (refusal_some why e).0 in
+      let six-is : refusal_number why ≡ first_no (rig_questions cfg m ++ ask 6 (all-long && rig_within cfg m r) ∷ []) =
+      stricter cfg m (rig_within cfg m r) (all-long && rig_within cfg m r) (refusal_number why) (right_no all-long (rig_within cfg m r)) e ne in
       subst (λ (z : Turn). EventPost cfg m r (called a board) read l z read l) (sym refuses)
       (refused_event cfg m r (called a board) read l (record { answer = Answer.No why; rig = r }) read l (refusal_number why)
-      (λ z. ne (sym its ∙ z)) (early six-is ne ∙ sym its) refl refl refl refl)
+      ne (early six-is ne) refl refl refl refl)
 
   -- it passes: the event of the part that it names is the rig's
   module _ (passed : first_no (rig_questions cfg m ++ ask 6 (rig_within cfg m r) ∷ []) ≡ 0) where

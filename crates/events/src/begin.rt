@@ -1,36 +1,34 @@
 // Events 1 and 2: a client begins. What it sends is written behind the messages in flight.
 ghost use Rattle.std.specs.Prelude.{◌≡◌, ◌*◌, ◌≤◌, length};
+ghost use Rattle.config.specs.Refusal.{verdict_number};
 ghost use Rattle.config.specs.Config.{Valid, board_length, most_messages};
 ghost use Rattle.events.specs.inner.Begin.{BeginPre, ReadPost, WritePost, asked_no, asked_write_no};
 
 use crate::{Call, Change, Part, outcome};
 use config::{Config, RECORD, Refusal};
 
-// Question 8 and, where there is no room, 9 to 11 and 13: the number of the first that is answered no, or 0.
-fn asked(cfg: Config, m: usize, part: Part, party: u8) -> u8
+// Question 8 and, where there is no room, 9 to 11 and 13: the first that is answered no is the refusal.
+fn asked(cfg: Config, m: usize, part: Part, party: u8) -> Result<(), Refusal>
     requires { (Valid cfg) × (part.count ≤ most_messages) }
-    ensures { result ≡ asked_no cfg m part party }
+    ensures { verdict_number result ≡ asked_no cfg m part party }
 {
     if !cfg.client_exists(party as usize) {
-        return 8;
+        return Err(Refusal::Missing);
     }
     if part.count + cfg.n <= m {
-        return 0;
+        return Ok(());
     }
-    let no = client::ask_begin(cfg, part.pair.client);
-    if no != 0 {
-        return no;
-    }
-    13
+    client::ask_begin(cfg, part.pair.client)?;
+    Err(Refusal::Full)
 }
 
 // Question 19, and then those.
-fn write_asked(cfg: Config, m: usize, part: Part, call: Call) -> u8
+fn write_asked(cfg: Config, m: usize, part: Part, call: Call) -> Result<(), Refusal>
     requires { (Valid cfg) × (part.count ≤ most_messages) }
-    ensures { result ≡ asked_write_no cfg m part call }
+    ensures { verdict_number result ≡ asked_write_no cfg m part call }
 {
     if cfg.k * cfg.e < call.length as usize {
-        return 19;
+        return Err(Refusal::Length);
     }
     asked(cfg, m, part, call.party)
 }
@@ -48,9 +46,8 @@ pub(crate) fn write(
     requires { (BeginPre cfg m part messages.old) × (length boards.old ≡ cfg.c * board_length cfg) }
     ensures { WritePost cfg m part call board.now messages.old boards.old result messages.new boards.new }
 {
-    let no = write_asked(cfg, m, part, call);
-    if no != 0 {
-        return outcome::refused(part, Refusal::of(no));
+    if let Err(why) = write_asked(cfg, m, part, call) {
+        return outcome::refused(part, why);
     }
     let count = part.count;
     let from = RECORD * count;
@@ -74,9 +71,8 @@ pub(crate) fn read(cfg: Config, m: usize, part: Part, call: Call, messages: &mut
     requires { BeginPre cfg m part messages.old }
     ensures { ReadPost cfg m part call messages.old result messages.new }
 {
-    let no = asked(cfg, m, part, call.party);
-    if no != 0 {
-        return outcome::refused(part, Refusal::of(no));
+    if let Err(why) = asked(cfg, m, part, call.party) {
+        return outcome::refused(part, why);
     }
     let count = part.count;
     let from = RECORD * count;

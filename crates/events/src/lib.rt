@@ -16,6 +16,7 @@ mod restart;
 mod within;
 
 ghost use Rattle.std.specs.Prelude.{[], ◌∷◌, ◌++◌, ◌≡◌};
+ghost use Rattle.config.specs.Refusal.{verdict_number};
 ghost use Rattle.config.specs.Config.{rig_questions};
 ghost use Rattle.config.specs.Questions.{ask as question, first_no};
 ghost use Rattle.events.specs.Calls.{ChangePost, AloneChangePost, call_of, part_at};
@@ -27,7 +28,7 @@ use parties::{Answer, Node, Pair};
 
 // Server s and client c stand in the places s - 1 and c - 1; the places past N and C are not in use. A client that is down says so
 // itself. `count` records are in flight, the first of the messages.
-#[derive(Clone, Copy)]
+#[derive(Clone, Copy, PartialEq, Eq)]
 pub struct Rig {
     pub servers: [Node; 16],
     pub clients: [client::State; 16],
@@ -36,7 +37,7 @@ pub struct Rig {
 
 // An event as it is called: its code, the party's number, a message's position and the length of the board handed in, each of any value.
 // The length is that of a write; with another event it is not looked at.
-#[derive(Clone, Copy)]
+#[derive(Clone, Copy, PartialEq, Eq)]
 pub struct Call {
     pub code: u8,
     pub party: u8,
@@ -45,7 +46,7 @@ pub struct Call {
 }
 
 // The places of a server and of a client.
-#[derive(Clone, Copy)]
+#[derive(Clone, Copy, PartialEq, Eq)]
 pub struct Places {
     pub server: usize,
     pub client: usize,
@@ -125,18 +126,15 @@ pub struct Sizes {
     pub elements: usize,
 }
 
-// Questions 1 to 5 and 21, and 6 of the lengths of a board and of the buffers lent to a rig: the number of the first that is answered no, or 0.
-pub fn ask(cfg: Config, m: usize, board: usize, sizes: Sizes) -> u8
-    ensures { result ≡ first_no (rig_questions cfg m ++ question 6 (lent_sized cfg m board sizes) ∷ []) }
+// Questions 1 to 5 and 21, and 6 of the lengths of a board and of the buffers lent to a rig: the first that is answered no is the refusal.
+pub fn ask(cfg: Config, m: usize, board: usize, sizes: Sizes) -> Result<(), Refusal>
+    ensures { verdict_number result ≡ first_no (rig_questions cfg m ++ question 6 (lent_sized cfg m board sizes) ∷ []) }
 {
-    let no = cfg.ask_rig(m);
-    if no != 0 {
-        return no;
-    }
+    cfg.ask_rig(m)?;
     if !questions::sized(cfg, m, board, sizes) {
-        return 6;
+        return Err(Refusal::Shape);
     }
-    0
+    Ok(())
 }
 
 // The places of the server and of the client of the number by which an event is called: of event 3 the numbers that its record has, of any
@@ -173,9 +171,8 @@ pub fn changes(
         boards: boards.len(),
         elements: elements.len(),
     };
-    let no = questions::event(cfg, m, part.count, board.len(), read.len(), sizes);
-    if no != 0 {
-        return outcome::refused(part, Refusal::of(no));
+    if let Err(why) = questions::event(cfg, m, part.count, board.len(), read.len(), sizes) {
+        return outcome::refused(part, why);
     }
     if !named::has(cfg, part, call, messages) {
         return outcome::refused(part, Refusal::Shape);
@@ -200,9 +197,8 @@ pub fn crash_or_restart(
     ensures { AloneChangePost cfg m part (call_of which party) result }
 {
     let call = which.call(party);
-    let asked = questions::alone(cfg, m, part, call);
-    if asked != 0 {
-        return outcome::refused(part, Refusal::of(asked));
+    if let Err(why) = questions::alone(cfg, m, part, call) {
+        return outcome::refused(part, why);
     }
     match which {
         CrashOrRestart::CrashServer => crash::server(cfg, part, call),

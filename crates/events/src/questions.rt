@@ -1,5 +1,6 @@
 // Questions 1 to 6 and 21 of an event, but for question 6 of what the parties keep; and all of these of a crash or a restart alone.
 ghost use Rattle.std.specs.Prelude.{[], ◌∷◌, ◌++◌, ◌≡◌, ◌≤◌};
+ghost use Rattle.config.specs.Refusal.{verdict_number};
 ghost use Rattle.config.specs.Config.{Valid, most_messages, rig_questions};
 ghost use Rattle.config.specs.Questions.{ask as question, first_no};
 ghost use Rattle.events.specs.Calls.{alone_no};
@@ -7,7 +8,7 @@ ghost use Rattle.events.specs.Questions.{lent_sized};
 ghost use Rattle.events.specs.inner.Questions.{sized_to_event};
 
 use crate::{Call, Part, Sizes, named, within};
-use config::{Config, RECORD};
+use config::{Config, RECORD, Refusal};
 
 // Whether a board and the buffers lent to a rig have their lengths.
 pub(crate) fn sized(cfg: Config, m: usize, board: usize, sizes: Sizes) -> bool
@@ -46,7 +47,7 @@ fn sized_event(cfg: Config, m: usize, count: usize, board: usize, read: usize, s
     count <= m
 }
 
-// The number of the first that is answered no, or 0.
+// The first that is answered no is the refusal.
 pub(crate) fn event(
     cfg: Config,
     m: usize,
@@ -54,36 +55,30 @@ pub(crate) fn event(
     board: usize,
     read: usize,
     sizes: Sizes,
-) -> u8
-    ensures { result ≡ first_no (rig_questions cfg m ++ question 6 (sized_to_event cfg m count board read sizes) ∷ []) }
+) -> Result<(), Refusal>
+    ensures { verdict_number result ≡ first_no (rig_questions cfg m ++ question 6 (sized_to_event cfg m count board read sizes) ∷ []) }
 {
-    let no = cfg.ask_rig(m);
-    if no != 0 {
-        return no;
-    }
+    cfg.ask_rig(m)?;
     if !sized_event(cfg, m, count, board, read, sizes) {
-        return 6;
+        return Err(Refusal::Shape);
     }
-    0
+    Ok(())
 }
 
-// Questions 1 to 5 and 21, and 6 of a part for a crash or a restart alone: the number of the first that is answered no, or 0.
-pub(crate) fn alone(cfg: Config, m: usize, part: Part, call: Call) -> u8
-    ensures { result ≡ alone_no cfg m part call }
+// Questions 1 to 5 and 21, and 6 of a part for a crash or a restart alone: the first that is answered no is the refusal.
+pub(crate) fn alone(cfg: Config, m: usize, part: Part, call: Call) -> Result<(), Refusal>
+    ensures { verdict_number result ≡ alone_no cfg m part call }
 {
-    let no = cfg.ask_rig(m);
-    if no != 0 {
-        return no;
-    }
+    cfg.ask_rig(m)?;
     if m < part.count {
-        return 6;
+        return Err(Refusal::Shape);
     }
     let none = [0u8; 1];
     if !named::has(cfg, part, call, &none[..0]) {
-        return 6;
+        return Err(Refusal::Shape);
     }
     if !within::part(cfg, part) {
-        return 6;
+        return Err(Refusal::Shape);
     }
-    0
+    Ok(())
 }

@@ -11,8 +11,8 @@ pub(crate) fn part(cfg: Config, part: Part) -> bool
     requires { Valid cfg }
     ensures { result ≡ part_within cfg part }
 {
-    if parties::questions::server(cfg, part.server, part.pair.node) != 0 {
+    if parties::questions::server(cfg, part.server, part.pair.node).is_err() {
         return false;
     }
-    parties::questions::client(cfg, part.client, part.pair.client) == 0
+    parties::questions::client(cfg, part.client, part.pair.client).is_ok()
 }

@@ -15,7 +15,7 @@ use Rattle.record.specs.Element.{Element, element_with}
 use Rattle.record.specs.Message.{Message}
 use Rattle.record.specs.Record.{all, of_config, record_of}
 use Rattle.protocol.specs.Server.{Server, Served, element_of, fresh_server, server_step}
-use Rattle.server.specs.declared.Floor.{Floor}
+use Rattle.std.specs.Prelude.{Some}
 use Rattle.server.specs.declared.State.{State}
 use Rattle.server.specs.Calls.{step_questions}
 use Rattle.server.specs.View.{view}
@@ -77,7 +77,7 @@ state_3 =
     record {
       me = record { 0 = 1 };
       highest = start;
-      floor = Floor.At (tag 1 2);
+      floor = Some (tag 1 2);
       count = 1;
       tags = replicate 8 (tag 2 1);
       lengths = replicate 8 1;

@@ -7,7 +7,7 @@ use Rattle.tag.specs.declared.Tag.{Tag}
 use Rattle.tag.specs.Tag.{above, key, start}
 use Rattle.record.specs.Element.{Element}
 use Rattle.protocol.specs.Server.{Server, server_step}
-use Rattle.server.specs.declared.Floor.{Floor}
+use Rattle.std.specs.Prelude.{Some}
 use Rattle.server.specs.declared.State.{State}
 use Rattle.server.specs.Calls.{state_questions}
 use Rattle.server.specs.View.{view}
@@ -35,7 +35,7 @@ holding floor stored =
     record {
       me = record { 0 = 1 };
       highest = start;
-      floor = Floor.At floor;
+      floor = Some floor;
       count = 1;
       tags = replicate 8 stored;
       lengths = replicate 8 1;

@@ -7,9 +7,8 @@ use native.Mathlib.Omega.{arith}
 use borrow.Author.Tests.{leb-true, lt-leb, ne_eqb}
 use borrow.Table.Steps.{cases}
 use lib.Dec.{eqb, ltb}
-use lib.ListN.{length, take, drop, replicate, length-drop, drop_of_length-le, take-append-drop}
-use lib.Seq.{paste, take_all, take-take, drop-drop, length-take-le}
-use Rattle.laws.proofs.Lists.{drop_take}
+use lib.ListN.{length, take, drop, replicate, length-drop, drop_of_length-le}
+use lib.Seq.{paste, take_all, drop-drop}
 use Rattle.laws.proofs.Parts.{copied, lent_is, lent_length}
 use Rattle.flight.specs.Flight.{AppendPost, DoublePost, RemovePost, TakePost, appended, appends, doubles, fits, record_length, stands}
 use Rattle.flight.proofs.Laws.{append_count, append_none, appends_true, doubles_past, doubles_true, stands_past, stands_true, take_is, take_long}
@@ -38,29 +37,6 @@ pasted bytes at new mid e =
     (ap (drop (length new)) (take_all (length bytes - at) rest (omega (arith, length-drop at bytes))) ∙ drop-drop (length new) at bytes))
     ∙ sym (append_assoc (take at bytes) (take (length new) new) (drop (at + length new) bytes))
 
--- a part of 80 bytes and n more, of which the n have moved to the front
-shifted : (bytes mid : List ℕ) (at w n : ℕ) → w ≡ record_length + n → at + w ≤ length bytes
-    → mid ≡ paste (take w (drop at bytes)) 0 (drop record_length (take w (drop at bytes))) (length (take w (drop at bytes)) - record_length)
-    → take at bytes ++ (mid ++ drop w (drop at bytes)) ≡ paste bytes at (drop (at + record_length) bytes) n
-shifted bytes mid at w n front-first room e =
-    let rest = drop at bytes in
-    let part = take w rest in
-    let back-first : w ≡ n + record_length = omega (arith, front-first) in
-    let size : length part ≡ w = length-take-le w rest (omega (arith, room, length-drop at bytes)) in
-    let long : length part - record_length ≡ n = omega (arith, size, front-first) in
-    let long-on : 0 + n ≡ n = omega arith in
-    let front : take n (drop record_length part) ≡ take n (drop (at + record_length) bytes) =
-    ap (take n) (ap (λ k. drop record_length (take k rest)) front-first ∙ drop_take record_length n rest ∙ ap (take n) (drop-drop record_length at bytes))
-    ∙ take-take n n (drop (at + record_length) bytes) (omega arith) in
-    let back : drop n part ++ drop w rest ≡ drop (at + n) bytes =
-    ap₂ ◌++◌ (ap (λ k. drop n (take k rest)) back-first ∙ drop_take n record_length rest) (ap (λ k. drop k rest) back-first ∙ sym (drop-drop record_length n rest))
-    ∙ take-append-drop record_length (drop n rest)
-    ∙ drop-drop n at bytes in
-    ap (λ x. take at bytes ++ (x ++ drop w rest))
-    (e ∙ ap (λ k. paste part 0 (drop record_length part) k) long ∙ ap₂ ◌++◌ front (ap (λ k. drop k part) long-on))
-    ∙ ap (λ x. take at bytes ++ x) (append_assoc (take n (drop (at + record_length) bytes)) (drop n part) (drop w rest) ∙ ap (λ x. take n (drop (at + record_length) bytes) ++ x) back)
-    ∙ sym (append_assoc (take at bytes) (take n (drop (at + record_length) bytes)) (drop (at + n) bytes))
-
 -- ---- taking and removing
 
 module _ (n i : ℕ) (bytes : List ℕ) where
@@ -81,22 +57,15 @@ module _ (n i : ℕ) (bytes : List ℕ) where
   take_there zeros r h l z e =
       record { taken = rw (stands_true n i bytes h (omega (arith, l))) (whole bytes (record_length * i) zeros r (omega (arith, h, l)) z e) }
 
-  pub remove_missing : n ≤ i → RemovePost n i bytes n bytes
-  remove_missing h = record { count = rw (stands_past n i bytes h) refl; buffer = rw (stands_past n i bytes h) refl }
-
-  pub remove_short : length bytes / record_length < n → RemovePost n i bytes n bytes
-  remove_short h = record { count = rw (short h) refl; buffer = rw (short h) refl }
-
-  pub remove_there : (mid : List ℕ) → i < n → n ≤ length bytes / record_length
-      → mid
-      ≡ paste (take (record_length * n - record_length * i) (drop (record_length * i) bytes)) 0 (drop record_length (take (record_length * n - record_length * i) (drop (record_length * i) bytes)))
-      (length (take (record_length * n - record_length * i) (drop (record_length * i) bytes)) - record_length)
-      → RemovePost n i bytes (n - 1) (take (record_length * i) bytes ++ (mid ++ drop (record_length * n - record_length * i) (drop (record_length * i) bytes)))
-  remove_there mid h l e =
+  pub remove_there : i < n → n ≤ length bytes / record_length
+      → RemovePost n i bytes (n - 1)
+      (paste bytes (record_length * i) (drop (record_length * i + record_length) bytes) (record_length * n - (record_length * i + record_length)))
+  remove_there h l =
       let is : stands n i bytes ≡ true = stands_true n i bytes h (omega (arith, l)) in
+      let behind : record_length * n - (record_length * i + record_length) ≡ record_length * (n - 1 - i) = omega (arith, h) in
       record {
         count = rw is refl;
-        buffer = rw is (shifted bytes mid (record_length * i) (record_length * n - record_length * i) (record_length * (n - 1 - i)) (omega (arith, h)) (omega (arith, h, l)) e);
+        buffer = rw is (ap (paste bytes (record_length * i) (drop (record_length * i + record_length) bytes)) behind);
       }
 
 -- ---- appending and doubling

@@ -7,25 +7,10 @@
 
 pub mod owners;
 
-ghost use Rattle.std.specs.Prelude.{◌≡◌, ◌-◌, ◌≤◌, length, drop};
-ghost use Rattle.std.proofs.Math.Seq.{paste};
-ghost use Rattle.flight.specs.Flight.{AppendPost, DoublePost, RemovePost, TakePost, record_length};
+ghost use Rattle.flight.specs.Flight.{AppendPost, DoublePost, RemovePost, TakePost};
 
 // A record's bytes.
 const RECORD: usize = 80;
-
-// Moves to the front by 80 what stands behind the first 80 bytes.
-fn shift(bytes: &mut [u8])
-    requires { record_length ≤ length bytes.old }
-    ensures { bytes.new ≡ paste bytes.old 0 (drop record_length bytes.old) (length bytes.old - record_length) }
-{
-    let end = bytes.len() - RECORD;
-    let mut j = 0;
-    while j < end {
-        bytes[j] = bytes[j + RECORD];
-        j += 1;
-    }
-}
 
 // The record at a position; 80 zeros where there is none.
 pub fn take(count: usize, position: usize, messages: &[u8]) -> [u8; RECORD]
@@ -56,7 +41,7 @@ pub fn remove(count: usize, position: usize, messages: &mut [u8]) -> usize
     }
     let from = RECORD * position;
     let end = RECORD * count;
-    shift(&mut messages[from..end]);
+    messages.copy_within(from + RECORD..end, from);
     count - 1
 }
 

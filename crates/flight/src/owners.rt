@@ -1,54 +1,46 @@
 // The board of each record, a byte, beside the records: in a lent buffer of its own, of which so many are in use. Numbers and lengths may have
 // any value.
-ghost use Rattle.std.specs.Prelude.{◌≡◌, length, take as first};
+ghost use Rattle.std.specs.Prelude.{◌≡◌, take as first};
 ghost use Rattle.config.specs.Questions.{within as inside};
 ghost use Rattle.laws.specs.Owners.{count_of, place_of};
 ghost use Rattle.config.specs.Room.{all_within};
 ghost use Rattle.flight.specs.Owners.{FilledPost, RemovedPost};
 
-// How many are in use: no more than there are.
-fn used(count: usize, owners: &[u8]) -> usize
-    ensures { result ≡ length (first count owners.now) }
+// Those in use: no more than there are.
+fn used(count: usize, owners: &[u8]) -> &[u8]
+    ensures { result.now ≡ first count owners.now }
 {
     if owners.len() < count {
-        return owners.len();
+        return owners;
     }
-    count
+    &owners[..count]
 }
 
 // How many are of a board.
 pub fn count_of(count: usize, board: u8, owners: &[u8]) -> usize
     ensures { result ≡ count_of board (first count owners.now) }
 {
-    let end = used(count, owners);
-    let mut n = 0;
-    let mut i = 0;
-    while i < end {
-        if owners[i] == board {
-            n += 1;
-        }
-        i += 1;
-    }
-    n
+    used(count, owners)
+        .iter()
+        .filter(|owner| **owner == board)
+        .count()
 }
 
 // The place of the record at a position of a board's, both from 0; behind the last where the board has no such.
 pub fn place_of(count: usize, board: u8, position: usize, owners: &[u8]) -> usize
     ensures { result ≡ place_of board position (first count owners.now) }
 {
-    let end = used(count, owners);
+    let used = used(count, owners);
     let mut left = position;
-    let mut place = 0;
-    while place < end {
-        if owners[place] == board {
+    for (place, owner) in used.iter().enumerate() {
+        if *owner == board {
             if left == 0 {
                 return place;
             }
             left -= 1;
         }
-        place += 1;
     }
-    end
+    used.len()
 }
 
 // 1 ≤ board ≤ boards
@@ -65,15 +57,9 @@ fn is_board(boards: usize, board: u8) -> bool
 pub fn within(count: usize, boards: usize, owners: &[u8]) -> bool
     ensures { result ≡ all_within boards (first count owners.now) }
 {
-    let end = used(count, owners);
-    let mut i = 0;
-    while i < end {
-        if !is_board(boards, owners[i]) {
-            return false;
-        }
-        i += 1;
-    }
-    true
+    used(count, owners)
+        .iter()
+        .all(|owner| is_board(boards, *owner))
 }
 
 // The board at a place leaves with its record: those behind it move up.
@@ -86,12 +72,7 @@ pub fn remove(count: usize, place: usize, owners: &mut [u8])
     if owners.len() < count {
         return;
     }
-    let end = count - 1;
-    let mut i = place;
-    while i < end {
-        owners[i] = owners[i + 1];
-        i += 1;
-    }
+    owners.copy_within(place + 1..count, place);
 }
 
 // The records from one place up to another are a board's.
@@ -104,9 +85,5 @@ pub fn fill(from: usize, to: usize, board: u8, owners: &mut [u8])
     if owners.len() < to {
         return;
     }
-    let mut i = from;
-    while i < to {
-        owners[i] = board;
-        i += 1;
-    }
+    owners[from..to].fill(board);
 }

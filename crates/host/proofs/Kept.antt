@@ -1,6 +1,6 @@
 -- What the calls of servers and clients leave, from what the calls below leave. Assumes nothing.
 use Prim.Native.Nat.{ℕ, ◌≤◌, ◌<◌}
-use mathlib.Core.Path.{◌≡◌, refl, sym, subst, ◌∙◌}
+use mathlib.Core.Path.{◌≡◌, refl, sym, ap, subst, ◌∙◌}
 use mathlib.Core.Bool.{Bool, true, false≢true}
 use mathlib.Core.Option.{Option}
 use mathlib.Core.List.{List, [], ◌∷◌, ◌++◌}
@@ -8,17 +8,18 @@ use native.Mathlib.Omega.{arith}
 use borrow.Author.Tests.{eq-eqb, eqb-true, ne_eqb}
 use lib.Dec.{eqb}
 use lib.ListN.{length}
+use Rattle.std.proofs.Common.{Ok, Err}
 use Rattle.laws.proofs.Bools.{and_left}
 use Rattle.config.specs.declared.Config.{Config}
-use Rattle.config.specs.declared.Verdict.{Verdict}
+use Rattle.config.specs.declared.Refusal.{Refusal}
 use Rattle.config.specs.Config.{Valid, questions}
 use Rattle.config.proofs.Valid.{valid}
 use Rattle.config.specs.Questions.{Question, ask, first_no}
-use Rattle.config.specs.Refusal.{verdict_number}
-use Rattle.config.proofs.Questions.{first_no_no, first_no_yes, last_all, none_first, passes, questions_numbered, stops, yes_next}
+use Rattle.config.specs.Refusal.{refusal_number, verdict_number}
+use Rattle.config.proofs.Questions.{first_no_no, first_no_yes, last_all, none_first, questions_numbered, yes_next}
+use Rattle.config.proofs.Refusals.{refusal_some}
 use Rattle.states.specs.Clients as clients
 use Rattle.states.specs.Servers as servers
-use Rattle.server.specs.declared.State as serverState
 use Rattle.server.specs.declared.Stepped.{Stepped}
 use Rattle.server.specs.Calls as server
 use Rattle.client.specs.declared.State as clientState
@@ -41,6 +42,7 @@ use Rattle.host.specs.Outcome.{OutcomePost, outcome_length}
 use Rattle.host.specs.inner.Told.{ClientTold, ServerTold}
 use Rattle.host.proofs.Clients.{client_numbered}
 use Rattle.host.proofs.Servers.{server_numbered}
+use Rattle.host.proofs.told.Laws.{not_zero, passes_told, stops_told}
 
 -- where the bytes of a state pass, they have its length
 pub server_long : (config state : List ℕ) → first_no (server_questions config state) ≡ 0 → length state ≡ servers.packed_length
@@ -67,51 +69,50 @@ client_valid config state h =
 
 -- ---- a server's step
 
-module _ (config state : List ℕ) (r : OfServer) (told : ServerTold config state r) (message store answer : List ℕ) where
+module _ (config state message store answer : List ℕ) where
   abbrev server_asks : List Question
   server_asks = server.step_questions (config_of config) (servers.state_of state) message (length store) (length answer)
 
   -- the configuration or the state is refused
-  pub step_not_told : (r.no ≡ 0 → ⊥) → ServerStepPost config state message store answer state store answer r.no
-  step_not_told refuses =
+  pub step_not_told : {why : Refusal} {n : ℕ} → ServerTold config state (Err why) → n ≡ refusal_number why
+      → ServerStepPost config state message store answer state store answer n
+  step_not_told told is =
       record {
-        number = stops (server_questions config state) server_asks r.no told.number refuses;
-        left = record { verdict = Verdict.Accepted; state = r.state };
-        step = λ z. absurd (refuses (told.number ∙ z));
-        kept = λ z. absurd (refuses z);
+        number = stops_told told is server_asks;
+        left = record { verdict = Ok tt; state = servers.state_of state };
+        step = λ z. absurd (not_zero told refl (told.number ∙ z));
+        kept = λ z. absurd (not_zero told is z);
         held = λ _. (refl, refl, refl);
       }
 
-  module _ (none_told : r.no ≡ 0) (store' answer' : List ℕ) (left : Stepped)
-      (post : server.StepPost r.cfg r.state message store answer store' answer' left) (n : ℕ) (is : n ≡ verdict_number left.verdict) where
+  module _ {x : OfServer} (told : ServerTold config state (Ok x)) {store' answer' : List ℕ} {left : Stepped}
+      (post : server.StepPost x.cfg x.state message store answer store' answer' left) where
     below : server.StepPost (config_of config) (servers.state_of state) message store answer store' answer' left
-    below =
-        subst (λ (x : serverState.State). server.StepPost (config_of config) x message store answer store' answer' left) (told.told none_told)
-        (subst (λ (x : Config). server.StepPost x r.state message store answer store' answer' left) (told.config none_told) post)
+    below = subst (λ (y : OfServer). server.StepPost y.cfg y.state message store answer store' answer' left) told.gives post
 
-    first : n ≡ first_no server_asks
-    first = is ∙ below.number
-
-    number : n ≡ first_no (server_questions config state ++ server_asks)
-    number = passes (server_questions config state) server_asks r.no n (server_numbered config state) told.number none_told first
+    number : (n : ℕ) → n ≡ verdict_number left.verdict → n ≡ first_no (server_questions config state ++ server_asks)
+    number n is = passes_told told (server_numbered config state) server_asks n (is ∙ below.number)
 
     -- the step is refused
-    pub step_not_taken : (n ≡ 0 → ⊥) → ServerStepPost config state message store answer state store' answer' n
-    step_not_taken refuses =
-        let some_no : first_no server_asks ≡ 0 → ⊥ = λ z. refuses (first ∙ z) in
+    pub step_not_taken : {why : Refusal} {n : ℕ} → left.verdict ≡ Err why → n ≡ refusal_number why
+        → ServerStepPost config state message store answer state store' answer' n
+    step_not_taken {why} {n} refused is =
+        let e : refusal_number why ≡ first_no server_asks = sym (ap verdict_number refused) ∙ below.number in
+        let some_no = (refusal_some why e).1 in
         record {
-          number = number;
+          number = number n (is ∙ sym (ap verdict_number refused));
           left = left;
           step = λ _. below;
-          kept = λ z. absurd (refuses z);
+          kept = λ z. absurd ((refusal_some why (sym is)).1 z);
           held = λ _. (refl, below.store some_no, below.answer ∙ rw (ne_eqb (first_no server_asks) 0 some_no));
         }
 
     -- or taken
-    pub step_taken : n ≡ 0 → (state' : List ℕ) → servers.PackPost left.state state' → ServerStepPost config state message store answer state' store' answer' 0
-    step_taken z state' packed =
+    pub step_taken : left.verdict ≡ Ok tt → (state' : List ℕ) → servers.PackPost left.state state'
+        → ServerStepPost config state message store answer state' store' answer' 0
+    step_taken taken state' packed =
         record {
-          number = sym z ∙ number;
+          number = number 0 (sym (ap verdict_number taken));
           left = left;
           step = λ _. below;
           kept = λ _. packed;
@@ -120,52 +121,50 @@ module _ (config state : List ℕ) (r : OfServer) (told : ServerTold config stat
 
 -- ---- a client's begin
 
-module _ (config state : List ℕ) (r : OfClient) (told : ClientTold config state r) where
-  pub begin_not_told : (asks : List Question) (board : Option Board) (kept sends : List ℕ) → (r.no ≡ 0 → ⊥)
-      → BeginPost config state asks board kept sends state kept sends r.no
-  begin_not_told asks board kept sends refuses =
+module _ (config state : List ℕ) where
+  pub begin_not_told : (asks : List Question) (board : Option Board) (kept sends : List ℕ) {why : Refusal} {n : ℕ} → ClientTold config state (Err why)
+      → n ≡ refusal_number why → BeginPost config state asks board kept sends state kept sends n
+  begin_not_told asks board kept sends told is =
       record {
-        number = stops (client_questions config state) asks r.no told.number refuses;
-        left = record { verdict = Verdict.Accepted; state = r.state; sent = 0; ended = Ended.Nothing };
-        begins = λ z. absurd (refuses (told.number ∙ z));
-        saved = λ z. absurd (refuses z);
+        number = stops_told told is asks;
+        left = record { verdict = Ok tt; state = clients.state_of state; sent = 0; ended = Ended.Nothing };
+        begins = λ z. absurd (not_zero told refl (told.number ∙ z));
+        saved = λ z. absurd (not_zero told is z);
         held = λ _. (refl, refl, refl);
       }
 
   -- the questions are those of a configuration and a state
-  module _ (none_told : r.no ≡ 0) (asks : Config → clientState.State → List Question) (board : Option Board) (kept kept' sends sends' : List ℕ) (left : Moved)
-      (post : (es : List ℕ) → client.BeginPost r.cfg (first_no (asks r.cfg r.state)) r.state board kept kept' es sends sends' left)
-      (n : ℕ) (is : n ≡ verdict_number left.verdict) where
+  module _ {x : OfClient} (told : ClientTold config state (Ok x)) (asks : Config → clientState.State → List Question) (board : Option Board)
+      {kept kept' sends sends' : List ℕ} {left : Moved}
+      (post : (es : List ℕ) → client.BeginPost x.cfg (first_no (asks x.cfg x.state)) x.state board kept kept' es sends sends' left) where
     abbrev asked : List Question
     asked = asks (config_of config) (clients.state_of state)
 
     begun : (es : List ℕ) → client.BeginPost (config_of config) (first_no asked) (clients.state_of state) board kept kept' es sends sends' left
     begun es =
-        subst (λ (x : clientState.State). client.BeginPost (config_of config) (first_no (asks (config_of config) x)) x board kept kept' es sends sends' left) (told.told none_told)
-        (subst (λ (x : Config). client.BeginPost x (first_no (asks x r.state)) r.state board kept kept' es sends sends' left) (told.config none_told) (post es))
+        subst (λ (y : OfClient). client.BeginPost y.cfg (first_no (asks y.cfg y.state)) y.state board kept kept' es sends sends' left) told.gives (post es)
 
-    begun_first : n ≡ first_no asked
-    begun_first = is ∙ (begun []).answered.number
+    begun_number : (n : ℕ) → n ≡ verdict_number left.verdict → n ≡ first_no (client_questions config state ++ asked)
+    begun_number n is = passes_told told (client_numbered config state) asked n (is ∙ (begun []).answered.number)
 
-    begun_number : n ≡ first_no (client_questions config state ++ asked)
-    begun_number = passes (client_questions config state) asked r.no n (client_numbered config state) told.number none_told begun_first
-
-    pub begin_not_taken : (n ≡ 0 → ⊥) → BeginPost config state asked board kept sends state kept' sends' n
+    pub begin_not_taken : {why : Refusal} {n : ℕ} → left.verdict ≡ Err why → n ≡ refusal_number why
+        → BeginPost config state asked board kept sends state kept' sends' n
     unfolding protocol.stays records_of
-    begin_not_taken refuses =
-        let is-no = ne_eqb (first_no asked) 0 (λ z. refuses (begun_first ∙ z)) in
+    begin_not_taken {why} {n} refused is =
+        let e : refusal_number why ≡ first_no asked = sym (ap verdict_number refused) ∙ (begun []).answered.number in
+        let is-no = ne_eqb (first_no asked) 0 (refusal_some why e).1 in
         record {
-          number = begun_number;
+          number = begun_number n (is ∙ sym (ap verdict_number refused));
           left = left;
           begins = λ _ es. begun es;
-          saved = λ z. absurd (refuses z);
+          saved = λ z. absurd ((refusal_some why (sym is)).1 z);
           held = λ _. (refl, (begun []).keeps ∙ rw is-no, (begun []).answered.out ∙ rw is-no);
         }
 
-    pub begin_taken : n ≡ 0 → (state' : List ℕ) → clients.PackPost left.state state' → BeginPost config state asked board kept sends state' kept' sends' 0
-    begin_taken z state' packed =
+    pub begin_taken : left.verdict ≡ Ok tt → (state' : List ℕ) → clients.PackPost left.state state' → BeginPost config state asked board kept sends state' kept' sends' 0
+    begin_taken taken state' packed =
         record {
-          number = sym z ∙ begun_number;
+          number = begun_number 0 (sym (ap verdict_number taken));
           left = left;
           begins = λ _ es. begun es;
           saved = λ _. packed;
@@ -188,81 +187,80 @@ module _ (config state : List ℕ) (r : OfClient) (told : ClientTold config stat
     to_six z = last_all early 6 sized (client_numbered config state) (omega arith) z
 
     -- the configuration or the state is refused, or the outcome's length
-    pub client_not_told : (r.no ≡ 0 → ⊥) → ClientStepPost config state message l outcome state l outcome r.no
+    pub client_not_told : {why : Refusal} {n : ℕ} → ClientTold config state (Err why) → n ≡ refusal_number why
+        → ClientStepPost config state message l outcome state l outcome n
     unfolding client_step_questions
-    client_not_told refuses =
+    client_not_told told is =
         record {
-          number = stops early (ask 6 sized ∷ client_asks) r.no told.number refuses;
-          left = record { verdict = Verdict.Accepted; state = r.state; sent = 0; ended = Ended.Nothing };
-          step = λ z. absurd (refuses (told.number ∙ (to_six z).0));
-          saved = λ z. absurd (refuses z);
-          tells = λ z. absurd (refuses z);
+          number = stops_told told is (ask 6 sized ∷ client_asks);
+          left = record { verdict = Ok tt; state = clients.state_of state; sent = 0; ended = Ended.Nothing };
+          step = λ z. absurd (not_zero told refl (told.number ∙ (to_six z).0));
+          saved = λ z. absurd (not_zero told is z);
+          tells = λ z. absurd (not_zero told is z);
           held = λ _. (refl, refl, refl);
         }
 
-    pub client_short : r.no ≡ 0 → (length outcome ≡ outcome_length → ⊥) → ClientStepPost config state message l outcome state l outcome 6
-    unfolding client_step_questions
-    client_short none_told short =
-        let is-no = ne_eqb (length outcome) outcome_length short in
-        record {
-          number = passes early (ask 6 sized ∷ client_asks) r.no 6 (client_numbered config state) told.number none_told (sym (first_no_no 6 sized client_asks is-no));
-          left = record { verdict = Verdict.Accepted; state = r.state; sent = 0; ended = Ended.Nothing };
-          step = λ z. absurd (false≢true (sym is-no ∙ (to_six z).1));
-          saved = λ z. absurd (omega (arith, z));
-          tells = λ z. absurd (omega (arith, z));
-          held = λ _. (refl, refl, refl);
-        }
-
-    module _ (none_told : r.no ≡ 0) (long : length outcome ≡ outcome_length) (l' : Lent) (left : Moved)
-        (post : client.StepPost r.cfg r.state message l l' left) (n : ℕ) (is : n ≡ verdict_number left.verdict) where
-      stepped : client.StepPost (config_of config) (clients.state_of state) message l l' left
-      stepped =
-          subst (λ (x : clientState.State). client.StepPost (config_of config) x message l l' left) (told.told none_told)
-          (subst (λ (x : Config). client.StepPost x r.state message l l' left) (told.config none_told) post)
-
-      stepped_first : n ≡ first_no client_asks
-      stepped_first = is ∙ stepped.answered.number
-
-      stepped_number : n ≡ first_no (client_step_questions config state message l (length outcome))
+    module _ {x : OfClient} (told : ClientTold config state (Ok x)) where
+      pub client_short : (length outcome ≡ outcome_length → ⊥) → ClientStepPost config state message l outcome state l outcome 6
       unfolding client_step_questions
-      stepped_number =
-          passes early (ask 6 sized ∷ client_asks) r.no n (client_numbered config state) told.number none_told
-          (stepped_first ∙ sym (first_no_yes 6 sized client_asks (eq-eqb (length outcome) outcome_length long)))
-
-      pub client_not_taken : (n ≡ 0 → ⊥) → ClientStepPost config state message l outcome state l' outcome n
-      unfolding protocol.stays records_of
-      client_not_taken refuses =
-          let is-no = ne_eqb (first_no client_asks) 0 (λ z. refuses (stepped_first ∙ z)) in
-          let board : l'.board ≡ l.board = stepped.lent ∙ rw is-no in
-          let elements : l'.elements ≡ l.elements = stepped.elements ∙ rw is-no in
-          let sends : l'.sends ≡ l.sends = stepped.answered.out ∙ rw is-no in
+      client_short short =
+          let is-no = ne_eqb (length outcome) outcome_length short in
           record {
-            number = stepped_number;
-            left = left;
-            step = λ _. stepped;
-            saved = λ z. absurd (refuses z);
-            tells = λ z. absurd (refuses z);
-            held = λ _. (refl, (λ i. record { kept = stepped.kept i; elements = elements i; sends = sends i; board = board i }), refl);
+            number = passes_told told (client_numbered config state) (ask 6 sized ∷ client_asks) 6 (sym (first_no_no 6 sized client_asks is-no));
+            left = record { verdict = Ok tt; state = clients.state_of state; sent = 0; ended = Ended.Nothing };
+            step = λ z. absurd (false≢true (sym is-no ∙ (to_six z).1));
+            saved = λ z. absurd (omega (arith, z));
+            tells = λ z. absurd (omega (arith, z));
+            held = λ _. (refl, refl, refl);
           }
 
-      -- it sends few
-      pub client_few : left.sent < 256
-      unfolding protocol.stays
-      client_few =
-          let cfg = config_of config in
-          let seen : BoardClient = clientView.seen cfg (clients.state_of state) l in
-          let few = cond_elim (λ (y : BoardMoved). length y.sends ≤ cfg.n) (eqb (first_no client_asks) 0) (client.client_step cfg (clients.state_of state) message l) (protocol.stays seen)
-          (λ _. step_few (order cfg) (encode cfg) (decode cfg) cfg _ _ _) (λ _. omega arith) in
-          omega (arith, stepped.answered.count, few, (client_valid config state (sym told.number ∙ none_told)).n_high)
+      module _ (long : length outcome ≡ outcome_length) {l' : Lent} {left : Moved} (post : client.StepPost x.cfg x.state message l l' left) where
+        stepped : client.StepPost (config_of config) (clients.state_of state) message l l' left
+        stepped = subst (λ (y : OfClient). client.StepPost y.cfg y.state message l l' left) told.gives post
 
-      pub client_taken : n ≡ 0 → (state' outcome' : List ℕ) → clients.PackPost left.state state' → OutcomePost left.ended left.sent outcome'
-          → ClientStepPost config state message l outcome state' l' outcome' 0
-      client_taken z state' outcome' packed tells =
-          record {
-            number = sym z ∙ stepped_number;
-            left = left;
-            step = λ _. stepped;
-            saved = λ _. packed;
-            tells = λ _. tells;
-            held = λ refuses. absurd (refuses refl);
-          }
+        stepped_number : (n : ℕ) → n ≡ verdict_number left.verdict → n ≡ first_no (client_step_questions config state message l (length outcome))
+        unfolding client_step_questions
+        stepped_number n is =
+            passes_told told (client_numbered config state) (ask 6 sized ∷ client_asks) n
+            (is ∙ stepped.answered.number ∙ sym (first_no_yes 6 sized client_asks (eq-eqb (length outcome) outcome_length long)))
+
+        pub client_not_taken : {why : Refusal} {n : ℕ} → left.verdict ≡ Err why → n ≡ refusal_number why
+            → ClientStepPost config state message l outcome state l' outcome n
+        unfolding protocol.stays records_of
+        client_not_taken {why} {n} refused is =
+            let e : refusal_number why ≡ first_no client_asks = sym (ap verdict_number refused) ∙ stepped.answered.number in
+            let is-no = ne_eqb (first_no client_asks) 0 (refusal_some why e).1 in
+            let board : l'.board ≡ l.board = stepped.lent ∙ rw is-no in
+            let elements : l'.elements ≡ l.elements = stepped.elements ∙ rw is-no in
+            let sends : l'.sends ≡ l.sends = stepped.answered.out ∙ rw is-no in
+            let refuses = (refusal_some why (sym is)).1 in
+            record {
+              number = stepped_number n (is ∙ sym (ap verdict_number refused));
+              left = left;
+              step = λ _. stepped;
+              saved = λ z. absurd (refuses z);
+              tells = λ z. absurd (refuses z);
+              held = λ _. (refl, (λ i. record { kept = stepped.kept i; elements = elements i; sends = sends i; board = board i }), refl);
+            }
+
+        -- it sends few
+        pub client_few : left.sent < 256
+        unfolding protocol.stays
+        client_few =
+            let cfg = config_of config in
+            let seen : BoardClient = clientView.seen cfg (clients.state_of state) l in
+            let few = cond_elim (λ (y : BoardMoved). length y.sends ≤ cfg.n) (eqb (first_no client_asks) 0) (client.client_step cfg (clients.state_of state) message l) (protocol.stays seen)
+            (λ _. step_few (order cfg) (encode cfg) (decode cfg) cfg _ _ _) (λ _. omega arith) in
+            omega (arith, stepped.answered.count, few, (client_valid config state (sym told.number)).n_high)
+
+        pub client_taken : left.verdict ≡ Ok tt → (state' outcome' : List ℕ) → clients.PackPost left.state state' → OutcomePost left.ended left.sent outcome'
+            → ClientStepPost config state message l outcome state' l' outcome' 0
+        client_taken taken state' outcome' packed tells =
+            record {
+              number = stepped_number 0 (sym (ap verdict_number taken));
+              left = left;
+              step = λ _. stepped;
+              saved = λ _. packed;
+              tells = λ _. tells;
+              held = λ refuses. absurd (refuses refl);
+            }

@@ -7,16 +7,15 @@ use native.Mathlib.Omega.{arith}
 use borrow.Author.Tests.{eq-eqb, eqb-true}
 use lib.Dec.{eqb}
 use lib.ListN.{length}
+use Rattle.std.proofs.Common.{Ok}
 use Rattle.laws.specs.Bytes.{Bytes}
 use Rattle.laws.proofs.Bools.{and_left, and_right}
 use Rattle.config.specs.declared.Config.{Config}
-use Rattle.config.specs.declared.Verdict.{Verdict}
 use Rattle.config.specs.Config.{Valid, board_length, questions, store_length}
 use Rattle.config.specs.Number.{client_number, server_number}
 use Rattle.config.specs.Questions.{ask, first_no, numbered, within}
 use Rattle.config.proofs.Questions.{first_no_pass, first_no_yes, none_rest, questions_numbered, within_true, yes_next}
 use Rattle.config.proofs.Valid.{valid, valid_asked}
-use Rattle.code.specs.Element.{element}
 use Rattle.code.specs.Encode.{encode_questions}
 use Rattle.record.specs.Element.{element_with}
 use Rattle.protocol.specs.Boards.{Board, IsBoard, fresh_parties, starting_board}
@@ -38,7 +37,6 @@ use Rattle.states.proofs.clients.Laws as clientLaws
 use Rattle.states.proofs.servers.Laws as serverLaws
 use Rattle.host.specs.Calls.{fresh_server_questions}
 use Rattle.host.specs.Config.{config_length, config_of, config_questions}
-use Rattle.host.specs.declared.told.Configured.{Configured}
 use Rattle.host.specs.inner.Told.{ConfigTold}
 use Rattle.host.specs.Runs.{ClientKept, ClientMade, Kept, ServerKept, ServerMade}
 use Rattle.host.proofs.Tied.{ClientIs, Comes, ServerIs}
@@ -54,8 +52,8 @@ config_valid config h =
     valid (config_of config) (yes_next 6 (eqb (length config) config_length) (questions (config_of config)) (omega arith) h).1
 
 -- the same of the configuration that bytes told
-pub valid_told : (config : List ℕ) (r : Configured) → ConfigTold config r → r.no ≡ 0 → Valid r.cfg
-valid_told config r told none = subst Valid (sym (told.config none)) (config_valid config (sym told.number ∙ none))
+pub valid_told : (config : List ℕ) {cfg : Config} → ConfigTold config (Ok cfg) → Valid cfg
+valid_told config told = subst Valid (sym told.gives) (config_valid config (sym told.number))
 
 module _ (config start : List ℕ) where
   abbrev cfg : Config
@@ -102,7 +100,7 @@ module _ (config start : List ℕ) where
           first_no_pass (questions cfg) (ask 6 lengths ∷ ask 8 (within 1 cfg.n s) ∷ []) (questions_numbered cfg) (valid_asked cfg ok)
           ∙ first_no_yes 6 lengths (ask 8 (within 1 cfg.n s) ∷ []) sized ∙ first_no_yes 8 (within 1 cfg.n s) [] here
 
-      as_fresh : serverCalls.FreshPost cfg (record { 0 = s }) made.element made.store_before x.store (record { verdict = Verdict.Accepted; state = new })
+      as_fresh : serverCalls.FreshPost cfg (record { 0 = s }) made.element made.store_before x.store (record { verdict = Ok tt; state = new })
       as_fresh =
           record {
             number = sym asks;
@@ -128,7 +126,7 @@ module _ (config start : List ℕ) where
             me = ap (λ (y : server.State). server_number y.me) back ∙ new_me;
             seen = ap (λ (y : server.State). serverView.view cfg y x.store) back
                 ∙ serverLaws.tidy_view cfg new x.store new_one
-                ∙ fresh_view cfg (record { 0 = s }) made.element made.store_before x.store (record { verdict = Verdict.Accepted; state = new }) as_fresh refl
+                ∙ fresh_view cfg (record { 0 = s }) made.element made.store_before x.store (record { verdict = Ok tt; state = new }) as_fresh refl
                 ∙ ap (λ (bs : List ℕ). fresh_server (element_with (board_length cfg) bs)) made.encoded.encodes;
           })
 

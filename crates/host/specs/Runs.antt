@@ -2,19 +2,19 @@
 -- the buffers that the same party's last call left. What is handed in is a record that some earlier call sent, any number of times and in any
 -- order, or bytes that question 12 finds out. A party that is not called again has crashed; a server that is called again from what it kept has
 -- restarted. The list of events is that of the clients' calls, refused ones included; a server's step adds none.
-use Rattle.std.specs.Prelude.{ℕ, true, false, cond, ◌≡◌, ◌⊎◌, length}
+use Rattle.std.specs.Prelude.{ℕ, true, false, ◌≡◌, ◌⊎◌}
 use mathlib.Core.List.{List, [], ◌∷◌, ◌++◌, Memᴰ}
 use Rattle.laws.specs.Bytes.{Bytes}
 use Rattle.config.specs.Questions.{first_no, within}
 use Rattle.record.specs.Record.{well_formed}
 use Rattle.record.specs.Records.{records}
 use Rattle.protocol.specs.Board.{nothing_ended, refused}
-use Rattle.protocol.specs.Boards.{Board, BoardAnswer, BoardCall, BoardEvent, board_of}
+use Rattle.protocol.specs.Boards.{Board, BoardAnswer, BoardEvent, board_of}
 use Rattle.protocol.specs.Hosts.{call_by, then}
 use Rattle.protocol.specs.Number.{upd}
 use Rattle.protocol.specs.Parties.{answer_of}
 use Rattle.client.specs.Calls.{ended_of}
-use Rattle.client.specs.State.{Lent, lent}
+use Rattle.client.specs.State.{lent}
 use Rattle.host.specs.Calls.{ClientFreshPost, ClientReadPost, ClientStepPost, ClientWritePost, EncodePost, ServerFreshPost, ServerStepPost, unless_no}
 use Rattle.host.specs.Config.{config_of, config_questions}
 use Rattle.host.specs.Outcome.{ended_from, sent_from}

@@ -1,5 +1,5 @@
 // The steps for hosts in C and Rust, which `host_c` exports. A configuration is 21 bytes, and a party's state is the bytes of `states`. Each call is
-// that of a crate below, and answers the refusal's number, or 0; on a refusal every buffer and every lent number is as it was. What a call is lent
+// that of a crate below, and answers the refusal's number, or 0, for C has no `Result`; on a refusal every buffer and every lent number is as it was. What a call is lent
 // to write overlaps nothing else that it is handed: the language sees to that. Every function is proved, nothing is assumed, and no public function
 // has a `requires`.
 #![tactic(auto)]
@@ -11,8 +11,7 @@ mod told;
 ghost use Rattle.client.specs.State.{lent};
 ghost use Rattle.host.specs.Calls.{ClientFreshPost, ClientReadPost, ClientStepPost, ClientWritePost, DecodePost, EncodeAllPost, EncodePost, LengthsPost, ServerElementPost, ServerFreshPost, ServerStepPost};
 
-use config::{Client, NewClient, NewServer, Server};
-use server::Found;
+use config::{Client, Refusal, Server, verdict_number};
 use states::{clients, servers};
 use tag::Tag;
 
@@ -26,11 +25,10 @@ pub fn coded_lengths(
 ) -> u8
     ensures { LengthsPost config.now board.old store.old elements.old sends.old board.new store.new elements.new sends.new result }
 {
-    let asked = told::config(config);
-    if asked.no != 0 {
-        return asked.no;
-    }
-    let cfg = asked.cfg;
+    let cfg = match told::config(config) {
+        Ok(cfg) => cfg,
+        Err(why) => return why.number(),
+    };
     let lengths = cfg.lengths(1);
     *board = lengths.board;
     *store = lengths.store;
@@ -49,26 +47,24 @@ pub fn coded_server_fresh(
 ) -> u8
     ensures { ServerFreshPost config.now s element.now state.old store.old state.new store.new result }
 {
-    let asked = told::config(config);
-    if asked.no != 0 {
-        return asked.no;
-    }
-    let cfg = asked.cfg;
+    let cfg = match told::config(config) {
+        Ok(cfg) => cfg,
+        Err(why) => return why.number(),
+    };
     if state.len() != servers::LENGTH {
-        return 6;
+        return Refusal::Shape.number();
     }
     if element.len() != cfg.e {
-        return 6;
+        return Refusal::Shape.number();
     }
     if store.len() != (cfg.d + 1) * cfg.e {
-        return 6;
+        return Refusal::Shape.number();
     }
-    let NewServer::Made(me) = Server::new(cfg, s) else {
-        return 8;
+    let Ok(me) = Server::new(cfg, s) else {
+        return Refusal::Missing.number();
     };
     let made = server::fresh(cfg, me, element, store);
-    let fresh = made.state;
-    keep::server(fresh, state);
+    keep::server(made.state, state);
     0
 }
 
@@ -82,20 +78,15 @@ pub fn coded_server_step(
 ) -> u8
     ensures { ServerStepPost config.now state.old message.now store.old answer.old state.new store.new answer.new result }
 {
-    let asked = told::server(config, state);
-    if asked.no != 0 {
-        return asked.no;
-    }
-    let cfg = asked.cfg;
-    let before = asked.state;
+    let told::OfServer { cfg, state: before } = match told::server(config, state) {
+        Ok(told) => told,
+        Err(why) => return why.number(),
+    };
     let after = server::step(cfg, before, message, store, answer);
-    let verdict = after.verdict;
-    let no = verdict.number();
-    if no != 0 {
-        return no;
+    if let Err(why) = after.verdict {
+        return why.number();
     }
-    let left = after.state;
-    keep::server(left, state);
+    keep::server(after.state, state);
     0
 }
 
@@ -110,21 +101,14 @@ pub fn coded_server_element(
 ) -> u8
     ensures { ServerElementPost config.now state.now (record { number = number; client = client }) store.now place.old place.new result }
 {
-    let asked = told::server(config, state);
-    if asked.no != 0 {
-        return asked.no;
-    }
-    let cfg = asked.cfg;
-    let now = asked.state;
-    let found = server::find(cfg, now, Tag { number, client }, store.len());
-    match found {
-        Found::No(why) => why.number(),
-        Found::Nowhere => {
-            *place = store.len();
-            0
-        }
-        Found::At(from) => {
-            *place = from;
+    let told::OfServer { cfg, state: now } = match told::server(config, state) {
+        Ok(told) => told,
+        Err(why) => return why.number(),
+    };
+    match server::find(cfg, now, Tag { number, client }, store.len()) {
+        Err(why) => why.number(),
+        Ok(found) => {
+            *place = found.unwrap_or(store.len());
             0
         }
     }
@@ -134,20 +118,18 @@ pub fn coded_server_element(
 pub fn coded_client_fresh(config: &[u8], c: u8, state: &mut [u8]) -> u8
     ensures { ClientFreshPost config.now c state.old state.new result }
 {
-    let asked = told::config(config);
-    if asked.no != 0 {
-        return asked.no;
-    }
-    let cfg = asked.cfg;
+    let cfg = match told::config(config) {
+        Ok(cfg) => cfg,
+        Err(why) => return why.number(),
+    };
     if state.len() != clients::LENGTH {
-        return 6;
+        return Refusal::Shape.number();
     }
-    let NewClient::Made(me) = Client::new(cfg, c) else {
-        return 8;
+    let Ok(me) = Client::new(cfg, c) else {
+        return Refusal::Missing.number();
     };
     let made = client::fresh(cfg, me);
-    let fresh = made.state;
-    keep::client(fresh, state);
+    keep::client(made.state, state);
     0
 }
 
@@ -162,20 +144,15 @@ pub fn coded_client_write(
 ) -> u8
     ensures { ClientWritePost config.now state.old length board.now kept.old sends.old state.new kept.new sends.new result }
 {
-    let asked = told::client(config, state);
-    if asked.no != 0 {
-        return asked.no;
-    }
-    let cfg = asked.cfg;
-    let before = asked.state;
+    let told::OfClient { cfg, state: before } = match told::client(config, state) {
+        Ok(told) => told,
+        Err(why) => return why.number(),
+    };
     let after = client::begin_write(cfg, before, length, board, kept, sends);
-    let verdict = after.verdict;
-    let no = verdict.number();
-    if no != 0 {
-        return no;
+    if let Err(why) = after.verdict {
+        return why.number();
     }
-    let left = after.state;
-    keep::client(left, state);
+    keep::client(after.state, state);
     0
 }
 
@@ -183,20 +160,15 @@ pub fn coded_client_write(
 pub fn coded_client_read(config: &[u8], state: &mut [u8], sends: &mut [u8]) -> u8
     ensures { ClientReadPost config.now state.old sends.old state.new sends.new result }
 {
-    let asked = told::client(config, state);
-    if asked.no != 0 {
-        return asked.no;
-    }
-    let cfg = asked.cfg;
-    let before = asked.state;
+    let told::OfClient { cfg, state: before } = match told::client(config, state) {
+        Ok(told) => told,
+        Err(why) => return why.number(),
+    };
     let after = client::begin_read(cfg, before, sends);
-    let verdict = after.verdict;
-    let no = verdict.number();
-    if no != 0 {
-        return no;
+    if let Err(why) = after.verdict {
+        return why.number();
     }
-    let left = after.state;
-    keep::client(left, state);
+    keep::client(after.state, state);
     0
 }
 
@@ -213,25 +185,19 @@ pub fn coded_client_step(
 ) -> u8
     ensures { ClientStepPost config.now state.old message.now (lent kept.now elements.old sends.old board.old) outcome.old state.new (lent kept.now elements.new sends.new board.new) outcome.new result }
 {
-    let asked = told::client(config, state);
-    if asked.no != 0 {
-        return asked.no;
-    }
+    let told::OfClient { cfg, state: before } = match told::client(config, state) {
+        Ok(told) => told,
+        Err(why) => return why.number(),
+    };
     if outcome.len() != outcome::LENGTH {
-        return 6;
+        return Refusal::Shape.number();
     }
-    let cfg = asked.cfg;
-    let before = asked.state;
     let after = client::step(cfg, before, message, kept, elements, sends, board);
-    let verdict = after.verdict;
-    let no = verdict.number();
-    if no != 0 {
-        return no;
+    if let Err(why) = after.verdict {
+        return why.number();
     }
-    let left = after.state;
-    let ended = after.ended;
-    keep::client(left, state);
-    let tells = outcome::pack(ended, after.sent);
+    keep::client(after.state, state);
+    let tells = outcome::pack(after.ended, after.sent);
     copies::copy(&tells, outcome);
     0
 }
@@ -240,12 +206,11 @@ pub fn coded_client_step(
 pub fn coded_encode(config: &[u8], board: &[u8], s: u8, element: &mut [u8]) -> u8
     ensures { EncodePost config.now board.now s element.old element.new result }
 {
-    let asked = told::read(config);
-    if asked.no != 0 {
-        return asked.no;
-    }
-    let cfg = asked.cfg;
-    code::encode(cfg, board, s, element).number()
+    let cfg = match told::read(config) {
+        Ok(cfg) => cfg,
+        Err(why) => return why.number(),
+    };
+    verdict_number(code::encode(cfg, board, s, element))
 }
 
 // The elements of all servers, each in its record of `distance` bytes of a lent buffer, `offset` bytes behind the record's start.
@@ -258,22 +223,20 @@ pub fn coded_encode_all(
 ) -> u8
     ensures { EncodeAllPost config.now board.now offset distance buffer.old buffer.new result }
 {
-    let asked = told::read(config);
-    if asked.no != 0 {
-        return asked.no;
-    }
-    let cfg = asked.cfg;
-    code::encode_all(cfg, board, offset, distance, buffer).number()
+    let cfg = match told::read(config) {
+        Ok(cfg) => cfg,
+        Err(why) => return why.number(),
+    };
+    verdict_number(code::encode_all(cfg, board, offset, distance, buffer))
 }
 
 // The board of elements.
 pub fn coded_decode(config: &[u8], servers: &[u8], elements: &[u8], board: &mut [u8]) -> u8
     ensures { DecodePost config.now servers.now elements.now board.old board.new result }
 {
-    let asked = told::read(config);
-    if asked.no != 0 {
-        return asked.no;
-    }
-    let cfg = asked.cfg;
-    code::decode(cfg, servers, elements, board).number()
+    let cfg = match told::read(config) {
+        Ok(cfg) => cfg,
+        Err(why) => return why.number(),
+    };
+    verdict_number(code::decode(cfg, servers, elements, board))
 }

@@ -1,5 +1,5 @@
 // The line of an event.
-ghost use Rattle.std.specs.Prelude.{◌≡◌, ◌+◌, ◌*◌, ◌≤◌, min, length, take};
+ghost use Rattle.std.specs.Prelude.{◌≡◌, ◌+◌, ◌*◌, ◌≤◌, length, take};
 ghost use Rattle.parties.specs.Acts.{answer_of};
 ghost use Rattle.lines.specs.Line.{bytes_of, line_of, refused_of, said_of, shown_of, tag_of, written_of};
 ghost use Rattle.lines.specs.Text.{Appended};
@@ -29,19 +29,12 @@ fn written(tag: Tag, out: &mut [u8], at: usize) -> usize
     text::word(b"\n", out, end)
 }
 
-// The lesser of two numbers.
-fn lesser(a: usize, b: usize) -> usize
-    ensures { result ≡ min a b }
-{
-    if a < b { a } else { b }
-}
-
 // A blank and the bytes read, as many as the length says; nothing of none.
 fn board(long: u16, read: &[u8], out: &mut [u8], at: usize) -> usize
     requires { at + (1 + 2 * length read.now) ≤ length out.old }
     ensures { Appended out.old at (bytes_of (take long read.now)) out.new result × (result ≤ at + (1 + 2 * length read.now)) }
 {
-    let end = lesser(long as usize, read.len());
+    let end = (long as usize).min(read.len());
     if end == 0 {
         return at;
     }

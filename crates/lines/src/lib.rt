@@ -70,6 +70,7 @@ pub fn block(
     let read: &mut [u8] = &mut space[..v];
     let mut taken = 0;
     let mut used = 0;
+    // Goes on while there is room for a line too, and how far is answered.
     while goes_on(input.len(), taken, size, used, starts) {
         let call = event::called(taken, v, input);
         let places = events::names(cfg, rig.count, call, messages);
@@ -119,9 +120,9 @@ fn board_length(cfg: Config, m: usize) -> usize
 fn starts(cfg: Config, m: usize, v: usize, long: usize) -> usize
     ensures { result ≡ (if nat_eq (first_no (rig_questions cfg m)) 0 then long + 1 - line_room v else 0) }
 {
-    if cfg.ask_rig(m) != 0 {
+    let Ok(()) = cfg.ask_rig(m) else {
         return 0;
-    }
+    };
     if long < 84 {
         return 0;
     }

@@ -27,16 +27,12 @@ pub(crate) fn hex(board: &[u8], out: &mut [u8], at: usize) -> usize
     requires { at + 2 * length board.now ≤ length out.old }
     ensures { Appended out.old at (hex_of board.now) out.new result }
 {
-    let mut i = 0;
-    let mut to = at;
-    while i < board.len() {
-        let b = board[i];
+    for (i, &b) in board.iter().enumerate() {
+        let to = at + 2 * i;
         out[to] = digit(b / 16);
         out[to + 1] = digit(b % 16);
-        to += 2;
-        i += 1;
     }
-    to
+    at + 2 * board.len()
 }
 
 fn digit(d: u8) -> u8

@@ -6,7 +6,7 @@
 // of them, is tested.
 #![tactic(auto)]
 
-ghost use Rattle.std.specs.Prelude.{◌-◌, ◌≤◌, min, cond, not, ◌&&◌, ◌≡◌, eqb, length, take};
+ghost use Rattle.std.specs.Prelude.{◌-◌, ◌≤◌, cond, not, ◌&&◌, ◌≡◌, eqb, length, take};
 ghost use Rattle.events.specs.View.{lent};
 ghost use Rattle.draws.specs.Draws.{NewGeneratorPost, default_seed};
 ghost use Rattle.record.specs.Record.{little_endian};
@@ -14,7 +14,8 @@ ghost use Rattle.maker.specs.Calls.{bytes_for};
 ghost use Rattle.maker.specs.Steps.{Along, MadeSo};
 ghost use Rattle.load.specs.inner.Blocks.{MadeMost};
 
-use draws::{Generator, NewGenerator};
+use config::Refusal;
+use draws::Generator;
 use lines::PROGRAM_RECORD;
 use maker::Load;
 
@@ -31,8 +32,8 @@ fn main() {
     let count = number(head[0], head[1], head[2], head[3]);
     let seed = number(head[4], head[5], head[6], head[7]);
     match generator(got, seed) {
-        NewGenerator::Made(generator) => begin(generator, count as usize),
-        NewGenerator::No(why) => refused(why.number()),
+        Ok(generator) => begin(generator, count as usize),
+        Err(why) => refused(why.number()),
     }
 }
 
@@ -47,17 +48,17 @@ fn is_short(got: usize) -> bool
 fn number(a: u8, b: u8, c: u8, d: u8) -> u32
     ensures { result ≡ little_endian a b c d }
 {
-    a as u32 + 256 * b as u32 + 65536 * c as u32 + 16777216 * d as u32
+    record::layout::number(a, b, c, d)
 }
 
 // The generator of the seed that is given with the count, or of the default.
-fn generator(got: usize, seed: u32) -> NewGenerator
+fn generator(got: usize, seed: u32) -> Result<Generator, Refusal>
     ensures { NewGeneratorPost (cond (eqb got 8) seed default_seed) result }
 {
     if got == 8 {
         return Generator::new(seed);
     }
-    NewGenerator::Made(Generator::default())
+    Ok(Generator::default())
 }
 
 // The line of a refusal, by its number.
@@ -107,8 +108,9 @@ fn blocks(
     ensures { MadeMost load (lent messages.old stores.old boards.old elements.old) count result (lent messages.new stores.new boards.new elements.new) }
 {
     let mut left = count;
+    // A turn takes off a block, and all that is left where a write failed (`still`).
     while left > 0 {
-        let n = lesser(left, BLOCK);
+        let n = left.min(BLOCK);
         load = block(load, n, out, messages, stores, boards, elements);
         left = still(left, n, wrote(n, out));
     }
@@ -147,11 +149,4 @@ fn still(left: usize, n: usize, wrote: bool) -> usize
     ensures { result ≡ cond wrote (left - n) 0 }
 {
     if wrote { left - n } else { 0 }
-}
-
-// The lesser of two numbers.
-fn lesser(a: usize, b: usize) -> usize
-    ensures { result ≡ min a b }
-{
-    if a < b { a } else { b }
 }

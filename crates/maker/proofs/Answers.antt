@@ -1,4 +1,5 @@
 -- The answers of the maker's calls, from what their parts show. Assumes nothing.
+use Rattle.std.proofs.Common.{Result, Ok, Err}
 use Prim.Native.Nat.{ℕ}
 use mathlib.Core.Path.{◌≡◌, refl, sym, ap, ◌∙◌}
 use mathlib.Core.Bool.{Bool, true, false, cond, ◌&&◌}
@@ -9,7 +10,7 @@ use lib.Dec.{eqb}
 use lib.ListN.{length}
 use Rattle.laws.proofs.Bools.{and_left}
 use Rattle.config.specs.declared.Refusal.TheVariants.{Seed, Shape}
-use Rattle.config.specs.declared.Verdict.{Verdict}
+use Rattle.config.specs.Refusal.{Verdict}
 use Rattle.laws.specs.Below.{all_below}
 use Rattle.config.specs.Config.{rank, ranks_within, rig_questions}
 use Rattle.config.specs.Questions.{first_no}
@@ -19,7 +20,7 @@ use Rattle.rig.specs.Calls as rig
 use Rattle.rig.proofs.Always.{always_sized, always_within}
 use Rattle.lines.specs.Program.{program, program_messages, program_start}
 use Rattle.draws.specs.declared.Generator.{Generator}
-use Rattle.draws.specs.declared.NewGenerator.{NewGenerator}
+use Rattle.draws.specs.Draws.{NewGenerator}
 use Rattle.draws.specs.Draws.{NewGeneratorPost}
 use Rattle.draws.proofs.Seeds.{its_seed, some_seed}
 use Rattle.maker.specs.declared.Load.{Load}
@@ -42,7 +43,7 @@ module _ (x : Load) (count : ℕ) (out : List ℕ) (l : Lent) {yes : Bool}
     unfolding first_no
     no-is = ap six (sym is)
 
-    pub records-no : yes ≡ false → RecordsPost x count out l (record { verdict = Verdict.No Shape; load = x }) out l
+    pub records-no : yes ≡ false → RecordsPost x count out l (record { verdict = Err Shape; load = x }) out l
     records-no h =
         let is-six : records_no x count out l ≡ 6 = no-is ∙ ap six h in
         record {
@@ -63,13 +64,13 @@ module _ (x : Load) (count : ℕ) (out : List ℕ) (l : Lent) {yes : Bool}
           eqb-true (length out) (bytes_for count) (and_left long both (and_left (long && both) kept (sym is ∙ h)))
 
       pub records-yes : {y : Load} {out' : List ℕ} {l' : Lent} → Steps x l count out' y l'
-          → RecordsPost x count out l (record { verdict = Verdict.Accepted; load = y }) out' l'
+          → RecordsPost x count out l (record { verdict = (Ok tt); load = y }) out' l'
       records-yes steps = record { number = sym none_no; steps = λ _. steps; held = λ ne. absurd (ne none_no) }
 
 -- ---- the maker
 
 -- no seed
-pub make-no : {seed count : ℕ} {out : List ℕ} → seed ≡ 0 → MakePost seed count out (Verdict.No Seed) out
+pub make-no : {seed count : ℕ} {out : List ℕ} → seed ≡ 0 → MakePost seed count out (Err Seed) out
 unfolding first_no
 make-no {seed} {count} {out} z =
     let twenty : make_no seed count out ≡ 20 = rw (eq-eqb seed 0 z) in
@@ -82,7 +83,7 @@ unfolding all_below first_no rank ranks_within rig_questions rig.make_questions 
 lends l m s b e =
     rw (eq-eqb (length l.messages) 5120 m, eq-eqb (length l.stores) 3 s, eq-eqb (length l.boards) 2 b, eq-eqb (length l.elements) 6 e)
 
-module _ {seed count : ℕ} {out : List ℕ} {n : NewGenerator} (new : NewGeneratorPost seed n) {g : Generator} (is : n ≡ NewGenerator.Made g)
+module _ {seed count : ℕ} {out : List ℕ} {n : NewGenerator} (new : NewGeneratorPost seed n) {g : Generator} (is : n ≡ Ok g)
     {l : Lent} {b : Loaded} {begun : Lent} (post : BeginPost g l b begun) (no : rig.make_no program program_messages program_start l ≡ 0)
     {r : Loaded} {out' : List ℕ} {l' : Lent} (made : RecordsPost b.load count out begun r out' l')
   where

@@ -8,6 +8,10 @@ use native.Mathlib.Decide.{ℕ_discrete}
 use borrow.Author.Tests.{eq-eqb, ne_eqb}
 use lib.Dec.{eqb}
 use Rattle.laws.specs.Below.{all_below}
+use Rattle.std.specs.Result.{is_ok}
+use Rattle.std.proofs.Common.{Result, Ok, Err}
+use Rattle.config.specs.Refusal.{Verdict, refusal_number, verdict_number}
+use Rattle.config.proofs.Refusals.{refusal_low}
 use Rattle.config.specs.Config.{rank, ranks_within, rig_questions}
 use Rattle.config.specs.Questions.{ask, first_no}
 use Rattle.lines.specs.Program.{program, program_messages}
@@ -33,3 +37,8 @@ asked_yes b {n} e z = sym (asked_is b) ∙ eq-eqb _ 0 (sym e ∙ z)
 
 pub asked-no : (b : Bool) {n : ℕ} → n ≡ first_no (rig_questions program program_messages ++ ask 6 b ∷ []) → (n ≡ 0 → ⊥) → b ≡ false
 asked-no b {n} e ne = sym (asked_is b) ∙ ne_eqb _ 0 (λ z. ne (e ∙ z))
+
+-- nothing was refused exactly where the number is 0
+pub ok_is : (r : Verdict) → is_ok r ≡ eqb (verdict_number r) 0
+ok_is (Ok x) = refl
+ok_is (Err why) = sym (ne_eqb (refusal_number why) 0 (λ z. omega (arith, refusal_low why, z)))

@@ -1,6 +1,6 @@
 -- What the maker's calls ask, answer and leave.
 use Rattle.std.specs.Prelude.{ℕ, ◌*◌, ◌&&◌, ◌≡◌, List, [], ◌∷◌, ◌++◌, eqb, length}
-use Rattle.config.specs.declared.Verdict.{Verdict}
+use Rattle.config.specs.Refusal.{Verdict}
 use Rattle.config.specs.Config.{board_length}
 use Rattle.config.specs.Questions.{Question, ask, first_no}
 use Rattle.config.specs.Refusal.{verdict_number}

@@ -14,8 +14,8 @@ ghost use Rattle.events.specs.View.{lent};
 ghost use Rattle.lines.specs.Program.{program, program_messages};
 ghost use Rattle.maker.specs.Calls.{BeginPost, MakePost, RecordsPost, bytes_for};
 
-use config::{Refusal, Verdict};
-use draws::{Generator, NewGenerator};
+use config::Refusal;
+use draws::Generator;
 use events::{Rig, Sizes};
 use lines::{PROGRAM, PROGRAM_MESSAGES, PROGRAM_RECORD, PROGRAM_START};
 
@@ -26,10 +26,10 @@ pub struct Load {
     pub rig: Rig,
 }
 
-// What a call leaves.
+// What a call leaves. The load stands beside the verdict: `RecordsPost` and `BeginPost` say of a refusal too which it is.
 #[derive(Clone, Copy)]
 pub struct Loaded {
-    pub verdict: Verdict,
+    pub verdict: Result<(), Refusal>,
     pub load: Load,
 }
 
@@ -79,13 +79,13 @@ pub fn records(
     };
     if !fits(load.rig, count, out.len(), sizes) {
         return Loaded {
-            verdict: Verdict::No(Refusal::Shape),
+            verdict: Err(Refusal::Shape),
             load,
         };
     }
     let load = step::all(load, count, out, messages, stores, boards, elements);
     Loaded {
-        verdict: Verdict::Accepted,
+        verdict: Ok(()),
         load,
     }
 }
@@ -97,10 +97,10 @@ fn fits(rig: Rig, count: usize, long: usize, sizes: Sizes) -> bool
     if !whole(count, long) {
         return false;
     }
-    if events::ask(PROGRAM, PROGRAM_MESSAGES, 1, sizes) != 0 {
+    let Ok(()) = events::ask(PROGRAM, PROGRAM_MESSAGES, 1, sizes) else {
         return false;
-    }
-    rig::ask(PROGRAM, PROGRAM_MESSAGES, rig) == 0
+    };
+    rig::ask(PROGRAM, PROGRAM_MESSAGES, rig).is_ok()
 }
 
 // Whether there are 7 bytes for each of so many records.
@@ -111,11 +111,11 @@ fn whole(count: usize, long: usize) -> bool
 }
 
 // The records of a count and a seed: questions 20, and 6 of the bytes lent, 7 for each. Each call starts anew.
-pub fn make(seed: u32, count: usize, out: &mut [u8]) -> Verdict
+pub fn make(seed: u32, count: usize, out: &mut [u8]) -> Result<(), Refusal>
     ensures { MakePost seed count out.old result out.new }
 {
-    let NewGenerator::Made(generator) = Generator::new(seed) else {
-        return Verdict::No(Refusal::Seed);
+    let Ok(generator) = Generator::new(seed) else {
+        return Err(Refusal::Seed);
     };
     let mut messages = [0u8; 5120];
     let mut stores = [0u8; 3];

@@ -55,13 +55,10 @@ pub(crate) fn all(
     requires { length out.old ≡ bytes_for count }
     ensures { Steps load (lent messages.old stores.old boards.old elements.old) count out.new result (lent messages.new stores.new boards.new elements.new) }
 {
-    let mut made = 0;
-    let mut at = 0;
-    while made < count {
+    for made in 0..count {
+        let at = made * PROGRAM_RECORD;
         let end = at + PROGRAM_RECORD;
         load = step(load, &mut out[at..end], messages, stores, boards, elements);
-        at = end;
-        made += 1;
     }
     load
 }

@@ -1,4 +1,5 @@
 -- What a call of the parties leaves, from what the party's own call leaves.
+use Rattle.std.proofs.Common.{Ok, Err}
 use Prim.Native.Nat.{ℕ}
 use mathlib.Core.Path.{◌≡◌, refl, sym, ap, ap₂, subst, ◌∙◌}
 use mathlib.Core.Bool.{Bool, true, false, cond, ◌&&◌, true≢false}
@@ -11,7 +12,7 @@ use Rattle.laws.proofs.Bools.{and_left, and_right}
 use Rattle.config.specs.declared.Client.{Client}
 use Rattle.config.specs.declared.Config.{Config}
 use Rattle.config.specs.declared.Refusal.{Refusal}
-use Rattle.config.specs.declared.Verdict.{Verdict}
+use Rattle.config.specs.Refusal.{Verdict}
 use Rattle.config.specs.Number.{client_number, server_number}
 use Rattle.config.specs.Refusal.{refusal_number, verdict_number}
 use Rattle.record.proofs.Parties.{number_low}
@@ -117,14 +118,14 @@ module _ (cfg : Config) (number : ℕ) (act : BoardParties → BoardActed) (x : 
       (store : l'.store ≡ l.store)
       (stays : (number ≡ 0 → ⊥) → l' ≡ l)
       (long : (length l'.kept ≡ length l.kept) × (length l'.elements ≡ length l.elements)) where
-    moved : y.verdict ≡ Verdict.Accepted → ActPost cfg number act x l sends read (moved_on Verdict.Accepted x y) l' sends' read'
+    moved : y.verdict ≡ (Ok tt) → ActPost cfg number act x l sends read (moved_on (Ok tt) x y) l' sends' read'
     moved e =
         let none_no : number ≡ 0 = sym answered.number ∙ ap verdict_number e in
         let z : eqb number 0 ≡ true = eq-eqb number 0 none_no in
         let m : unless_no number before move ≡ move = ap (λ (b : Bool). cond b move (protocolClient.stays before)) z in
         let own : client_number y.state.me ≡ c = ap client_number answered.self in
         let seen : clientView.view cfg y.state l'.kept l'.elements ≡ move.client = answered.client ∙ ap (λ (t : BoardMoved). t.client) m in
-        accepted_act cfg number act x l sends read none_no (moved_on Verdict.Accepted x y) l' sends' read' move.sends (protocol.answer_of c move.ended)
+        accepted_act cfg number act x l sends read none_no (moved_on (Ok tt) x y) l' sends' read' move.sends (protocol.answer_of c move.ended)
         (λ p. is none_no p
         ∙ λ i. record {
           parties = with_pair p s (serverView.view cfg x.node.state (sym store i)) x.node.up (sym own i) (sym seen i);
@@ -141,7 +142,7 @@ module _ (cfg : Config) (number : ℕ) (act : BoardParties → BoardActed) (x : 
         (answered.within (and_right (server_state_within cfg x.node.state) (state_within cfg x.client) h)))
         (ap length store, long.0, long.1)
 
-    refuses : (why : Refusal) → y.verdict ≡ Verdict.No why → ActPost cfg number act x l sends read (moved_on (Verdict.No why) x y) l' sends' read'
+    refuses : (why : Refusal) → y.verdict ≡ Err why → ActPost cfg number act x l sends read (moved_on (Err why) x y) l' sends' read'
     unfolding protocolClient.stays records_of
     refuses why e =
         let same : refusal_number why ≡ number = sym (ap verdict_number e) ∙ answered.number in
@@ -159,5 +160,5 @@ module _ (cfg : Config) (number : ℕ) (act : BoardParties → BoardActed) (x : 
     client_act r e = subst (λ (w : Acted). ActPost cfg number act x l sends read w l' sends' read') (sym e) (by y.verdict refl)
       where
         by : (w : Verdict) → y.verdict ≡ w → ActPost cfg number act x l sends read (moved_on w x y) l' sends' read'
-        by Verdict.Accepted h = moved h
-        by (Verdict.No why) h = refuses why h
+        by (Ok tt) h = moved h
+        by (Err why) h = refuses why h

@@ -1,4 +1,5 @@
 -- A party crashes, or a server is started again.
+use Rattle.std.proofs.Common.{Ok, Err}
 use Prim.Native.Nat.{ℕ}
 use mathlib.Core.Path.{◌≡◌, refl, sym, ap, subst, ◌∙◌}
 use mathlib.Core.Bool.{Bool, true, false, cond, not}
@@ -7,7 +8,7 @@ use borrow.Author.Tests.{eq-eqb}
 use Rattle.laws.proofs.Bools.{and_left, and_right}
 use Rattle.config.specs.declared.Config.{Config}
 use Rattle.config.specs.declared.Refusal.{Refusal}
-use Rattle.config.specs.declared.Verdict.{Verdict}
+use Rattle.config.specs.Refusal.{Verdict}
 use Rattle.config.specs.Number.{client_number, server_number}
 use Rattle.config.specs.Questions.{ask, first_no}
 use Rattle.config.specs.Refusal.{verdict_number}
@@ -101,14 +102,14 @@ module _ (cfg : Config) (x : Pair) (l : Parts) (sends read : List ℕ) where
   pub client_crashed : (y : Moved) → CrashPost cfg x.client y → (r : Acted) → r ≡ moved_on y.verdict x y → ClientPost r
   client_crashed y post r e = subst ClientPost (sym e) (by y.verdict refl)
     where
-      is_down : number ≡ 0 → moved_on Verdict.Accepted x y ≡ quietly (client_down x)
+      is_down : number ≡ 0 → moved_on (Ok tt) x y ≡ quietly (client_down x)
       is_down none =
           let s = post.state ∙ ap (λ (b : Bool). cond b (in_phase x.client Phase.Down) x.client) (eq-eqb number 0 none) in
           λ i. record { answer = ended_by (s i).me (post.nothing i); pair = record { node = x.node; client = s i }; sent = post.sent i }
 
       by : (w : Verdict) → y.verdict ≡ w → ClientPost (moved_on w x y)
-      by Verdict.Accepted h =
+      by (Ok tt) h =
           let none : number ≡ 0 = sym post.number ∙ ap verdict_number h in
           subst ClientPost (sym (is_down none)) (client-down none)
-      by (Verdict.No why) h =
+      by (Err why) h =
           refused_act cfg number (crashes_client x) x l sends read why (sym (ap verdict_number h) ∙ post.number)

@@ -1,6 +1,7 @@
 -- Fresh parties: a server's element is encoded and put into its store; what the questions of a making show. Assumes nothing.
-use Prim.Native.Nat.{ℕ, ◌≤◌, min}
-use mathlib.Core.Path.{◌≡◌, refl, sym, ap, ap₂, subst, ◌∙◌}
+use Rattle.std.proofs.Common.{Ok, Err}
+use Prim.Native.Nat.{ℕ, ◌≤◌}
+use mathlib.Core.Path.{◌≡◌, refl, sym, ap, ap₂, ◌∙◌}
 use mathlib.Core.Bool.{Bool, true, false, cond, ◌&&◌}
 use mathlib.Core.List.{List, [], ◌∷◌}
 use native.Mathlib.Omega.{arith}
@@ -10,16 +11,20 @@ use lib.ListN.{length}
 use Rattle.laws.proofs.Bools.{and_left, and_right}
 use Rattle.config.specs.declared.Config.{Config}
 use Rattle.config.specs.declared.Client.{Client as ClientNumber}
-use Rattle.config.specs.declared.NewClient.{NewClient}
+use Rattle.std.specs.Result.{IsOk}
+use mathlib.Core.Bool.{true≢false}
+use Rattle.record.proofs.Parties.{no_client, no-server}
+use Rattle.config.proofs.Refusals.{refusal_some}
+use Rattle.config.specs.Number.{NewClient, NewServer, NewServerPost}
 use Rattle.config.specs.declared.Refusal.{Refusal}
 use Rattle.config.specs.declared.Server.{Server as ServerNumber}
-use Rattle.config.specs.declared.Verdict.{Verdict}
+use Rattle.config.specs.Refusal.{Verdict}
 use Rattle.config.specs.Config.{Valid, board_length, questions, store_length}
-use Rattle.config.specs.Number.{NewClientPost, client_number, client_questions, new_client_number, server_number}
-use Rattle.config.specs.Questions.{Question, ask, first_no, last_question, numbered, within}
-use Rattle.config.specs.Refusal.{passing15, refusal_number, verdict_number}
+use Rattle.config.specs.Number.{NewClientPost, client_number, client_questions, server_number}
+use Rattle.config.specs.Questions.{Question, ask, first_no, numbered, within}
+use Rattle.config.specs.Refusal.{refusal_number, verdict_number}
 use Rattle.config.proofs.Questions.{Given, first_no_given, first_no_no, first_no_pass, first_no_yes, last_yes, later, none_first, none_rest, numbered_both, questions_numbered, within_high, within_low, yes_next}
-use Rattle.config.proofs.Refusals.{refusal_low, verdict_given}
+use Rattle.config.proofs.Refusals.{refusal_low}
 use Rattle.config.proofs.Valid.{valid, valid_asked}
 use Rattle.code.specs.Element.{element}
 use Rattle.code.specs.Encode.{EncodePost}
@@ -83,19 +88,14 @@ module _ (cfg : Config) (s : ℕ) (start store : List ℕ) where
   unfolding fresh_server_questions numbered
   number_given = first_no_given (fresh_server_questions cfg s (length start) (length store)) (numbered_both (questions cfg) _ (questions_numbered cfg) refl)
 
-  pub server_refused : (got : ℕ) → got ≡ server_no cfg s start store → (got ≡ 0 → ⊥) → (verdict : Verdict) (x : Node)
-      → verdict_number verdict ≡ min (passing15 got) last_question → x ≡ fresh_node 1 1 → FreshServerPost cfg s start store store (record { verdict = verdict; node = x })
-  server_refused got e ne verdict x number least =
-      record {
-        number = verdict_given (subst Given (sym e) number_given) number ∙ e;
-        made = λ z. absurd (ne (e ∙ z));
-        seen = λ z. absurd (ne (e ∙ z));
-        long = refl;
-        refused = λ _. (least, refl);
-      }
+  pub server_refused : (why : Refusal) → refusal_number why ≡ server_no cfg s start store → (x : Node)
+      → x ≡ fresh_node 1 1 → FreshServerPost cfg s start store store (record { verdict = Err why; node = x })
+  server_refused why e x least =
+      let some = (refusal_some why e).1 in
+      record { number = e; made = λ z. absurd (some z); seen = λ z. absurd (some z); long = refl; refused = λ _. (least, refl) }
 
   pub server-made : server_no cfg s start store ≡ 0 → (after : List ℕ) (x : Node) → NodePost cfg s start store after x
-      → FreshServerPost cfg s start store after (record { verdict = Verdict.Accepted; node = x })
+      → FreshServerPost cfg s start store after (record { verdict = (Ok tt); node = x })
   server-made z after x post =
       record {
         number = sym z;
@@ -156,18 +156,27 @@ module _ (cfg : Config) (c : ℕ) (valid : Valid cfg) (inside : within 1 cfg.c c
   client_within = rw inside
 
 -- what its number, made, gives, or what refuses it
-pub client_fresh : (cfg : Config) (c : ℕ) (got : NewClient) → NewClientPost cfg c got → (me : ClientNumber) → got ≡ NewClient.Made me → client_number me ≡ c → (r : NewState)
+pub client_fresh : (cfg : Config) (c : ℕ) (got : NewClient) → NewClientPost cfg c got → (me : ClientNumber) → got ≡ Ok me → client_number me ≡ c → (r : NewState)
     → clientCalls.FreshPost cfg me r → FreshClientPost cfg c r
 client_fresh cfg c got asked me is own r post =
-    let none : first_no (client_questions cfg c) ≡ 0 = sym (sym (ap new_client_number is) ∙ asked.number) in
+    let none : first_no (client_questions cfg c) ≡ 0 = sym (sym (ap verdict_number is) ∙ asked.number) in
     record {
       number = post.number ∙ ap (λ n. first_no (client_questions cfg n)) own;
       made = λ z. post.state ∙ ap fresh_state own;
       refused = λ ne. absurd (ne none);
     }
 
-pub client_refused : (cfg : Config) (c : ℕ) (got : NewClient) (why : Refusal) → NewClientPost cfg c got → got ≡ NewClient.No why → (x : client.State)
-    → x ≡ fresh_state 1 → FreshClientPost cfg c (record { verdict = Verdict.No why; state = x })
+pub client_refused : (cfg : Config) (c : ℕ) (got : NewClient) (why : Refusal) → NewClientPost cfg c got → got ≡ Err why → (x : client.State)
+    → x ≡ fresh_state 1 → FreshClientPost cfg c (record { verdict = Err why; state = x })
 client_refused cfg c got why post e x is =
-    let number : refusal_number why ≡ first_no (client_questions cfg c) = sym (ap new_client_number e) ∙ post.number in
+    let number : refusal_number why ≡ first_no (client_questions cfg c) = sym (ap verdict_number e) ∙ post.number in
     record { number = number; made = λ z. absurd (omega (arith, refusal_low why, number, z)); refused = λ _. is }
+
+-- a client or a server within the limits is made
+pub some_client_made : (cfg : Config) (c : ℕ) → Valid cfg → (r : NewClient) → NewClientPost cfg c r → within 1 cfg.c c ≡ true → IsOk r
+some_client_made cfg c v (Ok me) post h = refl
+some_client_made cfg c v (Err why) post h = absurd (true≢false (sym h ∙ no_client cfg c v (Err why) why post refl))
+
+pub some_server_made : (cfg : Config) (s : ℕ) → Valid cfg → (r : NewServer) → NewServerPost cfg s r → within 1 cfg.n s ≡ true → IsOk r
+some_server_made cfg s v (Ok me) post h = refl
+some_server_made cfg s v (Err why) post h = absurd (true≢false (sym h ∙ no-server cfg s v (Err why) why post refl))

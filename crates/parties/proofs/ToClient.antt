@@ -1,4 +1,5 @@
 -- A record handed to a client: its questions, and what is left of them.
+use Rattle.std.proofs.Common.{Ok, Err}
 use Prim.Native.Nat.{ℕ, ◌+◌, ◌≤◌}
 use mathlib.Core.Path.{◌≡◌, refl, sym, ap, ap₂, subst, ◌∙◌}
 use mathlib.Core.Bool.{Bool, true, false, cond, not, ◌&&◌, true≢false}
@@ -12,7 +13,7 @@ use lib.ListN.{length}
 use Rattle.laws.proofs.Bools.{and_left, and_right}
 use Rattle.config.specs.declared.Config.{Config}
 use Rattle.config.specs.declared.Refusal.{Refusal}
-use Rattle.config.specs.declared.Verdict.{Verdict}
+use Rattle.config.specs.Refusal.{Verdict}
 use Rattle.config.specs.Config.{Valid, questions}
 use Rattle.config.specs.Number.{client_number, server_number}
 use Rattle.config.specs.Questions.{Question, ask, first_no, numbered, within}
@@ -271,7 +272,7 @@ module _ (cfg : Config) (x : Pair) (handed store kept es es' sends sends' read r
         told false = refl
 
     is : (p : BoardParties) → delivers cfg handed (among cfg p x l)
-        ≡ record { parties = among cfg p (moved_on Verdict.Accepted x y).pair l'; sends = move.sends; answer = parties.answer_of c move.ended }
+        ≡ record { parties = among cfg p (moved_on (Ok tt) x y).pair l'; sends = move.sends; answer = parties.answer_of c move.ended }
     is p =
         let v = serverView.view cfg x.node.state store in
         let s = server_number x.node.state.me in
@@ -292,9 +293,9 @@ module _ (cfg : Config) (x : Pair) (handed store kept es es' sends sends' read r
     ended : ended_of y.ended read' ≡ move.ended
     ended = post.ended ∙ ap (λ (t : BoardMoved). t.ended) either_way
 
-    acts : ActPost cfg refusal (delivers cfg handed) x l sends read (moved_on Verdict.Accepted x y) l' sends' read'
+    acts : ActPost cfg refusal (delivers cfg handed) x l sends read (moved_on (Ok tt) x y) l' sends' read'
     acts =
-        accepted_act cfg refusal (delivers cfg handed) x l sends read none_no (moved_on Verdict.Accepted x y) l' sends' read' move.sends (parties.answer_of c move.ended) is
+        accepted_act cfg refusal (delivers cfg handed) x l sends read none_no (moved_on (Ok tt) x y) l' sends' read' move.sends (parties.answer_of c move.ended) is
         (its_answer y.state.me y.ended read' ∙ ap₂ parties.answer_of (ap client_number post.answered.self) ended)
         (post.answered.count ∙ ap (λ (t : BoardMoved). length t.sends) either_way)
         (post.answered.out ∙ ap (λ (t : BoardMoved). front (records_of cfg t.sends) sends) either_way)
@@ -318,7 +319,7 @@ module _ (cfg : Config) (x : Pair) (handed store kept es es' sends sends' read r
           post.lent ∙ ap (λ o. shown o read) (ap (λ (t : BoardMoved). t.ended) either_way ∙ bare.1),
         )
 
-    taken : Post (moved_on Verdict.Accepted x y)
+    taken : Post (moved_on (Ok tt) x y)
     taken = record { acts = acts; quiet = quiets }
 
   -- 14: nothing has changed
@@ -330,7 +331,7 @@ module _ (cfg : Config) (x : Pair) (handed store kept es es' sends sends' read r
       let still : unless_no stepped before move ≡ stays before = ap (λ (b : Bool). cond b move (stays before)) (ne_eqb stepped 0 some_no) in
       let none-sent : y.sent ≡ 0 = post.answered.count ∙ ap (λ (t : BoardMoved). length t.sends) still in
       let no_end : y.ended ≡ Nothing = nothing_is y.ended read' (post.ended ∙ ap (λ (t : BoardMoved). t.ended) still) in
-      let same : quietly x ≡ moved_on Verdict.Accepted x y =
+      let same : quietly x ≡ moved_on (Ok tt) x y =
       λ i. record {
         answer = ended_by y.state.me (sym no_end i);
         pair = record { node = x.node; client = sym (post.answered.held some_no) i };
@@ -338,7 +339,7 @@ module _ (cfg : Config) (x : Pair) (handed store kept es es' sends sends' read r
       } in
       subst Post (sym (f ∙ same)) (taken (to_14 cfg me handed kept es sends read n))
 
-  refuses : (why : Refusal) → y.verdict ≡ Verdict.No why → (verdict_number y.verdict ≡ 14 → ⊥) → Post (refusing why x)
+  refuses : (why : Refusal) → y.verdict ≡ Err why → (verdict_number y.verdict ≡ 14 → ⊥) → Post (refusing why x)
   unfolding stays records_of
   refuses why e not-14 =
       let n : stepped ≡ refusal_number why = sym post.answered.number ∙ ap verdict_number e in
@@ -368,5 +369,5 @@ module _ (cfg : Config) (x : Pair) (handed store kept es es' sends sends' read r
   moved_act not-14 r e = subst Post (sym e) (by y.verdict refl)
     where
       by : (w : Verdict) → y.verdict ≡ w → Post (moved_on w x y)
-      by Verdict.Accepted h = taken (to_none cfg me handed kept es sends read (sym post.answered.number ∙ ap verdict_number h))
-      by (Verdict.No why) h = refuses why h not-14
+      by (Ok tt) h = taken (to_none cfg me handed kept es sends read (sym post.answered.number ∙ ap verdict_number h))
+      by (Err why) h = refuses why h not-14

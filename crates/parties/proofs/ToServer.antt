@@ -1,4 +1,5 @@
 -- A record handed to a server: what is left.
+use Rattle.std.proofs.Common.{Ok, Err}
 use Prim.Native.Nat.{ℕ}
 use mathlib.Core.Path.{◌≡◌, refl, sym, ap, ap₂, subst, ◌∙◌}
 use mathlib.Core.Bool.{true, false, ◌&&◌}
@@ -10,7 +11,7 @@ use lib.ListN.{length, drop, drop_of_length-le}
 use Rattle.laws.proofs.Bools.{and_left, and_right}
 use Rattle.config.specs.declared.Config.{Config}
 use Rattle.config.specs.declared.Refusal.{Refusal}
-use Rattle.config.specs.declared.Verdict.{Verdict}
+use Rattle.config.specs.Refusal.{Verdict}
 use Rattle.config.specs.Config.{store_length}
 use Rattle.config.specs.Number.{client_number, server_number}
 use Rattle.config.specs.Questions.{first_no}
@@ -161,21 +162,21 @@ module _ (cfg : Config) (x : Pair) (handed store store' answer answer' kept es r
       long = (on.held.long ∙ sym held.long, refl, refl)
 
       -- with the answer
-      pub answered_act : Post (stepped_on Verdict.Accepted x y) store' answer'
+      pub answered_act : Post (stepped_on (Ok tt) x y) store' answer'
       unfolding to_list
       answered_act =
           let e = on.sends in
           let fits : Sound cfg (on.said ∷ []) = subst (λ w. Sound cfg (to_list w)) e sound in
           let size : length answer' ≡ length answer =
           ap length on.answer ∙ record_long cfg held.valid.e_high on.said (sound_first fits) ∙ sym eighty in
-          accepted_act cfg refusal (delivers cfg handed) x l answer read none_no (stepped_on Verdict.Accepted x y) (parts store' kept es) answer' read
+          accepted_act cfg refusal (delivers cfg handed) x l answer read none_no (stepped_on (Ok tt) x y) (parts store' kept es) answer' read
           (to_list o.answer) nothing_ended is refl (sym (ap (λ w. length (to_list w)) e))
           (front_one cfg on.said answer answer' on.answer size ∙ sym (ap (λ w. front (records_of cfg (to_list w)) answer) e))
           sound (λ _. refl) (on.me, refl) within long
 
   -- a step, whatever its verdict
   module _ (up : x.node.up ≡ true) (y : Stepped) (post : StepPost cfg s handed store answer store' answer' y) where
-    is_refused : (why : Refusal) → y.verdict ≡ Verdict.No why → Post (refusing why x) store' answer'
+    is_refused : (why : Refusal) → y.verdict ≡ Err why → Post (refusing why x) store' answer'
     is_refused why e =
         let same : refusal_number why ≡ refusal = sym (ap verdict_number e) ∙ post.number in
         let some_no : refusal ≡ 0 → ⊥ = λ z. omega (arith, number_low why, same, z) in
@@ -188,8 +189,8 @@ module _ (cfg : Config) (x : Pair) (handed store store' answer answer' kept es r
     stepped_act r e = subst (λ (w : Acted). Post w store' answer') (sym e) (by y.verdict refl)
       where
         by : (w : Verdict) → y.verdict ≡ w → Post (stepped_on w x y) store' answer'
-        by Verdict.Accepted h = answered_act (sym post.number ∙ ap verdict_number h) up y post
-        by (Verdict.No why) h = is_refused why h
+        by (Ok tt) h = answered_act (sym post.number ∙ ap verdict_number h) up y post
+        by (Err why) h = is_refused why h
 
   -- a server that is down, and refused
   pub down_refused : (why : Refusal) → refusal_number why ≡ refusal → (r : Acted) → r ≡ refusing why x → Post r store answer

@@ -6,7 +6,7 @@ ghost use Rattle.parties.specs.Acts.{ActPost, ClientPost, delivers, parts, to_cl
 ghost use Rattle.server.specs.Calls.{step_questions};
 
 use crate::{Acted, Pair, outcome};
-use config::{Config, Refusal, Verdict};
+use config::{Config, Refusal};
 
 // The server is handed a record: questions 1 to 5, 21, 6, 12 and 16. Where it is down the message is gone.
 pub fn server(cfg: Config, pair: Pair, handed: &[u8], store: &mut [u8], answer: &mut [u8]) -> Acted
@@ -15,9 +15,8 @@ pub fn server(cfg: Config, pair: Pair, handed: &[u8], store: &mut [u8], answer: 
     let node = pair.node;
     let state = node.state;
     if !node.up {
-        let no = server::ask_step(cfg, state, handed, store.len(), answer.len());
-        if no != 0 {
-            return outcome::refused(pair, Refusal::of(no));
+        if let Err(why) = server::ask_step(cfg, state, handed, store.len(), answer.len()) {
+            return outcome::refused(pair, why);
         }
         return outcome::quiet(pair);
     }
@@ -47,10 +46,10 @@ pub fn client(
 }
 
 // Whether a step was refused with 14.
-fn not_awaited(verdict: Verdict) -> bool
+fn not_awaited(verdict: Result<(), Refusal>) -> bool
     ensures { result ≡ eqb (verdict_number verdict) 14 }
 {
-    let Verdict::No(why) = verdict else {
+    let Err(why) = verdict else {
         return false;
     };
     why.number() == 14

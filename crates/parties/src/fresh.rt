@@ -1,5 +1,6 @@
 // Fresh parties of a rig.
 ghost use Rattle.std.specs.Prelude.{true, ◌≡◌, length};
+ghost use Rattle.config.specs.Refusal.{verdict_number};
 ghost use Rattle.config.specs.Config.{Valid};
 ghost use Rattle.config.specs.Number.{client_number, server_number};
 ghost use Rattle.config.specs.Questions.{first_no, within};
@@ -8,12 +9,12 @@ ghost use Rattle.parties.specs.inner.Fresh.{NodePost, NodePre};
 
 use crate::Node;
 use client::NewState;
-use config::{Client, Config, LEAST, NewClient, NewServer, Server, Verdict};
+use config::{Client, Config, LEAST, Refusal, Server};
 
-// What the making of a server leaves.
+// What the making of a server leaves. The server stands beside the verdict: `FreshServerPost` says of a refusal too which it is.
 #[derive(Clone, Copy)]
 pub struct NewNode {
-    pub verdict: Verdict,
+    pub verdict: Result<(), Refusal>,
     pub node: Node,
 }
 
@@ -22,15 +23,14 @@ pub struct NewNode {
 pub fn server(cfg: Config, s: u8, start: &[u8], store: &mut [u8]) -> NewNode
     ensures { FreshServerPost cfg s start.now store.old store.new result }
 {
-    let no = asked(cfg, s, start.len(), store.len());
-    if no != 0 {
+    if let Err(why) = asked(cfg, s, start.len(), store.len()) {
         return NewNode {
-            verdict: Verdict::of(no),
+            verdict: Err(why),
             node: least(),
         };
     }
     NewNode {
-        verdict: Verdict::Accepted,
+        verdict: Ok(()),
         node: node(cfg, s, start, store),
     }
 }
@@ -40,11 +40,11 @@ pub fn client(cfg: Config, c: u8) -> NewState
     ensures { FreshClientPost cfg c result }
 {
     match Client::new(cfg, c) {
-        NewClient::No(why) => NewState {
-            verdict: Verdict::No(why),
+        Err(refusal) => NewState {
+            verdict: Err(refusal),
             state: least_client(),
         },
-        NewClient::Made(me) => client::fresh(cfg, me),
+        Ok(me) => client::fresh(cfg, me),
     }
 }
 
@@ -58,35 +58,29 @@ fn least_client() -> client::State
     made.state
 }
 
-// The number of a client of the configuration. There is one, so the other branch is never taken.
+// The number of a client of the configuration.
 fn client_number(cfg: Config, c: u8) -> Client
     requires { (Valid cfg) × (within 1 cfg.c c ≡ true) }
     ensures { client_number result ≡ c }
 {
-    let NewClient::Made(me) = Client::new(cfg, c) else {
-        loop {}
-    };
-    me
+    Client::new(cfg, c).unwrap()
 }
 
-// The questions of a server to make: the number of the first that is answered no, or 0.
-fn asked(cfg: Config, s: u8, start: usize, store: usize) -> u8
-    ensures { result ≡ first_no (fresh_server_questions cfg s start store) }
+// The questions of a server to make: the first that is answered no is the refusal.
+fn asked(cfg: Config, s: u8, start: usize, store: usize) -> Result<(), Refusal>
+    ensures { verdict_number result ≡ first_no (fresh_server_questions cfg s start store) }
 {
-    let no = cfg.ask();
-    if no != 0 {
-        return no;
-    }
+    cfg.ask()?;
     if start != cfg.k * cfg.e {
-        return 6;
+        return Err(Refusal::Shape);
     }
     if store != (cfg.d + 1) * cfg.e {
-        return 6;
+        return Err(Refusal::Shape);
     }
     if !cfg.server_exists(s as usize) {
-        return 8;
+        return Err(Refusal::Missing);
     }
-    0
+    Ok(())
 }
 
 // Server 1 of the least configuration.
@@ -99,15 +93,12 @@ fn least() -> Node
     node(cfg, 1, &start, &mut store)
 }
 
-// The number of a server of the configuration. There is one, so the other branch is never taken.
+// The number of a server of the configuration.
 fn server_number(cfg: Config, s: u8) -> Server
     requires { (Valid cfg) × (within 1 cfg.n s ≡ true) }
     ensures { server_number result ≡ s }
 {
-    let NewServer::Made(me) = Server::new(cfg, s) else {
-        loop {}
-    };
-    me
+    Server::new(cfg, s).unwrap()
 }
 
 // The server of a number, fresh and up. Its element of the starting board is encoded in a lent buffer and goes into its store.
@@ -116,7 +107,7 @@ fn node_through(cfg: Config, s: u8, start: &[u8], element: &mut [u8], store: &mu
     ensures { NodePost cfg s start.now store.old store.new result }
 {
     let me = server_number(cfg, s);
-    code::encode(cfg, start, s, element);
+    let _ = code::encode(cfg, start, s, element);
     let made = server::fresh(cfg, me, element, store);
     let state = made.state;
     Node { state, up: true }

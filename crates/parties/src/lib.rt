@@ -18,14 +18,14 @@ use config::{Client, Refusal};
 use tag::Tag;
 
 // A server, and whether it is up. A crash keeps the state.
-#[derive(Clone, Copy)]
+#[derive(Clone, Copy, PartialEq, Eq)]
 pub struct Node {
     pub state: server::State,
     pub up: bool,
 }
 
 // The parties that one event can touch.
-#[derive(Clone, Copy)]
+#[derive(Clone, Copy, PartialEq, Eq)]
 pub struct Pair {
     pub node: Node,
     pub client: client::State,

@@ -4,7 +4,7 @@ ghost use Rattle.parties.specs.inner.Acted.{ended_by, moved_on, quietly, refusin
 
 use crate::{Acted, Answer, Node, Pair};
 use client::{Ended, Moved};
-use config::{Client, Refusal, Verdict};
+use config::{Client, Refusal};
 use server::Stepped;
 
 // A refusal, with the parties as they were.
@@ -50,7 +50,7 @@ pub(crate) fn moved(pair: Pair, y: Moved) -> Acted
     ensures { result ≡ moved_on y.verdict pair y }
 {
     let verdict = y.verdict;
-    let Verdict::No(why) = verdict else {
+    let Err(why) = verdict else {
         let state = y.state;
         let me = state.me;
         let ended = y.ended;
@@ -73,7 +73,7 @@ pub(crate) fn stepped(pair: Pair, y: Stepped) -> Acted
     ensures { result ≡ stepped_on y.verdict pair y }
 {
     let verdict = y.verdict;
-    let Verdict::No(why) = verdict else {
+    let Err(why) = verdict else {
         let state = y.state;
         let old = pair.node;
         let client = pair.client;

@@ -1,7 +1,8 @@
 -- The answers of reading and of writing, by the question that decides. Assumes nothing.
-use mathlib.Core.Path.{◌≡◌, sym, ◌∙◌, ap, subst}
+use Rattle.std.proofs.Common.{Ok, Err}
+use mathlib.Core.Path.{◌≡◌, sym, ◌∙◌, ap}
 use mathlib.Core.Bool.{Bool, true, false, cond}
-use mathlib.Core.List.{List, ◌++◌}
+use mathlib.Core.List.{List}
 use mathlib.Core.Option.{Option, none, some}
 use Prim.Native.Nat.{ℕ}
 use native.Mathlib.Omega.{arith}
@@ -10,14 +11,13 @@ use lib.Dec.{eqb}
 use lib.ListN.{length}
 use Rattle.config.specs.declared.Config.{Config}
 use Rattle.config.specs.declared.Refusal.{Refusal}
-use Rattle.config.specs.declared.Verdict.{Verdict}
+use Rattle.config.specs.Refusal.{Verdict}
 use Rattle.config.specs.Config.{questions}
-use Rattle.config.specs.Questions.{Question, first_no, numbered}
-use Rattle.config.specs.Refusal.{clamped, refusal_number, verdict_number}
-use Rattle.config.proofs.Refusals.{refusal_given}
-use Rattle.config.proofs.Questions.{Given, first_no_given, first_no_pass, first_no_stop, questions_numbered}
+use Rattle.config.specs.Questions.{first_no}
+use Rattle.config.specs.Refusal.{refusal_number, verdict_number}
+use Rattle.config.proofs.Questions.{first_no_pass, questions_numbered}
 use Rattle.record.specs.declared.Header.{Header}
-use Rattle.record.specs.declared.Reading.{Reading}
+use Rattle.record.specs.Calls.{Reading}
 use Rattle.record.specs.Calls.{ReadPost, WritePost, is_header, read_questions, with_element, write_questions}
 use Rattle.record.specs.inner.Parse.{ParsePost}
 use Rattle.record.specs.Element.{Element}
@@ -26,25 +26,19 @@ use Rattle.record.specs.Record.{length_at, message_of, record_of, well_formed}
 use Rattle.record.proofs.Clauses.{Says, not_so, says_message}
 
 module _ (cfg : Config) (bs : List ℕ) where
-  pub refused : well_formed cfg bs ≡ false → ParsePost cfg bs (Reading.No Refusal.IllFormed)
+  pub refused : well_formed cfg bs ≡ false → ParsePost cfg bs (Err Refusal.IllFormed)
   refused h = record { number = rw h; message = rw h; length = rw h }
 
-  pub accepted : (h : Header) → Says cfg bs h → well_formed cfg bs ≡ true → ParsePost cfg bs (Reading.Message h)
+  pub accepted : (h : Header) → Says cfg bs h → well_formed cfg bs ≡ true → ParsePost cfg bs (Ok h)
   accepted h s w = record {
     number = rw w;
     message = rw w (ap {B = Option (Message Element)} some (says_message cfg bs h s));
     length = rw w s.length;
   }
 
--- the first questions decide
-pub first_stops : (first rest : List Question) (asked number : ℕ) → numbered first ≡ true → asked ≡ first_no first → (asked ≡ 0 → ⊥)
-    → number ≡ clamped asked → (first_no (first ++ rest) ≡ asked) × (number ≡ asked)
-first_stops first rest asked number known e refuses c =
-    (first_no_stop first rest (λ z. refuses (e ∙ z)) ∙ sym e, refusal_given (subst Given (sym e) (first_no_given first known)) refuses c)
-
 module _ (cfg : Config) (bs : List ℕ) where
   -- reading: by the number of the first question that is answered no
-  pub not_read : (n : ℕ) (why : Refusal) → first_no (read_questions cfg bs) ≡ n → (n ≡ 0 → ⊥) → refusal_number why ≡ n → ReadPost cfg bs (Reading.No why)
+  pub not_read : (n : ℕ) (why : Refusal) → first_no (read_questions cfg bs) ≡ n → (n ≡ 0 → ⊥) → refusal_number why ≡ n → ReadPost cfg bs (Err why)
   not_read n why e refuses h =
       record {
         number = h ∙ sym e;
@@ -86,7 +80,7 @@ module _ (cfg : Config) (h : Header) (bs : List ℕ) where
       }
 
   pub written : (after : List ℕ) → first_no (write_questions cfg h bs) ≡ 0 → after ≡ record_of cfg (with_element cfg h bs)
-      → WritePost cfg h bs after Verdict.Accepted
+      → WritePost cfg h bs after (Ok tt)
   written after e w = record { number = sym e; bytes = w ∙ rw (eq-eqb (first_no (write_questions cfg h bs)) 0 e) }
 
   module _ (passed : first_no (questions cfg) ≡ 0) where

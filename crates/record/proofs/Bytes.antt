@@ -1,15 +1,15 @@
 -- Bytes: a number of four, tests for zero, and runs of zeros. Assumes nothing.
-use mathlib.Core.Path.{◌≡◌, refl, sym, ◌∙◌}
+use mathlib.Core.Path.{◌≡◌, refl, sym}
 use mathlib.Core.Bool.{Bool, true, false, ◌&&◌, and_assoc, and-true}
-use mathlib.Core.List.{List, [], ◌∷◌, ◌++◌, append-nil}
+use mathlib.Core.List.{List}
 use Prim.Native.Nat.{ℕ, zero, suc, ◌+◌, ◌≤◌, ◌<◌}
 use native.Mathlib.Omega.{arith}
 use native.Mathlib.Numerals.{add-one}
 use borrow.Author.Tests.{ne_eqb}
 use lib.Bits.{bit_or, or_add_and, and_le_r}
 use lib.Dec.{eqb}
-use lib.ListN.{length, get_or, drop, set, replicate, length-append, length-drop, length-replicate, replicate-append-replicate, drop_of_length-le}
-use lib.Seq.{drop-cons, append_snoc, drop-length, set_at}
+use lib.ListN.{length, get_or, drop, drop_of_length-le}
+use lib.Seq.{drop-cons}
 use Rattle.config.specs.declared.Config.{Config}
 use Rattle.config.specs.Config.{Valid}
 use Rattle.record.specs.Record.{all_zero, element_end}
@@ -33,29 +33,6 @@ zero_more bs any i h =
 pub zero_end : (bs : List ℕ) (any i : ℕ) → length bs ≤ i → zero_from any i bs ≡ eqb any 0
 unfolding all_zero
 zero_end bs any i h = rw (drop_of_length-le bs h) (and-true (eqb any 0))
-
--- zeros up to place i, and the rest as it was: at the start, one more, at the end
-abbrev pub zeros_to : List ℕ → ℕ → List ℕ
-zeros_to bs i = replicate i 0 ++ drop i bs
-
-pub zeros_none : (bs : List ℕ) → bs ≡ zeros_to bs 0
-zeros_none bs = refl
-
-pub zeros_long : (bs : List ℕ) (i : ℕ) → i ≤ length bs → length (zeros_to bs i) ≡ length bs
-zeros_long bs i h = simp (length-append, length-replicate, length-drop) (omega arith)
-
-snoc_zero : (i : ℕ) → replicate {A = ℕ} i 0 ++ (0 ∷ []) ≡ replicate (i + 1) 0
-snoc_zero i = replicate-append-replicate i 1 0
-
-pub zeros_more : (bs : List ℕ) (i : ℕ) → i < length bs → set (zeros_to bs i) i 0 ≡ zeros_to bs (i + 1)
-zeros_more bs i h =
-    rw (drop-cons bs i 0 h) (set_at (replicate i 0) (get_or bs i 0) (drop (suc i) bs) 0 i (length-replicate i 0))
-    ∙ sym (append_snoc (replicate i 0) 0 (drop (suc i) bs)) ∙ rw (snoc_zero i, add-one i)
-
-pub zeros_all : (bs : List ℕ) (i : ℕ) → i ≤ length bs → length bs ≤ i → zeros_to bs i ≡ replicate (length bs) 0
-zeros_all bs i h g =
-    let e : i ≡ length bs = omega arith in
-    rw (e, drop-length bs) (append-nil (replicate (length bs) 0))
 
 -- the element's end is within the record
 end_high : (cfg : Config) (p : Bool) → Valid cfg → element_end cfg p ≤ 80

@@ -1,4 +1,5 @@
 -- What a caller of reading and of writing learns. Assumes nothing.
+use Rattle.std.proofs.Common.{Ok, Err}
 use mathlib.Core.Path.{◌≡◌, refl, sym, ◌∙◌, ap}
 use mathlib.Core.Bool.{Bool, true, false, cond}
 use mathlib.Core.List.{List}
@@ -9,34 +10,34 @@ use borrow.Author.Tests.{eq-eqb}
 use lib.ListN.{length}
 use Rattle.config.specs.declared.Config.{Config}
 use Rattle.config.specs.declared.Refusal.{Refusal}
-use Rattle.config.specs.declared.Verdict.{Verdict}
+use Rattle.config.specs.Refusal.{Verdict}
 use Rattle.config.specs.Config.{Valid}
 use Rattle.config.specs.Questions.{first_no}
 use Rattle.config.specs.Refusal.{refusal_number, verdict_number}
 use Rattle.config.proofs.Valid.{valid_asked}
 use Rattle.record.specs.declared.Header.{Header}
-use Rattle.record.specs.declared.Reading.{Reading}
-use Rattle.record.specs.Calls.{ReadPost, WritePost, is_header, length_read, message_read, read_number, read_questions, with_element, write_questions}
+use Rattle.record.specs.Calls.{Reading}
+use Rattle.record.specs.Calls.{ReadPost, WritePost, is_header, length_read, message_read, read_questions, with_element, write_questions}
 use Rattle.record.specs.Record.{length_at, length_fits, message_of, of_config, record_of, well_formed}
 use Rattle.record.proofs.Answers.{read-last, write-last}
 
 module _ (cfg : Config) (bs : List ℕ) (r : Reading) (post : ReadPost cfg bs r) where
   -- a message was read: no question was answered no, and the header with the element in the bytes is the record's message
-  pub was_read : (h : Header) → r ≡ Reading.Message h → first_no (read_questions cfg bs) ≡ 0
-  was_read h e = sym post.number ∙ ap read_number e
+  pub was_read : (h : Header) → r ≡ Ok h → first_no (read_questions cfg bs) ≡ 0
+  was_read h e = sym post.number ∙ ap verdict_number e
 
-  pub its_message : (h : Header) → r ≡ Reading.Message h → with_element cfg h bs ≡ message_of cfg bs
+  pub its_message : (h : Header) → r ≡ Ok h → with_element cfg h bs ≡ message_of cfg bs
   its_message h e =
       some-injective (with_element cfg h bs) (message_of cfg bs)
       (ap (message_read cfg bs) (sym e) ∙ post.message ∙ rw (eq-eqb (first_no (read_questions cfg bs)) 0 (was_read h e)))
 
-  pub its_read_length : (h : Header) → r ≡ Reading.Message h → h.length ≡ length_at bs
+  pub its_read_length : (h : Header) → r ≡ Ok h → h.length ≡ length_at bs
   its_read_length h e =
       ap length_read (sym e) ∙ post.length ∙ rw (eq-eqb (first_no (read_questions cfg bs)) 0 (was_read h e))
 
   -- it was refused, by the first question that is answered no
-  pub was_refused : (why : Refusal) → r ≡ Reading.No why → refusal_number why ≡ first_no (read_questions cfg bs)
-  was_refused why e = ap read_number (sym e) ∙ post.number
+  pub was_refused : (why : Refusal) → r ≡ Err why → refusal_number why ≡ first_no (read_questions cfg bs)
+  was_refused why e = ap verdict_number (sym e) ∙ post.number
 
 -- in a valid configuration a record of 80 bytes is refused exactly if it is ill formed
 pub read_12 : (cfg : Config) (bs : List ℕ) → Valid cfg → length bs ≡ 80 → first_no (read_questions cfg bs) ≡ cond (well_formed cfg bs) 0 12

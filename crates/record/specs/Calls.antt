@@ -1,16 +1,16 @@
 -- Reading and writing a record: what the two calls ask, and what they answer.
+use Rattle.std.specs.Prelude.{Result, Ok, Err}
 use Rattle.std.specs.Prelude.{ℕ, Bool, cond, ◌&&◌, ◌≡◌, List, [], ◌∷◌, ◌++◌, eqb, leb, length}
 use Rattle.std.proofs.Math.Option.{Option, none, some}
 use Rattle.config.specs.declared.Config.{Config}
-use Rattle.config.specs.declared.Verdict.{Verdict}
+use Rattle.config.specs.declared.Refusal.{Refusal}
 use Rattle.config.specs.Config.{questions, record_length}
 use Rattle.config.specs.Number.{client_number, server_number}
 use Rattle.config.specs.Questions.{Question, ask, first_no, within}
-use Rattle.config.specs.Refusal.{refusal_number, verdict_number}
+use Rattle.config.specs.Refusal.{Verdict, verdict_number}
 use Rattle.tag.specs.declared.Tag.{Tag}
 use Rattle.tag.specs.Tag.{allowed}
 use Rattle.record.specs.declared.Header.{Header}
-use Rattle.record.specs.declared.Reading.{Reading}
 use Rattle.record.specs.Element.{Element, element_with}
 use Rattle.record.specs.Message.{Message}
 use Rattle.record.specs.Record.{all, element_in, kind_number, length_at, length_fits, message_of, of_config, own_tag, presence, query_tag, record_of, well_formed}
@@ -31,23 +31,22 @@ with_element cfg h bs =
 unfoldable pub read_questions : Config → List ℕ → List Question
 read_questions cfg bs = questions cfg ++ ask 6 (eqb (length bs) record_length) ∷ ask 12 (well_formed cfg bs) ∷ []
 
--- the refusal's number, or 0
-abbrev pub read_number : Reading → ℕ
-read_number (Reading.Message h) = 0
-read_number (Reading.No why) = refusal_number why
+-- the header that was read, or a refusal
+abbrev pub Reading : Type 0
+Reading = Result Header Refusal
 
 -- the message that was read from the bytes
 abbrev pub message_read : Config → List ℕ → Reading → Option (Message Element)
-message_read cfg bs (Reading.Message h) = some (with_element cfg h bs)
-message_read cfg bs (Reading.No why) = none
+message_read cfg bs (Ok h) = some (with_element cfg h bs)
+message_read cfg bs (Err why) = none
 
 -- the header's length, which is in its message if an element is present
 abbrev pub length_read : Reading → ℕ
-length_read (Reading.Message h) = h.length
-length_read (Reading.No why) = 0
+length_read (Ok h) = h.length
+length_read (Err why) = 0
 
 pub record ReadPost (cfg : Config) (bs : List ℕ) (r : Reading) : Type 0 where
-  pub number : read_number r ≡ first_no (read_questions cfg bs)
+  pub number : verdict_number r ≡ first_no (read_questions cfg bs)
   pub message : message_read cfg bs r ≡ cond (eqb (first_no (read_questions cfg bs)) 0) (some (message_of cfg bs)) none
   pub length : length_read r ≡ cond (eqb (first_no (read_questions cfg bs)) 0) (length_at bs) 0
 

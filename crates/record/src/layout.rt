@@ -1,5 +1,5 @@
 // Numbers as bytes, the lowest first; where things stand in a record, and its zeros.
-ghost use Rattle.std.specs.Prelude.{◌≡◌, ◌+◌, ◌≤◌, length, replicate, cond};
+ghost use Rattle.std.specs.Prelude.{◌≡◌, ◌+◌, ◌≤◌, length, cond};
 ghost use Rattle.record.specs.inner.Parse.{RecordPre, laid_out};
 ghost use Rattle.record.specs.Record.{all_zero, element_end, four_bytes, number_at, little_endian, little_two};
 ghost use Rattle.config.specs.Config.{Valid};
@@ -66,23 +66,10 @@ pub(crate) fn zero(part: &[u8]) -> bool
     ensures { result ≡ all_zero part.now }
 {
     let mut any = 0u8;
-    let mut i = 0;
-    while i < part.len() {
-        any |= part[i];
-        i += 1;
+    for byte in part {
+        any |= *byte;
     }
     any == 0
-}
-
-// Makes each byte 0.
-pub(crate) fn clear(part: &mut [u8])
-    ensures { part.new ≡ replicate (length part.old) 0 }
-{
-    let mut i = 0;
-    while i < part.len() {
-        part[i] = 0;
-        i += 1;
-    }
 }
 
 // Whether offsets 0 and 3 hold numbers that they may hold, and zeros stand at offset 15 and past the element.

@@ -12,11 +12,11 @@ ghost use Rattle.record.specs.Kinds.{is_for_server};
 ghost use Rattle.record.specs.inner.Parse.{ParsePost, RecordPre};
 ghost use Rattle.record.specs.Record.{kind_number, kind_of, length_fits, record_of};
 
-use config::{Client, Config, NewClient, NewServer, Refusal, Server, Verdict};
+use config::{Client, Config, RECORD, Refusal, Server};
 use tag::Tag;
 
 // The nine kinds of message, in the documents' order: their numbers are 1 to 9. The ninth tells a reader that the element was cleared.
-#[derive(Clone, Copy)]
+#[derive(Clone, Copy, PartialEq, Eq, Debug)]
 pub enum Kind {
     Query,
     QueryAnswer,
@@ -30,7 +30,7 @@ pub enum Kind {
 }
 
 // What a record says besides the element's bytes. The length is that of the board which the element is of, 0 where none is present.
-#[derive(Clone, Copy)]
+#[derive(Clone, Copy, PartialEq, Eq, Debug)]
 pub struct Header {
     pub kind: Kind,
     pub client: Client,
@@ -39,12 +39,6 @@ pub struct Header {
     pub tag: Tag,
     pub present: bool,
     pub length: u16,
-}
-
-#[derive(Clone, Copy)]
-pub enum Reading {
-    Message(Header),
-    No(Refusal),
 }
 
 impl Kind {
@@ -101,32 +95,29 @@ impl Kind {
 }
 
 // The message of a record: questions 1 to 5, 21, 6 and 12. Its element, if one is present, is the E bytes at 16.
-pub fn read(cfg: Config, buf: &[u8]) -> Reading
+pub fn read(cfg: Config, buf: &[u8]) -> Result<Header, Refusal>
     ensures { ReadPost cfg buf.now result }
 {
-    let no = cfg.ask();
-    if no != 0 {
-        return Reading::No(Refusal::of(no));
+    cfg.ask()?;
+    if buf.len() == RECORD {
+        return parse(cfg, buf);
     }
-    if buf.len() != config::RECORD {
-        return Reading::No(Refusal::Shape);
-    }
-    parse(cfg, buf)
+    Err(Refusal::Shape)
 }
 
 // The header of a record of 80 bytes, or 12.
-fn parse(cfg: Config, buf: &[u8]) -> Reading
+fn parse(cfg: Config, buf: &[u8]) -> Result<Header, Refusal>
     requires { RecordPre cfg buf.now }
     ensures { ParsePost cfg buf.now result }
 {
     if !layout::laid_out(cfg, buf) {
-        return Reading::No(Refusal::IllFormed);
+        return Err(Refusal::IllFormed);
     }
-    let NewClient::Made(client) = Client::new(cfg, buf[1]) else {
-        return Reading::No(Refusal::IllFormed);
+    let Ok(client) = Client::new(cfg, buf[1]) else {
+        return Err(Refusal::IllFormed);
     };
-    let NewServer::Made(server) = Server::new(cfg, buf[2]) else {
-        return Reading::No(Refusal::IllFormed);
+    let Ok(server) = Server::new(cfg, buf[2]) else {
+        return Err(Refusal::IllFormed);
     };
     let kind = Kind::of(buf[0]);
     let present = buf[3] == 1;
@@ -137,11 +128,11 @@ fn parse(cfg: Config, buf: &[u8]) -> Reading
         client: buf[12],
     };
     if !tag.allowed(cfg.c) {
-        return Reading::No(Refusal::IllFormed);
+        return Err(Refusal::IllFormed);
     }
     let length = layout::length(buf[13], buf[14]);
     if !rules::length_fits(cfg, present, length) {
-        return Reading::No(Refusal::IllFormed);
+        return Err(Refusal::IllFormed);
     }
     let h = Header {
         kind,
@@ -153,34 +144,31 @@ fn parse(cfg: Config, buf: &[u8]) -> Reading
         length,
     };
     if !rules::sound(h) {
-        return Reading::No(Refusal::IllFormed);
+        return Err(Refusal::IllFormed);
     }
-    Reading::Message(h)
+    Ok(h)
 }
 
 // The record of a message: questions 1 to 5 and 21; 6, the buffer's length; 12, a header that breaks a rule of the record. Where an
 // element is present, the E bytes at 16 are it and stay; all past it is made zero. On a refusal the record holds what it held.
-pub fn write(cfg: Config, h: Header, buf: &mut [u8]) -> Verdict
+pub fn write(cfg: Config, h: Header, buf: &mut [u8]) -> Result<(), Refusal>
     ensures { WritePost cfg h buf.old buf.new result }
 {
-    let no = cfg.ask();
-    if no != 0 {
-        return Verdict::of(no);
-    }
-    if buf.len() != config::RECORD {
-        return Verdict::No(Refusal::Shape);
+    cfg.ask()?;
+    if buf.len() != RECORD {
+        return Err(Refusal::Shape);
     }
     if !rules::limits(cfg, h) {
-        return Verdict::No(Refusal::IllFormed);
+        return Err(Refusal::IllFormed);
     }
     if !rules::sound(h) {
-        return Verdict::No(Refusal::IllFormed);
+        return Err(Refusal::IllFormed);
     }
     if !rules::length_fits(cfg, h.present, h.length) {
-        return Verdict::No(Refusal::IllFormed);
+        return Err(Refusal::IllFormed);
     }
     put(cfg, h, buf);
-    Verdict::Accepted
+    Ok(())
 }
 
 // Writes the first 16 bytes, and zeros past the element.
@@ -219,5 +207,5 @@ fn put(cfg: Config, h: Header, buf: &mut [u8])
     ];
     copies::copy(&head, buf);
     let end = layout::element_end(cfg, h.present);
-    layout::clear(&mut buf[end..]);
+    buf[end..].fill(0);
 }

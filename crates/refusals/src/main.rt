@@ -5,7 +5,6 @@
 
 mod answer;
 mod rigs;
-mod same;
 mod script;
 mod spoilt;
 
@@ -42,7 +41,7 @@ fn step(old: Left, line: [u8; 96], count: u64) -> Left {
     let rest = left.lent;
     let answer = done.answer;
     let read = rest.read;
-    let same = same::rigs(rig, done) & same::buffers(lent, rest);
+    let same = rig == done.rig && lent == rest;
     say(line, count, answer, read, same);
     if line[0] < b'2' {
         return left;
@@ -53,12 +52,10 @@ fn step(old: Left, line: [u8; 96], count: u64) -> Left {
 fn main() {
     let mut left = rigs::make();
     let mut line = [0u8; 96];
-    let mut count = 0;
-    while count < 1000 {
+    for count in 1..=1000 {
         if io::read_full(0, &mut line) < 96 {
             return;
         }
-        count += 1;
         left = step(left, line, count);
     }
 }

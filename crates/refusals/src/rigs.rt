@@ -8,7 +8,7 @@ use parties::Answer;
 
 // The buffer lent for a read, and the four buffers lent to a rig. Each has one byte more than its length, so that it can be lent one byte
 // too long.
-#[derive(Clone, Copy)]
+#[derive(Clone, Copy, PartialEq, Eq)]
 pub(crate) struct Lent {
     pub read: [u8; 2],
     pub messages: [u8; 5121],

@@ -11,9 +11,9 @@ use Rattle.config.specs.declared.Config.{Config}
 use Rattle.config.specs.declared.Refusal.{Refusal}
 use Rattle.config.specs.Config.{Valid, rig_questions}
 use Rattle.config.specs.Questions.{first_no}
-use Rattle.config.specs.Refusal.{clamped, refusal_number}
-use Rattle.config.proofs.Questions.{Given, last_all, last_yes, none_first, rig_questions_numbered}
-use Rattle.config.proofs.Refusals.{refusal_given}
+use Rattle.config.specs.Refusal.{refusal_number}
+use Rattle.config.proofs.Questions.{last_all, last_yes, none_first, rig_questions_numbered}
+use Rattle.config.proofs.Refusals.{refusal_some}
 use Rattle.config.proofs.Valid.{rig_valid}
 use Rattle.protocol.specs.Board.{refused}
 use Rattle.parties.specs.Acts.{answer_of}
@@ -26,7 +26,7 @@ use Rattle.events.specs.declared.Turn.{Turn}
 use Rattle.events.specs.View.{lent}
 use Rattle.events.specs.Questions.{parties_within, places_of, rig_within}
 use Rattle.events.specs.Calls.{AloneChangePost, EventPost, called, alone_no, alone_within, turned}
-use Rattle.events.proofs.Entry.{pair-within, six_given}
+use Rattle.events.proofs.Entry.{pair-within}
 use Rattle.rig.specs.Calls.{AlonePost, rig_no}
 use Rattle.rig.specs.inner.Turn.{PartAtPost, unturned_by}
 
@@ -35,16 +35,14 @@ asked_valid cfg m r z = rig_valid cfg m refl (none_first (rig_questions cfg m) _
 
 module _ (cfg : Config) (m : ℕ) (r : Rig) (a : Call) where
   -- the configuration or the rig is refused
-  pub alone_refused : {got : ℕ} → got ≡ rig_no cfg m r → (got ≡ 0 → ⊥) → {why : Refusal} → refusal_number why ≡ clamped got
-      → {t : Turn} → t ≡ unturned_by why r → AlonePost cfg m r a t
-  alone_refused {got} e ne {why} number {t} is =
+  pub alone_refused : (why : Refusal) → refusal_number why ≡ rig_no cfg m r → {t : Turn} → t ≡ unturned_by why r → AlonePost cfg m r a t
+  alone_refused why e {t} is =
       record {
         refuses = λ _ read. (
-          ap (λ (z : Turn). answer_of z.answer read) is
-              ∙ ap refused (refusal_given (subst Given (sym e) (six_given cfg m (rig_within cfg m r))) ne number ∙ e),
+          ap (λ (z : Turn). answer_of z.answer read) is ∙ ap refused e,
           ap (λ (z : Turn). z.rig) is,
         );
-        event = λ z. absurd (ne (e ∙ z));
+        event = λ z. absurd ((refusal_some why e).1 z);
       }
 
   -- the part of the places that it names, put back

@@ -1,5 +1,6 @@
 -- A fresh rig: what its questions show, its parties together, and what is seen of it. Assumes nothing.
-use Prim.Native.Nat.{ℕ, ◌+◌, ◌-◌, ◌*◌, ◌≤◌, ◌<◌, min}
+use Rattle.std.proofs.Common.{Ok, Err}
+use Prim.Native.Nat.{ℕ, ◌+◌, ◌-◌, ◌*◌, ◌≤◌, ◌<◌}
 use mathlib.Core.Path.{◌≡◌, refl, sym, ap, ap₂, subst, fun_ext, ◌∙◌}
 use mathlib.Core.Bool.{Bool, true, false, cond, ◌&&◌}
 use mathlib.Core.Option.{Option, some}
@@ -14,12 +15,12 @@ use Rattle.laws.proofs.Bools.{and_left, and_right}
 use Rattle.laws.proofs.Lists.{at_set, at_set_other}
 use Rattle.laws.proofs.Parts.{lent_length, over_lent, part_other, part_own}
 use Rattle.config.specs.declared.Config.{Config}
-use Rattle.config.specs.declared.Verdict.{Verdict}
+use Rattle.config.specs.Refusal.{refusal_number}
 use Rattle.config.specs.Config.{Valid, board_length, rig_questions, store_length}
-use Rattle.config.specs.Questions.{first_no, last_question, numbered, within}
-use Rattle.config.specs.Refusal.{passing15, verdict_number}
-use Rattle.config.proofs.Refusals.{verdict_given}
-use Rattle.config.proofs.Questions.{Given, first_no_given, none_first, within_high, within_low, within_true}
+use Rattle.config.specs.declared.Refusal.{Refusal}
+use Rattle.config.proofs.Refusals.{refusal_some}
+use Rattle.config.specs.Questions.{first_no, within}
+use Rattle.config.proofs.Questions.{none_first, within_high, within_low, within_true}
 use Rattle.server.specs.Calls as server
 use Rattle.client.specs.declared.State as client
 use Rattle.client.specs.State as clientView
@@ -114,18 +115,15 @@ module _ (cfg : Config) (start : List ℕ) (i : ℕ) (nodes : List Node) (x : No
 -- ---- the rig
 
 module _ (cfg : Config) (m : ℕ) (start : List ℕ) (l : Lent) (got : ℕ) (asked : got ≡ make_no cfg m start l) where
-  number_given : Given (make_no cfg m start l)
-  unfolding make_questions rig_questions numbered
-  number_given = first_no_given (make_questions cfg m start l) refl
-
   -- a making that is refused
-  pub make_refused : (got ≡ 0 → ⊥) → (verdict : Verdict) (r : Rig) → verdict_number verdict ≡ min (passing15 got) last_question → r ≡ least_rig
-      → MakePost cfg m start l (record { verdict = verdict; rig = r }) l
-  make_refused some_no verdict r e least =
+  pub make_refused : (why : Refusal) → refusal_number why ≡ got → (r : Rig) → r ≡ least_rig
+      → MakePost cfg m start l (record { verdict = Err why; rig = r }) l
+  make_refused why e r least =
+      let some = (refusal_some why (e ∙ asked)).1 in
       record {
-        number = verdict_given (subst Given (sym asked) number_given) e ∙ asked;
-        seen = λ z. absurd (some_no (asked ∙ z));
-        within = λ z. absurd (some_no (asked ∙ z));
+        number = e ∙ asked;
+        seen = λ z. absurd (some z);
+        within = λ z. absurd (some z);
         lengths = refl;
         held = λ _. refl;
         refused = λ _. least;
@@ -206,7 +204,7 @@ module _ (cfg : Config) (m : ℕ) (start : List ℕ) (l : Lent) (got : ℕ) (ask
           (below_all cfg.n (λ i. server_in_place cfg i (get_elem? r.servers i)) server-within)
           (below_all cfg.c (λ i. client_in_place cfg i (get_elem? r.clients i)) client_stands))
 
-      pub make_done : MakePost cfg m start l (record { verdict = Verdict.Accepted; rig = r }) l'
+      pub make_done : MakePost cfg m start l (record { verdict = (Ok tt); rig = r }) l'
       make_done =
           record {
             number = sym passed;

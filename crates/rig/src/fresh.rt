@@ -25,14 +25,11 @@ fn servers(cfg: Config, mut nodes: [Node; 16], start: &[u8], stores: &mut [u8]) 
     ensures { ServersPost cfg start.now stores.old stores.new result }
 {
     let long = (cfg.d + 1) * cfg.e;
-    let mut i = 0;
-    while i < cfg.n {
+    for i in 0..cfg.n {
         let at = i * long;
         let end = at + long;
         let made = parties::fresh::server(cfg, (i + 1) as u8, start, &mut stores[at..end]);
-        let x = made.node;
-        nodes[i] = x;
-        i += 1;
+        nodes[i] = made.node;
     }
     nodes
 }
@@ -42,11 +39,8 @@ fn clients(cfg: Config, mut states: [client::State; 16]) -> [client::State; 16]
     requires { Valid cfg }
     ensures { ClientsPost cfg result }
 {
-    let mut i = 0;
-    while i < cfg.c {
-        let x = client(cfg, (i + 1) as u8);
-        states[i] = x;
-        i += 1;
+    for i in 0..cfg.c {
+        states[i] = client(cfg, (i + 1) as u8);
     }
     states
 }

@@ -9,6 +9,7 @@ mod outcome;
 mod within;
 
 ghost use Rattle.std.specs.Prelude.{[], ◌∷◌, ◌++◌, ◌≡◌};
+ghost use Rattle.config.specs.Refusal.{verdict_number};
 ghost use Rattle.config.specs.Config.{rig_questions};
 ghost use Rattle.config.specs.Questions.{ask as question, first_no};
 ghost use Rattle.events.specs.Calls.{EventPost, called, call_of};
@@ -16,31 +17,28 @@ ghost use Rattle.events.specs.Questions.{rig_within};
 ghost use Rattle.events.specs.View.{lent};
 ghost use Rattle.rig.specs.Calls.{AlonePost, MakePost};
 
-use config::{Config, Refusal, Verdict};
+use config::{Config, Refusal};
 use events::{Call, CrashOrRestart, Rig, Sizes, Turn};
 
-// What the making of a rig leaves.
+// What the making of a rig leaves. The rig stands beside the verdict: `MakePost` says of a refusal too which it is.
 #[derive(Clone, Copy)]
 pub struct Made {
-    pub verdict: Verdict,
+    pub verdict: Result<(), Refusal>,
     pub rig: Rig,
 }
 
-// Questions 1 to 5 and 21, and 6 of what a rig keeps: the number of the first that is answered no, or 0. The buffers lent to it are not asked.
-pub fn ask(cfg: Config, m: usize, rig: Rig) -> u8
-    ensures { result ≡ first_no (rig_questions cfg m ++ question 6 (rig_within cfg m rig) ∷ []) }
+// Questions 1 to 5 and 21, and 6 of what a rig keeps: the first that is answered no is the refusal. The buffers lent to it are not asked.
+pub fn ask(cfg: Config, m: usize, rig: Rig) -> Result<(), Refusal>
+    ensures { verdict_number result ≡ first_no (rig_questions cfg m ++ question 6 (rig_within cfg m rig) ∷ []) }
 {
-    let no = cfg.ask_rig(m);
-    if no != 0 {
-        return no;
-    }
+    cfg.ask_rig(m)?;
     if m < rig.count {
-        return 6;
+        return Err(Refusal::Shape);
     }
     if !within::all(cfg, rig) {
-        return 6;
+        return Err(Refusal::Shape);
     }
-    0
+    Ok(())
 }
 
 // A fresh rig: questions 1 to 5 and 21, and 6. The servers' elements of the starting board go into their stores. On a refusal the rig is of
@@ -62,15 +60,14 @@ pub fn make(
         boards: boards.len(),
         elements: elements.len(),
     };
-    let no = events::ask(cfg, m, start.len(), sizes);
-    if no != 0 {
+    if let Err(why) = events::ask(cfg, m, start.len(), sizes) {
         return Made {
-            verdict: Verdict::of(no),
+            verdict: Err(why),
             rig: fresh::least(),
         };
     }
     Made {
-        verdict: Verdict::Accepted,
+        verdict: Ok(()),
         rig: fresh::rig(cfg, start, stores),
     }
 }
@@ -91,9 +88,8 @@ pub fn event(
 ) -> Turn
     ensures { EventPost cfg m rig (called call board.now) read.old (lent messages.old stores.old boards.old elements.old) result read.new (lent messages.new stores.new boards.new elements.new) }
 {
-    let no = ask(cfg, m, rig);
-    if no != 0 {
-        return outcome::unturned(rig, Refusal::of(no));
+    if let Err(why) = ask(cfg, m, rig) {
+        return outcome::unturned(rig, why);
     }
     let places = events::names(cfg, rig.count, call, messages);
     let part = outcome::part_of(rig, places);
@@ -107,9 +103,8 @@ pub fn event(
 pub fn crash_or_restart(cfg: Config, m: usize, rig: Rig, which: CrashOrRestart, party: u8) -> Turn
     ensures { AlonePost cfg m rig (call_of which party) result }
 {
-    let asked = ask(cfg, m, rig);
-    if asked != 0 {
-        return outcome::unturned(rig, Refusal::of(asked));
+    if let Err(refusal) = ask(cfg, m, rig) {
+        return outcome::unturned(rig, refusal);
     }
     let none = [0u8; 1];
     let places = events::names(cfg, rig.count, which.call(party), &none[..0]);

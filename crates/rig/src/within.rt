@@ -16,7 +16,7 @@ fn server(cfg: Config, i: usize, x: Node) -> bool
     if cfg.n <= i {
         return true;
     }
-    parties::questions::server(cfg, i, x) == 0
+    parties::questions::server(cfg, i, x).is_ok()
 }
 
 // The same of the client of place i.
@@ -27,7 +27,7 @@ fn client(cfg: Config, i: usize, x: client::State) -> bool
     if cfg.c <= i {
         return true;
     }
-    parties::questions::client(cfg, i, x) == 0
+    parties::questions::client(cfg, i, x).is_ok()
 }
 
 // The same of both parties of place i.
@@ -57,13 +57,10 @@ pub(crate) fn all(cfg: Config, rig: Rig) -> bool
     requires { Valid cfg }
     ensures { result ≡ parties_within cfg rig }
 {
-    let end = places(cfg);
-    let mut i = 0;
-    while i < end {
+    for i in 0..places(cfg) {
         if !place(cfg, i, rig.servers[i], rig.clients[i]) {
             return false;
         }
-        i += 1;
     }
     true
 }

@@ -1,6 +1,7 @@
 -- What a server sends: an answer to each message of a kind that it receives, and kind 9 exactly where the tag is not stored and at or below the floor; of the
 -- protocol's step, and of the call. Assumes nothing.
 use Rattle.std.proofs.Common.{◌≡◌, ℕ, Bool, true, false, cond, ◌||◌, eqb, ◌↔◌, List, [], ◌∷◌, length, sym, refl, ap, ◌∙◌, true≢false, arith, eq-eqb}
+use Rattle.std.specs.Prelude.{None}
 use mathlib.Core.Bool.{false≢true}
 use mathlib.Core.Option.{Option, none, some}
 use Rattle.config.specs.declared.Config.{Config}
@@ -19,7 +20,6 @@ use Rattle.record.specs.Record.{four_bytes, header_bytes, kind_at, kind_number, 
 use Rattle.protocol.specs.Server.{Server, Served, Stored, answer_to, at_or_below_floor, element_of, finalised, is_stored, pre_write, query, read_answer, read_finalise, server_step, server_step_of, write_finalise}
 use Rattle.protocol.specs.Tags.{higher, same_key}
 use Rattle.protocol.proofs.Basics.{none≢some, some-injective}
-use Rattle.server.specs.declared.Floor.{Floor}
 use Rattle.server.specs.declared.State.{State}
 use Rattle.server.specs.declared.Stepped.{Stepped}
 use Rattle.server.specs.Calls.{StepPost, outcome, step_questions}
@@ -161,7 +161,7 @@ module _ (cfg : Config) (s : State) (handed store answer storeAfter answerAfter 
   step_cleared_exactly = (λ nine. (cleared_exactly (key_of cfg) cfg.d me seen got).0 (sent_nine nine), λ due. kind_is _ (step_cleared due))
 
   -- so never without a floor
-  pub step_cleared_has_floor : kind_at answerAfter ≡ 9 → s.floor ≡ Floor.None → ⊥
+  pub step_cleared_has_floor : kind_at answerAfter ≡ 9 → s.floor ≡ None → ⊥
   unfolding view
   step_cleared_has_floor nine bare =
       let a = sent_nine nine in

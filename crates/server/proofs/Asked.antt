@@ -22,10 +22,6 @@ six cfg holds rest passed = first_no_pass (questions cfg) (ask 6 holds ∷ rest)
 
 -- the questions of a state, by what stops them
 module _ (cfg : Config) (s : State) (long : ℕ) where
-  pub stopped : (first : ℕ) → first ≡ first_no (questions cfg) → (first ≡ 0 → ⊥) → first ≡ first_no (state_questions cfg s long)
-  unfolding state_questions
-  stopped first e refuses = e ∙ sym (first_no_stop (questions cfg) (ask 6 (eqb long (store_length cfg) && state_within cfg s) ∷ []) (λ z. refuses (e ∙ z)))
-
   module _ (passed : first_no (questions cfg) ≡ 0) where
     pub no_length : (long ≡ store_length cfg → ⊥) → 6 ≡ first_no (state_questions cfg s long)
     unfolding state_questions
@@ -45,10 +41,6 @@ state_holds cfg s long h =
     let same = eqb long (store_length cfg) in
     let y = last_all (questions cfg) 6 (same && state_within cfg s) (questions_numbered cfg) (omega arith) h in
     (valid cfg y.0, and_right same (state_within cfg s) y.1, eqb-true long (store_length cfg) (and_left same (state_within cfg s) y.1))
-
-pub state_numbered : (cfg : Config) (s : State) (long : ℕ) → numbered (state_questions cfg s long) ≡ true
-unfolding numbered state_questions questions
-state_numbered cfg s long = refl
 
 pub state_valid : (cfg : Config) (s : State) (store : List ℕ) → first_no (state_questions cfg s (length store)) ≡ 0 → ValidState cfg s store
 state_valid cfg s store h = let y = state_holds cfg s (length store) h in record { valid = y.0; within = y.1; long = y.2 }

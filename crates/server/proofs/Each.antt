@@ -1,15 +1,18 @@
 -- What stands from one place to another: a step of a walk, its end, one more at the end, one changed. Assumes nothing.
-use Rattle.std.proofs.Common.{◌≡◌, ℕ, zero, suc, ◌+◌, ◌-◌, ◌<◌, ◌≤◌, Bool, true, false, cond, ◌||◌, ◌⊎◌, List, [], ◌∷◌, ◌++◌, length, sym, refl, ap, ◌∙◌, ap₂, inl, inr, add-one, arith}
+use Rattle.std.proofs.Common.{◌≡◌, ℕ, zero, suc, ◌+◌, ◌-◌, ◌<◌, ◌≤◌, Bool, true, false, cond, ◌&&◌, ◌||◌, ◌⊎◌, List, [], ◌∷◌, ◌++◌, length, get_or, take, drop, sym, refl, ap, ◌∙◌, ap₂, inl, inr, add-one, arith}
+use Rattle.std.proofs.Math.Seq.{drop-cons}
+use Rattle.std.proofs.Math.ListN.{drop_of_length-le}
+use Rattle.std.specs.List.{list_all}
 use native.Mathlib.Decide.{ℕ_discrete}
 use Rattle.laws.proofs.Bools.{and_left, and_right}
 use Rattle.config.specs.declared.Config.{Config}
 use Rattle.tag.specs.declared.Tag.{Tag}
-use Rattle.tag.specs.Tag.{above, same}
+use Rattle.tag.specs.Tag.{above, same, start}
 use Rattle.protocol.proofs.Basics.{or_left, or_right}
 use Rattle.server.specs.declared.places.Least.{Least}
 use Rattle.server.specs.inner.Places.{least_from}
 use Rattle.server.specs.Within.{among, every, once}
-use Rattle.server.specs.View.{each, place_in}
+use Rattle.server.specs.View.{each, place_in, tag_at}
 
 module _ {A : Type 0} where
   -- from place i up to n: a first one and the rest, or none
@@ -49,6 +52,26 @@ module _ {A : Type 0} where
       ap (λ (m : ℕ). each f i m) (add-one (suc n))
       ∙ ap {B = List A} (λ xs. f i ∷ xs) (ap (λ (m : ℕ). each f (suc i) m) (sym (add-one n)) ∙ each_last f (suc i) n ∙ ap (λ (j : ℕ). each f (suc i) n ++ f j ∷ []) e)
 
+  -- the elements of a list from place i on
+  pub each_take : (xs : List A) (d : A) (i n : ℕ) → i + n ≤ length xs → each (λ (j : ℕ). get_or xs j d) i n ≡ take n (drop i xs)
+  unfolding each
+  each_take xs d i zero h = refl
+  each_take xs d i (suc n) h =
+      let below : i < length xs = omega arith in
+      rw (drop-cons xs i d below) (ap (λ (ys : List A). get_or xs i d ∷ ys) (each_take xs d (suc i) n (omega arith)))
+
+  pub each_first : (xs : List A) (d : A) (n : ℕ) → n ≤ length xs → each (λ (j : ℕ). get_or xs j d) 0 n ≡ take n xs
+  each_first xs d n h = each_take xs d 0 n (omega arith)
+
+  -- a test of every one, as the library has it
+  every_all : (test : A → Bool) (xs : List A) → every test xs ≡ list_all test xs
+  unfolding every
+  every_all test [] = refl
+  every_all test (x ∷ xs) = ap (λ (b : Bool). test x && b) (every_all test xs)
+
+  pub every_take : (test : A → Bool) (xs : List A) (d : A) (n : ℕ) → n ≤ length xs → every test (each (λ (j : ℕ). get_or xs j d) 0 n) ≡ list_all test (take n xs)
+  every_take test xs d n h = ap (every test) (each_first xs d n h) ∙ every_all test (take n xs)
+
 -- a test of every one
 module _ {A : Type 0} (f : ℕ → A) (i n : ℕ) (test : A → Bool) where
   pub every_no : i < n → test (f i) ≡ false → every test (each f i (n - i)) ≡ false
@@ -63,35 +86,22 @@ module _ {A : Type 0} (f : ℕ → A) (i n : ℕ) (test : A → Bool) where
   unfolding every
   every_end h = rw (each_end f i n h)
 
+-- the lowest tag of those from place i on
+module _ (ts : List Tag) (i : ℕ) (cfg : Config) (t : Tag) (p : ℕ) where
+  pub least_lower : i < length ts → above cfg t (tag_at ts i) ≡ true
+      → least_from cfg t p i (drop i ts) ≡ least_from cfg (tag_at ts i) i (i + 1) (drop (i + 1) ts)
+  unfolding least_from
+  least_lower h e = rw (drop-cons ts i start h, e, add-one i)
+
+  pub least_other : i < length ts → above cfg t (tag_at ts i) ≡ false → least_from cfg t p i (drop i ts) ≡ least_from cfg t p (i + 1) (drop (i + 1) ts)
+  unfolding least_from
+  least_other h e = rw (drop-cons ts i start h, e, add-one i)
+
+  pub least_end : length ts ≤ i → least_from cfg t p i (drop i ts) ≡ record { tag = t; place = p }
+  unfolding least_from
+  least_end h = rw (drop_of_length-le ts h)
+
 module _ (f : ℕ → Tag) (i n : ℕ) where
-  -- the place of a tag
-  module _ (t : Tag) where
-    pub place_hit : i < n → same (f i) t ≡ true → place_in t (each f i (n - i)) ≡ 0
-    unfolding place_in
-    place_hit h e = rw (each_step f i n h, e)
-
-    pub place_miss : i < n → same (f i) t ≡ false → place_in t (each f i (n - i)) ≡ suc (place_in t (each f (i + 1) (n - (i + 1))))
-    unfolding place_in
-    place_miss h e = rw (each_step f i n h, e)
-
-    pub place_end : n ≤ i → place_in t (each f i (n - i)) ≡ 0
-    unfolding place_in
-    place_end h = rw (each_end f i n h)
-
-  -- the lowest tag
-  module _ (cfg : Config) (t : Tag) (p : ℕ) where
-    pub least_lower : i < n → above cfg t (f i) ≡ true → least_from cfg t p i (each f i (n - i)) ≡ least_from cfg (f i) i (i + 1) (each f (i + 1) (n - (i + 1)))
-    unfolding least_from
-    least_lower h e = rw (each_step f i n h, e, add-one i)
-
-    pub least_other : i < n → above cfg t (f i) ≡ false → least_from cfg t p i (each f i (n - i)) ≡ least_from cfg t p (i + 1) (each f (i + 1) (n - (i + 1)))
-    unfolding least_from
-    least_other h e = rw (each_step f i n h, e, add-one i)
-
-    pub least_end : n ≤ i → least_from cfg t p i (each f i (n - i)) ≡ record { tag = t; place = p }
-    unfolding least_from
-    least_end h = rw (each_end f i n h)
-
   -- every tag once
   pub once_no : i < n → among (f i) (each f (i + 1) (n - (i + 1))) ≡ true → once (each f i (n - i)) ≡ false
   unfolding once
@@ -165,3 +175,17 @@ lowest_place cfg f t p i zero = inl (refl, refl)
 lowest_place cfg f t p i (suc n) =
     by_test f t p i (suc n) (above cfg t (f i)) (least_from cfg (f i) i (suc i) (each f (suc i) n)) (least_from cfg t p (suc i) (each f (suc i) n))
     (one_lower f t p i n _ (lowest_place cfg f (f i) i (suc i) n)) (one_other f t p i n _ (lowest_place cfg f t p (suc i) n))
+
+-- the first place of a tag from place i on: it is here, it is further on, or there is none
+module _ (f : ℕ → Tag) (i n : ℕ) (t : Tag) where
+  pub place_hit : i < n → same (f i) t ≡ true → place_in t (each f i (n - i)) ≡ 0
+  unfolding place_in
+  place_hit h e = rw (each_step f i n h, e)
+
+  pub place_miss : i < n → same (f i) t ≡ false → place_in t (each f i (n - i)) ≡ suc (place_in t (each f (i + 1) (n - (i + 1))))
+  unfolding place_in
+  place_miss h e = rw (each_step f i n h, e)
+
+  pub place_end : n ≤ i → place_in t (each f i (n - i)) ≡ 0
+  unfolding place_in
+  place_end h = rw (each_end f i n h)

@@ -1,13 +1,12 @@
 -- The record handed to a step: ill formed, for another party, or a request. Assumes nothing.
-use Rattle.std.proofs.Common.{◌≡◌, ℕ, ◌≤◌, Bool, true, false, cond, List, length, sym, refl, ap, ◌∙◌, subst, arith, eq-eqb, ne_eqb}
+use Rattle.std.proofs.Common.{Ok, Err, ◌≡◌, ℕ, ◌≤◌, Bool, true, false, cond, List, length, sym, refl, ap, ◌∙◌, subst, arith, eq-eqb, ne_eqb}
 use Rattle.config.specs.declared.Config.{Config}
 use Rattle.config.specs.declared.Refusal.{Refusal}
 use Rattle.config.specs.Number.{server_number}
 use Rattle.config.specs.Questions.{first_no}
 use Rattle.config.specs.Refusal.{refusal_number}
 use Rattle.record.specs.declared.Header.{Header}
-use Rattle.record.specs.declared.Reading.{Reading}
-use Rattle.record.specs.Calls.{ReadPost, with_element}
+use Rattle.record.specs.Calls.{ReadPost, Reading, with_element}
 use Rattle.record.specs.Element.{Element}
 use Rattle.record.specs.Kinds.{is_for_server}
 use Rattle.record.specs.Message.{Message}
@@ -16,7 +15,6 @@ use Rattle.record.proofs.Callers.{its_message, read_12, read_well_formed, was_re
 use Rattle.laws.specs.Bytes.{Bytes}
 use Rattle.record.proofs.Laws.{message_of_config}
 use Rattle.record.proofs.Parties.{number_low}
-use Rattle.server.specs.declared.Told.{Told}
 use Rattle.server.specs.declared.State.{State}
 use Rattle.server.specs.Calls.{for_server, step_questions}
 use Rattle.server.specs.inner.Receive.{ReceivePost}
@@ -36,13 +34,13 @@ module _ (cfg : Config) (s : State) (handed : List ℕ) (store answer : ℕ) (he
   later : number ≡ cond (well_formed cfg handed) (cond (for_server (server_number s.me) (message_of cfg handed)) 0 16) 12
   later = step_later cfg s handed store answer held eighty answer_eighty
 
-  pub step_ill : (why : Refusal) → r ≡ Reading.No why → 12 ≡ number
+  pub step_ill : (why : Refusal) → r ≡ Err why → 12 ≡ number
   step_ill why e =
       let w : well_formed cfg handed ≡ false =
       refused_by (well_formed cfg handed) (refusal_number why) (number_low why) (was_refused cfg handed r post why e ∙ read_12 cfg handed held.0 eighty) in
       sym (later ∙ rw w)
 
-  module _ (h : Header) (e : r ≡ Reading.Message h) where
+  module _ (h : Header) (e : r ≡ Ok h) where
     well : well_formed cfg handed ≡ true
     well = read_well_formed cfg handed held.0 eighty (was_read cfg handed r post h e)
 
@@ -56,7 +54,7 @@ module _ (cfg : Config) (s : State) (handed : List ℕ) (store answer : ℕ) (he
     pub step_elsewhere : (server_number h.server ≡ server_number s.me → ⊥) → 16 ≡ number
     step_elsewhere ne = sym (later ∙ rw (well, ne_eqb (message_of cfg handed).server (server_number s.me) (λ z. ne (sym server_is ∙ z))))
 
-    pub step_here : server_number h.server ≡ server_number s.me → ReceivePost cfg s handed store answer (Told.Request h)
+    pub step_here : server_number h.server ≡ server_number s.me → ReceivePost cfg s handed store answer (Ok h)
     step_here is = (
       record { valid = held.0; within = held.1; long = held.2; eighty = eighty; answer_eighty = answer_eighty; well-formed = well },
       its,
@@ -65,14 +63,14 @@ module _ (cfg : Config) (s : State) (handed : List ℕ) (store answer : ℕ) (he
     )
 
 -- 16 is left, as to the kind
-pub kind_asked : (cfg : Config) (s : State) (handed : List ℕ) (store answer : ℕ) (h : Header) → ReceivePost cfg s handed store answer (Told.Request h)
+pub kind_asked : (cfg : Config) (s : State) (handed : List ℕ) (store answer : ℕ) (h : Header) → ReceivePost cfg s handed store answer (Ok h)
     → (b : Bool) → is_for_server h.kind ≡ b → cond b 0 16 ≡ first_no (step_questions cfg s handed store answer)
 unfolding with_element
 kind_asked cfg s handed store answer h told b e = ap (λ (x : Bool). cond x 0 16) (sym e) ∙ told.2
 
 -- what was received is a request
 pub step_request : (cfg : Config) (s : State) (handed store answer : List ℕ) (h : Header)
-    → ReceivePost cfg s handed (length store) (length answer) (Told.Request h) → Bytes handed → RequestPre cfg s h handed store answer
+    → ReceivePost cfg s handed (length store) (length answer) (Ok h) → Bytes handed → RequestPre cfg s h handed store answer
 step_request cfg s handed store answer h told bytes =
     let p = told.0 in
     record {

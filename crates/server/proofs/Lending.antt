@@ -1,4 +1,6 @@
 -- The element of a stored tag, as a part of the store. Assumes nothing.
+use Rattle.std.specs.Prelude.{Option as Given, None, Some, Ok, Err}
+use Rattle.std.specs.Borrow.{Bor}
 use Rattle.std.proofs.Common.{◌≡◌, ℕ, ◌+◌, ◌-◌, ◌*◌, ◌<◌, ◌≤◌, List, [], length, take, drop, sym, refl, ap, ◌∙◌, subst, mul-le-mul_right, mul-le-mul, zero-add, arith, length-drop, length-take, le-ltb, lt-ltb, eq-eqb, ne_eqb}
 use mathlib.Core.Option.{Option, none, some}
 use native.Mathlib.Decide.{dec_lt}
@@ -12,14 +14,13 @@ use Rattle.record.specs.Element.{Element, element_with}
 use Rattle.protocol.specs.Server.{element_of}
 use Rattle.protocol.proofs.Basics.{none≢some, some-injective}
 use Rattle.config.specs.declared.Refusal.{Refusal}
-use Rattle.config.specs.Refusal.{clamped, refusal_number}
-use Rattle.config.proofs.Refusals.{refusal_is, refusal_low}
-use Rattle.server.specs.declared.Found.{Found}
+use Rattle.config.specs.Refusal.{refusal_number}
+use Rattle.config.proofs.Refusals.{refusal_some}
 use Rattle.server.specs.declared.State.{State}
-use Rattle.server.specs.Calls.{FindPost, LendPost, element_place, found_number, found_place, lent_bytes, state_questions}
+use Rattle.server.specs.Calls.{FindPost, LendPost, element_place, found_place, lent_bytes, state_questions}
 use Rattle.server.specs.Within.{ValidState}
 use Rattle.server.specs.View.{element_at, place_at, place_in, stored_length, tags_used, view}
-use Rattle.server.proofs.Asked.{state_numbered, state_valid}
+use Rattle.server.proofs.Asked.{state_valid}
 use Rattle.server.proofs.Limits.{state_allowed, state_count, state_eight}
 use Rattle.server.proofs.Lists.{element_found, element_missed}
 
@@ -83,28 +84,22 @@ module _ (cfg : Config) (s : State) (t : Tag) where
   ]
 
 -- what is found
-module _ (cfg : Config) (s : State) (t : Tag) (long told : ℕ) (asked : told ≡ first_no (state_questions cfg s long)) where
-  pub found_no : (told ≡ 0 → ⊥) → {why : Refusal} → refusal_number why ≡ clamped told → FindPost cfg s t long (Found.No why)
-  found_no refuses is =
-      record {
-        number = refusal_is (state_questions cfg s long) (state_numbered cfg s long) asked refuses is;
-        place = rw (ne_eqb (first_no (state_questions cfg s long)) 0 (λ z. refuses (asked ∙ z)));
-      }
+module _ (cfg : Config) (s : State) (t : Tag) (long : ℕ) where
+  abbrev asked : ℕ
+  asked = first_no (state_questions cfg s long)
 
-  module _ (none_told : told ≡ 0) (p : ℕ) (e : p ≡ place_in t (tags_used s)) where
-    pub found_nowhere : s.count ≤ p → FindPost cfg s t long Found.Nowhere
-    found_nowhere h =
-        record {
-          number = sym none_told ∙ asked;
-          place = rw (eq-eqb (first_no (state_questions cfg s long)) 0 (sym asked ∙ none_told)) (sym (place_nowhere cfg s t (omega arith)));
-        }
+  pub found_no : {why : Refusal} → refusal_number why ≡ asked → FindPost cfg s t long (Err why)
+  found_no {why} e = record { number = e; place = rw (ne_eqb asked 0 (refusal_some why e).1) }
 
-    pub found_at : p < s.count → FindPost cfg s t long (Found.At (p * cfg.e))
+  module _ (passed : 0 ≡ asked) (p : ℕ) (e : p ≡ place_in t (tags_used s)) where
+    pub found_nowhere : s.count ≤ p → FindPost cfg s t long (Ok None)
+    found_nowhere h = record { number = passed; place = rw (eq-eqb asked 0 (sym passed)) (sym (place_nowhere cfg s t (omega arith))) }
+
+    pub found_at : p < s.count → FindPost cfg s t long (Ok (Some (p * cfg.e)))
     found_at h =
         record {
-          number = sym none_told ∙ asked;
-          place = rw (eq-eqb (first_no (state_questions cfg s long)) 0 (sym asked ∙ none_told))
-              (ap (λ (i : ℕ). some (i * cfg.e)) e ∙ sym (place_there cfg s t (omega arith)));
+          number = passed;
+          place = rw (eq-eqb asked 0 (sym passed)) (ap (λ (i : ℕ). some (i * cfg.e)) e ∙ sym (place_there cfg s t (omega arith)));
         }
 
 -- what is lent
@@ -112,46 +107,36 @@ module _ (cfg : Config) (s : State) (t : Tag) (store : List ℕ) where
   abbrev first-no : ℕ
   first-no = first_no (state_questions cfg s (length store))
 
-  pub lent_no : {why : Refusal} → FindPost cfg s t (length store) (Found.No why) → LendPost cfg s t store [] (refusal_number why)
-  lent_no {why} f =
-      record {
-        number = f.number;
-        part = rw (ne_eqb first-no 0 (λ z. omega (arith, refusal_low why, f.number, z)));
-      }
-
   -- nothing is refused: the state is one that passes question 6, and the place is that of the element
-  module _ {r : Found} (f : FindPost cfg s t (length store) r) (none_told : found_number r ≡ 0) (st : Small t) where
+  module _ {given : Given ℕ} (f : FindPost cfg s t (length store) (Ok given)) (st : Small t) where
     pub found_held : ValidState cfg s store
-    found_held = state_valid cfg s store (sym f.number ∙ none_told)
+    found_held = state_valid cfg s store (sym f.number)
 
-    found-place : found_place r ≡ element_place cfg s t
-    found-place = f.place ∙ rw (eq-eqb first-no 0 (sym f.number ∙ none_told))
+    found-place : found_place (Ok given) ≡ element_place cfg s t
+    found-place = f.place ∙ rw (eq-eqb first-no 0 (sym f.number))
 
-    lent-part : (o : Option Element) (part : List ℕ) → element_of (key cfg) t (view cfg s store).stored ≡ o → part ≡ lent_bytes o
-        → LendPost cfg s t store part 0
-    lent-part o part e h =
-        record {
-          number = sym none_told ∙ f.number;
-          part = h ∙ rw (eq-eqb first-no 0 (sym f.number ∙ none_told), e);
-        }
+    lent-part : (o : Option Element) (part : Bor (List ℕ)) → element_of (key cfg) t (view cfg s store).stored ≡ o → part.now ≡ lent_bytes o
+        → LendPost cfg s t store (Ok part)
+    lent-part o part e h = record { number = f.number; part = h ∙ rw (eq-eqb first-no 0 (sym f.number), e) }
 
-    pub lent_nowhere : found_place r ≡ none → LendPost cfg s t store [] 0
-    lent_nowhere e =
-        lent-part none [] (element_nowhere cfg s t store found_held (place_in t (tags_used s)) st refl (place_not_found cfg s t (sym found-place ∙ e))) refl
+  pub lent_nowhere : FindPost cfg s t (length store) (Ok None) → Small t → (part : Bor (List ℕ)) → part.now ≡ [] → LendPost cfg s t store (Ok part)
+  lent_nowhere f st part e =
+      lent-part f st none part
+      (element_nowhere cfg s t store (found_held f st) (place_in t (tags_used s)) st refl (place_not_found cfg s t (sym (found-place f st)))) e
 
-    pub lent_fits : (i : ℕ) → found_place r ≡ some i → i + cfg.e ≤ length store
-    lent_fits i e =
-        let x = place_found cfg s t i (sym found-place ∙ e) in
-        subst (λ (j : ℕ). j + cfg.e ≤ length store) (sym x.1) (part_fits cfg s t store found_held (place_in t (tags_used s)) x.0)
+  module _ (i : ℕ) (f : FindPost cfg s t (length store) (Ok (Some i))) (st : Small t) where
+    its_place : (place_in t (tags_used s) < s.count) × (i ≡ place_in t (tags_used s) * cfg.e)
+    its_place = place_found cfg s t i (sym (found-place f st))
 
-    pub lent_low : (i : ℕ) → found_place r ≡ some i → i + cfg.e ≤ 512
-    lent_low i e =
-        let x = place_found cfg s t i (sym found-place ∙ e) in
-        subst (λ (j : ℕ). j + cfg.e ≤ 512) (sym x.1) (part_low cfg s t store found_held (place_in t (tags_used s)) x.0)
+    pub lent_fits : i + cfg.e ≤ length store
+    lent_fits =
+        subst (λ (j : ℕ). j + cfg.e ≤ length store) (sym its_place.1) (part_fits cfg s t store (found_held f st) (place_in t (tags_used s)) its_place.0)
 
-    pub lent_at : (i : ℕ) → found_place r ≡ some i → LendPost cfg s t store (take ((i + cfg.e) - i) (drop i store)) 0
-    lent_at i e =
-        let x = place_found cfg s t i (sym found-place ∙ e) in
+    pub lent_low : i + cfg.e ≤ 512
+    lent_low = subst (λ (j : ℕ). j + cfg.e ≤ 512) (sym its_place.1) (part_low cfg s t store (found_held f st) (place_in t (tags_used s)) its_place.0)
+
+    pub lent_at : (part : Bor (List ℕ)) → part.now ≡ take ((i + cfg.e) - i) (drop i store) → LendPost cfg s t store (Ok part)
+    lent_at part e =
         let p = place_in t (tags_used s) in
-        subst (λ (j : ℕ). LendPost cfg s t store (take ((j + cfg.e) - j) (drop j store)) 0) (sym x.1)
-        (lent-part (some _) _ (element_there cfg s t store found_held p st refl x.0) (part_is cfg s t store found_held p))
+        lent-part f st (some _) part (element_there cfg s t store (found_held f st) p st refl its_place.0)
+        (e ∙ ap (λ (j : ℕ). take ((j + cfg.e) - j) (drop j store)) its_place.1 ∙ part_is cfg s t store (found_held f st) p)

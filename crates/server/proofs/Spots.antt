@@ -1,18 +1,19 @@
 -- Tags that leave a bit each in a number, by their spots: where the bits differ, so do the tags. Assumes nothing.
-use Rattle.std.proofs.Common.{◌≡◌, ℕ, zero, suc, ◌+◌, ◌-◌, ◌*◌, ◌/◌, ◌%◌, ◌^◌, ◌<◌, ◌≤◌, max, Bool, true, false, ◌&&◌, eqb, List, [], ◌∷◌, sym, refl, ap, ◌∙◌, subst, true≢false, mod-lt, zero-lt-suc, one-mul, div-one, one-add, arith, lit<, shl_exact, shr-shr, lt-ltb, eq-eqb, ne_eqb, eqb-true, le-leb}
+use Rattle.std.proofs.Common.{◌≡◌, ℕ, zero, suc, ◌+◌, ◌*◌, ◌/◌, ◌%◌, ◌^◌, ◌<◌, ◌≤◌, max, Bool, true, false, not, ◌&&◌, eqb, List, [], ◌∷◌, ◌++◌, length, take, sym, refl, ap, ◌∙◌, true≢false, mod-lt, zero-lt-suc, one-mul, div-one, one-add, arith, lit<, shl_exact, shr-shr, lt-ltb, eq-eqb, ne_eqb, eqb-true, le-leb}
 use mathlib.Core.Option.{Option, some}
-use native.Mathlib.Nat.{sub-zero}
+use borrow.Author.Tests.{not-true}
+use Rattle.std.proofs.lemmas.List.{take_all, take_more}
 use lib.Bits.{bit_or, or_comm, or_shr, or_step, or_zero_r}
 use lib.Pow.{shl-shr}
 use Rattle.laws.proofs.Bools.{and_left, and_right}
 use Rattle.laws.proofs.Xor.{by_digit}
+use Rattle.protocol.proofs.Basics.{or_left, or_right}
 use Rattle.tag.specs.declared.Tag.{Tag}
-use Rattle.tag.specs.Tag.{allowed, same}
+use Rattle.tag.specs.Tag.{allowed, same, start}
 use Rattle.tag.proofs.Order.{same_one}
 use Rattle.server.specs.inner.Spread.{RisenPost, SpreadPost, over_floor, spot_of}
 use Rattle.server.specs.Within.{among, every, once}
-use Rattle.server.specs.View.{each}
-use Rattle.server.proofs.Each.{every_yes, once_yes}
+use Rattle.server.specs.View.{tag_at}
 
 -- ---- bits
 
@@ -72,54 +73,72 @@ stays_marked x y (t ∷ ts) h =
     rw (eq-eqb (bit_or x y / 2 ^ spot_of t % 2) 1 (or_keeps x y (spot_of t) (eqb-true (x / 2 ^ spot_of t % 2) 1 (and_left (marked x t) (every (marked x) ts) h))))
     (stays_marked x y ts (and_right (marked x t) (every (marked x) ts) h))
 
+-- the machine's mark
+abbrev pub put : ℕ → ℕ → ℕ
+put x s = bit_or x ((1 * 2 ^ s) % 18446744073709551616)
+
 -- a tag whose mark is new is none of those that are marked
-other_tag : (x : ℕ) (t u : Tag) → (mark x t ≡ x → ⊥) → marked x u ≡ true → same u t ≡ false
-other_tag x t u new h = go (same u t) refl
+other_tag : (x : ℕ) (t u : Tag) → (mark x t ≡ x → ⊥) → marked x u ≡ true → same t u ≡ false
+other_tag x t u new h = go (same t u) refl
   where
-    go : (b : Bool) → same u t ≡ b → b ≡ false
+    go : (b : Bool) → same t u ≡ b → b ≡ false
     go true e =
-        let m : marked x t ≡ true = ap (marked x) (sym (same_one u t e)) ∙ h in
+        let m : marked x t ≡ true = ap (marked x) (same_one t u e) ∙ h in
         absurd (new (or_held (spot_of t) x (eqb-true (x / 2 ^ spot_of t % 2) 1 m)))
     go false e = refl
 
-not_among : (x : ℕ) (t : Tag) (ts : List Tag) → (mark x t ≡ x → ⊥) → every (marked x) ts ≡ true → among t ts ≡ false
-unfolding every among
-not_among x t [] new h = refl
-not_among x t (u ∷ us) new h =
-    rw (other_tag x t u new (and_left (marked x u) (every (marked x) us) h))
-    (not_among x t us new (and_right (marked x u) (every (marked x) us) h))
+-- ---- one more tag behind others
 
--- ---- the tags from place i up to n are within their limits, above the floor, there once and marked
+every_more : (test : Tag → Bool) (ts : List Tag) (t : Tag) → every test ts ≡ true → test t ≡ true → every test (ts ++ t ∷ []) ≡ true
+unfolding every
+every_more test [] t h e = rw e refl
+every_more test (u ∷ us) t h e = rw (and_left (test u) (every test us) h) (every_more test us t (and_right (test u) (every test us) h) e)
 
-abbrev pub Seen : ℕ → Option Tag → (ℕ → Tag) → ℕ → ℕ → ℕ → Type 0
-Seen clients floor f x i n =
-    (every (allowed clients) (each f i (n - i)) ≡ true)
-    × (every (over_floor floor) (each f i (n - i)) ≡ true)
-    × (once (each f i (n - i)) ≡ true)
-    × (every (marked x) (each f i (n - i)) ≡ true)
+among_more : (u t : Tag) (ts : List Tag) → among u ts ≡ false → same t u ≡ false → among u (ts ++ t ∷ []) ≡ false
+unfolding among
+among_more u t [] h e = rw e refl
+among_more u t (v ∷ vs) h e = rw (or_left (same v u) (among u vs) h) (among_more u t vs (or_right (same v u) (among u vs) h) e)
 
-module _ (clients : ℕ) (floor : Option Tag) (f : ℕ → Tag) where
-  pub seen_none : (n : ℕ) → Seen clients floor f 0 n n
-  unfolding every once each
-  seen_none n =
-      let e : n - n ≡ 0 = omega arith in
-      rw e (refl, refl, refl, refl)
+once_more : (x : ℕ) (t : Tag) (ts : List Tag) → (mark x t ≡ x → ⊥) → every (marked x) ts ≡ true → once ts ≡ true → once (ts ++ t ∷ []) ≡ true
+unfolding every among once
+once_more x t [] new m o = refl
+once_more x t (u ∷ us) new m o =
+    rw (among_more u t us (not-true _ (and_left (not (among u us)) (once us) o)) (other_tag x t u new (and_left (marked x u) (every (marked x) us) m)))
+    (once_more x t us new (and_right (marked x u) (every (marked x) us) m) (and_right (not (among u us)) (once us) o))
 
-  pub seen_one : (x i n : ℕ) → i < n → Seen clients floor f x (i + 1) n → allowed clients (f i) && over_floor floor (f i) ≡ true
-      → (mark x (f i) ≡ x → ⊥) → Seen clients floor f (mark x (f i)) i n
-  seen_one x i n h s fits new =
-      let rest : List Tag = each f (i + 1) (n - (i + 1)) in (
-        every_yes f i n (allowed clients) h (and_left (allowed clients (f i)) (over_floor floor (f i)) fits) ∙ s.0,
-        every_yes f i n (over_floor floor) h (and_right (allowed clients (f i)) (over_floor floor (f i)) fits) ∙ s.1,
-        once_yes f i n h (not_among x (f i) rest new s.3) ∙ s.2,
-        every_yes f i n (marked (mark x (f i))) h (eq-eqb (mark x (f i) / 2 ^ spot_of (f i) % 2) 1 (or_puts x (spot_of (f i))))
-            ∙ stays_marked x (2 ^ spot_of (f i)) rest s.3,
-      )
+-- ---- tags that are within their limits, above the floor, there once and marked
 
-  pub seen_all : (x i n : ℕ) → i ≡ 0 → Seen clients floor f x i n → (r : Bool) → SpreadPost clients floor (each f 0 n) r
-  seen_all x i n e s r =
-      let same : each f i (n - i) ≡ each f 0 n = rw (e, sub-zero n) in
-      subst (λ (ts : List Tag). SpreadPost clients floor ts r) same (record { limits = λ _. s.0; over = λ _. s.1; differ = λ _. s.2 })
+abbrev pub Seen : ℕ → Option Tag → ℕ → List Tag → Type 0
+Seen clients floor x ts =
+    (every (allowed clients) ts ≡ true) × (every (over_floor floor) ts ≡ true) × (once ts ≡ true) × (every (marked x) ts ≡ true)
+
+module _ (clients : ℕ) (floor : Option Tag) where
+  pub seen_none : Seen clients floor 0 []
+  unfolding every once
+  seen_none = (refl, refl, refl, refl)
+
+  seen_more : (x : ℕ) (t : Tag) (ts : List Tag) → Seen clients floor x ts → allowed clients t && over_floor floor t ≡ true → (mark x t ≡ x → ⊥)
+      → Seen clients floor (mark x t) (ts ++ t ∷ [])
+  seen_more x t ts s fits new = (
+    every_more (allowed clients) ts t s.0 (and_left (allowed clients t) (over_floor floor t) fits),
+    every_more (over_floor floor) ts t s.1 (and_right (allowed clients t) (over_floor floor t) fits),
+    once_more x t ts new s.3 s.2,
+    every_more (marked (mark x t)) ts t (stays_marked x (2 ^ spot_of t) ts s.3) (eq-eqb (mark x t / 2 ^ spot_of t % 2) 1 (or_puts x (spot_of t))),
+  )
+
+  -- the machine's mark of the tag at place i
+  pub seen_next : (x n i : ℕ) (ts : List Tag) → i < length ts → Seen clients floor x (take i ts) → n ≡ spot_of (tag_at ts i)
+      → allowed clients (tag_at ts i) && over_floor floor (tag_at ts i) ≡ true → (x ≡ put x n → ⊥) → Seen clients floor (put x n) (take (i + 1) ts)
+  seen_next x n i ts h s is fits new =
+      let t : Tag = tag_at ts i in
+      let e : put x n ≡ mark x t = ap (put x) is
+      ∙ ap (λ (n : ℕ). bit_or x n) (one_bit (spot_of t) (mod-lt (t.number * 16 + t.client) (zero-lt-suc 63))) in
+      rw (take_more ts i start h, e) (seen_more x t (take i ts) s fits (λ z. new (sym (e ∙ z))))
+
+  pub seen_all : (x i : ℕ) (ts : List Tag) → length ts ≤ i → Seen clients floor x (take i ts) → (r : Bool) → SpreadPost clients floor ts r
+  seen_all x i ts h s r =
+      let all : Seen clients floor x ts = rw take_all at s in
+      record { limits = λ _. all.0; over = λ _. all.1; differ = λ _. all.2 }
 
 -- ---- a tag that is packed above a floor's number
 
@@ -132,33 +151,22 @@ module _ (clients low : ℕ) (f t : Tag) (few : clients ≤ 16) (base : f.number
 
 -- ---- the same of each floor whose number is low enough
 
-abbrev pub SeenOver : ℕ → ℕ → (ℕ → Tag) → ℕ → ℕ → ℕ → Type 0
-SeenOver clients low f x i n = (g : Tag) → g.number * 16 + 16 ≤ low → Seen clients (some g) f x i n
+abbrev pub SeenOver : ℕ → ℕ → ℕ → List Tag → Type 0
+SeenOver clients low x ts = (g : Tag) → g.number * 16 + 16 ≤ low → Seen clients (some g) x ts
 
 -- one less than a client's number, as the machine has it: where it is below a limit, the number is within it
 below_limit : (c x clients : ℕ) → (x + 1) % 2 ^ 64 ≡ c → x < clients → clients ≤ 16 → (1 ≤ c) × (c ≤ clients)
 below_limit c x clients e h few = (omega (arith, e, h, few), omega (arith, e, h, few))
 
--- the machine's mark
-abbrev pub put : ℕ → ℕ → ℕ
-put x r = bit_or x ((1 * 2 ^ (r % 64)) % 18446744073709551616)
-
-module _ (clients low : ℕ) (f : ℕ → Tag) where
-  pub over_one : (x i n : ℕ) → 0 < i → i ≤ n → SeenOver clients low f x i n → clients ≤ 16
-      → (less r : ℕ) → (less + 1) % 2 ^ 64 ≡ (f (i - 1)).client → less < clients → r ≡ (f (i - 1)).number * 16 + (f (i - 1)).client → low < r
-      → (x ≡ put x r → ⊥) → SeenOver clients low f (put x r) (i - 1) n
-  over_one x i n some_left at_most s few less r lessened below is higher new g h =
-      let t : Tag = f (i - 1) in
-      let e : i ≡ (i - 1) + 1 = omega (arith, some_left) in
+module _ (clients low : ℕ) where
+  pub over_next : (x i : ℕ) (ts : List Tag) → i < length ts → SeenOver clients low x (take i ts) → clients ≤ 16
+      → (less r : ℕ) → (less + 1) % 2 ^ 64 ≡ (tag_at ts i).client → less < clients → r ≡ (tag_at ts i).number * 16 + (tag_at ts i).client → low < r
+      → (x ≡ put x (r % 64) → ⊥) → SeenOver clients low (put x (r % 64)) (take (i + 1) ts)
+  over_next x i ts h s few less r lessened below is higher new g base =
+      let t : Tag = tag_at ts i in
       let within : (1 ≤ t.client) × (t.client ≤ clients) = below_limit t.client less clients lessened below few in
       let above : low < t.number * 16 + t.client = omega (arith, higher, is) in
-      let bit : (1 * 2 ^ (r % 64)) % 18446744073709551616 ≡ 2 ^ spot_of t =
-      ap (λ (n : ℕ). (1 * 2 ^ (n % 64)) % 18446744073709551616) is ∙ one_bit (spot_of t) (mod-lt (t.number * 16 + t.client) (zero-lt-suc 63)) in
-      let seen : Seen clients (some g) f x ((i - 1) + 1) n = subst (λ (k : ℕ). Seen clients (some g) f x k n) e (s g h) in
-      subst (λ (m : ℕ). Seen clients (some g) f (bit_or x m) (i - 1) n) (sym bit)
-      (seen_one clients (some g) f x (i - 1) n (omega (arith, some_left, at_most)) seen
-      (past_fits clients low g t few h above within.0 within.1)
-      (λ z. new (sym (ap (λ (m : ℕ). bit_or x m) bit ∙ z))))
+      seen_next clients (some g) x (r % 64) i ts h (s g base) (ap (λ (n : ℕ). n % 64) is) (past_fits clients low g t few base above within.0 within.1) new
 
-  pub over_all : (x i n : ℕ) → i ≡ 0 → SeenOver clients low f x i n → (r : Bool) → RisenPost clients low (each f 0 n) r
-  over_all x i n e s r g h = seen_all clients (some g) f x i n e (s g h) r
+  pub over_all : (x i : ℕ) (ts : List Tag) → length ts ≤ i → SeenOver clients low x (take i ts) → (r : Bool) → RisenPost clients low ts r
+  over_all x i ts h s r g base = seen_all clients (some g) x i ts h (s g base) r

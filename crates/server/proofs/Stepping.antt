@@ -1,5 +1,5 @@
 -- What a step leaves, by the question that decides or by the kind of request. Assumes nothing.
-use Rattle.std.proofs.Common.{◌≡◌, ℕ, ◌≤◌, Bool, true, false, cond, leb, List, length, get_or, sym, refl, ap, ◌∙◌, subst₂, arith, eq-eqb, ne_eqb, le-leb}
+use Rattle.std.proofs.Common.{Ok, Err, ◌≡◌, ℕ, ◌≤◌, Bool, true, false, cond, leb, List, length, get_or, sym, refl, ap, ◌∙◌, subst₂, arith, eq-eqb, ne_eqb, le-leb}
 use mathlib.Core.Option.{Option, none, some}
 use Rattle.config.specs.declared.Config.{Config}
 use Rattle.config.specs.declared.Refusal.{Refusal}
@@ -7,8 +7,8 @@ use Rattle.config.specs.declared.Refusal.TheVariants.{Misdirected}
 use Rattle.config.specs.declared.Server.{Server as ServerNumber}
 use Rattle.config.specs.Number.{client_number, server_number}
 use Rattle.config.specs.Questions.{first_no, within}
-use Rattle.config.specs.Refusal.{clamped, refusal_number, verdict_number}
-use Rattle.config.proofs.Refusals.{refusal_is, refusal_low}
+use Rattle.config.specs.Refusal.{refusal_number, verdict_number}
+use Rattle.config.proofs.Refusals.{refusal_low}
 use Rattle.tag.specs.declared.Tag.{Tag}
 use Rattle.tag.specs.Tag.{allowed, key}
 use Rattle.record.specs.declared.Header.{Header}
@@ -24,13 +24,11 @@ use Rattle.protocol.specs.Server.{Served, answer_to, element_of, finalised, pre_
 use Rattle.server.specs.declared.serve.Reply.{Reply}
 use Rattle.server.specs.declared.State.{State}
 use Rattle.server.specs.declared.Stepped.{Stepped}
-use Rattle.server.specs.declared.Told.{Told}
 use Rattle.server.specs.Calls.{StepPost, Steps, outcome, step_questions}
 use Rattle.server.specs.inner.Keep.{KeepPost}
 use Rattle.server.specs.inner.Receive.{ReceivePost}
 use Rattle.server.specs.inner.Serve.{ReadFinalisePost, ReadFinalisePre, RespondPost, RespondPre, RequestPre, bare_of, raised, read_answered, reply, reply_of, request_number, unchanged}
 use Rattle.server.specs.View.{view}
-use Rattle.server.proofs.Asked.{step_numbered}
 use Rattle.server.proofs.Answering.{bare_respond, raised_me, reply_of_config}
 use Rattle.server.proofs.Limits.{state_highest, state_me}
 
@@ -56,16 +54,14 @@ steps_same cfg s n k m l store answer storeAfter answerAfter r e f p =
     subst₂ (λ (x : ℕ) (y : Message Element). Steps cfg s x y store answer storeAfter answerAfter r) e f p
 
 -- a step, by what its first questions told: a no
-pub step_refused : (cfg : Config) (s : State) (handed store answer : List ℕ) {n : ℕ} → ReceivePost cfg s handed (length store) (length answer) (Told.No n)
-    → {why : Refusal} → refusal_number why ≡ clamped n → {r : Stepped} → r ≡ unchanged s why → StepPost cfg s handed store answer store answer r
-step_refused cfg s handed store answer told {why} of {r} is =
-    let qs = step_questions cfg s handed (length store) (length answer) in
-    steps_refused cfg s (first_no qs) (message_of cfg handed) store answer r why is
-    (refusal_is qs (step_numbered cfg s handed (length store) (length answer)) told.1 told.0 of)
+pub step_refused : (cfg : Config) (s : State) (handed store answer : List ℕ) {why : Refusal}
+    → ReceivePost cfg s handed (length store) (length answer) (Err why) → {r : Stepped} → r ≡ unchanged s why → StepPost cfg s handed store answer store answer r
+step_refused cfg s handed store answer {why} told {r} is =
+    steps_refused cfg s (first_no (step_questions cfg s handed (length store) (length answer))) (message_of cfg handed) store answer r why is told
 
 -- or a request
 pub step_served : (cfg : Config) (s : State) (handed store answer : List ℕ) (h : Header)
-    → ReceivePost cfg s handed (length store) (length answer) (Told.Request h) → {after answerAfter : List ℕ} {r : Stepped}
+    → ReceivePost cfg s handed (length store) (length answer) (Ok h) → {after answerAfter : List ℕ} {r : Stepped}
     → Steps cfg s (request_number (with_element cfg h handed)) (with_element cfg h handed) store answer after answerAfter r
     → StepPost cfg s handed store answer after answerAfter r
 step_served cfg s handed store answer h told {after} {answerAfter} {r} = steps_same cfg s _ _ _ _ store answer after answerAfter r told.2 told.1

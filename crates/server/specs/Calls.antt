@@ -1,12 +1,15 @@
 -- A server's calls: what each asks, and what it answers.
 use Rattle.std.specs.Prelude.{◌≡◌, ℕ, ◌*◌, Bool, cond, ◌&&◌, List, [], ◌∷◌, ◌++◌, length, drop, replicate, ◌==◌, ◌≢◌, nat_lt}
+use Rattle.std.specs.Prelude.{Option as Given, None, Some, Result, Ok, Err}
+use Rattle.std.specs.Borrow.{Bor}
 use Rattle.std.proofs.Math.Option.{Option, none, some}
 use Rattle.config.specs.declared.Config.{Config}
+use Rattle.config.specs.declared.Refusal.{Refusal}
 use Rattle.config.specs.declared.Server.{Server as ServerNumber}
 use Rattle.config.specs.Config.{board_length, questions, record_length, store_length}
 use Rattle.config.specs.Number.{server_number}
 use Rattle.config.specs.Questions.{Question, ask, first_no, within}
-use Rattle.config.specs.Refusal.{refusal_number, verdict_number}
+use Rattle.config.specs.Refusal.{verdict_number}
 use Rattle.tag.specs.declared.Tag.{Tag}
 use Rattle.tag.specs.Tag.{key, start}
 use Rattle.record.specs.Element.{Element}
@@ -14,8 +17,6 @@ use Rattle.record.specs.Kinds.{is_for_server}
 use Rattle.record.specs.Message.{Message}
 use Rattle.record.specs.Record.{message_of, record_of, well_formed}
 use Rattle.protocol.specs.Server.{Served, element_of, server_step}
-use Rattle.server.specs.declared.Floor.{Floor}
-use Rattle.server.specs.declared.Found.{Found}
 use Rattle.server.specs.declared.State.{State}
 use Rattle.server.specs.declared.Stepped.{Stepped}
 use Rattle.server.specs.Within.{state_within}
@@ -36,7 +37,7 @@ fresh_questions cfg me element store =
 -- "Fresh: H = (0, 0), with the starting board's element stored at (0, 0)": the one place in use is the first.
 unfoldable pub fresh_state : ServerNumber → ℕ → State
 fresh_state me length =
-    record { me = me; highest = start; floor = Floor.None; count = 1; tags = replicate 8 start; lengths = replicate 8 length }
+    record { me = me; highest = start; floor = None; count = 1; tags = replicate 8 start; lengths = replicate 8 length }
 
 -- "the starting board has length V"; a refusal says 0
 abbrev pub fresh_length : Config → ServerNumber → List ℕ → List ℕ → ℕ
@@ -92,27 +93,31 @@ abbrev pub lent_bytes : Option Element → List ℕ
 lent_bytes none = []
 lent_bytes (some e) = e.bytes
 
--- the part that is lent, and the lent number afterwards
-pub record LendPost (cfg : Config) (s : State) (t : Tag) (store lent : List ℕ) (told : ℕ) : Type 0 where
-  pub number : told ≡ first_no (state_questions cfg s (length store))
-  pub part : lent
+-- the bytes of a part that is lent; a refusal lends none
+abbrev pub part_bytes : Result (Bor (List ℕ)) Refusal → List ℕ
+part_bytes (Ok part) = part.now
+part_bytes (Err why) = []
+
+-- the part that is lent, or a refusal
+pub record LendPost (cfg : Config) (s : State) (t : Tag) (store : List ℕ) (r : Result (Bor (List ℕ)) Refusal) : Type 0 where
+  pub number : verdict_number r ≡ first_no (state_questions cfg s (length store))
+  pub part : part_bytes r
       ≡ cond (first_no (state_questions cfg s (length store)) == 0) (lent_bytes (element_of (key cfg) t (view cfg s store).stored)) []
 
 -- where the element of a tag begins in the store, at its place × E, if the tag is stored
 unfoldable pub element_place : Config → State → Tag → Option ℕ
 element_place cfg s t = cond (nat_lt (place_in t (tags_used s)) s.count) (some (place_in t (tags_used s) * cfg.e)) none
 
-abbrev pub found_number : Found → ℕ
-found_number (Found.No why) = refusal_number why
-found_number Found.Nowhere = 0
-found_number (Found.At i) = 0
+-- the place that a call gives, if the tag is stored; a refusal gives none
+abbrev pub Found : Type 0
+Found = Result (Given ℕ) Refusal
 
 abbrev pub found_place : Found → Option ℕ
-found_place (Found.No why) = none
-found_place Found.Nowhere = none
-found_place (Found.At i) = some i
+found_place (Err why) = none
+found_place (Ok None) = none
+found_place (Ok (Some i)) = some i
 
 -- the place that is found, in a store of a length
 pub record FindPost (cfg : Config) (s : State) (t : Tag) (long : ℕ) (r : Found) : Type 0 where
-  pub number : found_number r ≡ first_no (state_questions cfg s long)
+  pub number : verdict_number r ≡ first_no (state_questions cfg s long)
   pub place : found_place r ≡ cond (first_no (state_questions cfg s long) == 0) (element_place cfg s t) none

@@ -2,13 +2,13 @@
 -- the length beside it is length i.
 -- Only the places in use are read.
 use Rattle.std.specs.Prelude.{ℕ, zero, suc, ◌*◌, cond, List, [], ◌∷◌, take, drop, slice_index, slice_index_or}
+use Rattle.std.specs.Prelude.{Option as Given, None, Some}
 use Rattle.std.proofs.Math.Option.{Option, none, some}
 use Rattle.config.specs.declared.Config.{Config}
 use Rattle.tag.specs.declared.Tag.{Tag}
 use Rattle.tag.specs.Tag.{same, start}
 use Rattle.record.specs.Element.{Element, element_with}
 use Rattle.protocol.specs.Server.{Server, Stored}
-use Rattle.server.specs.declared.Floor.{Floor}
 use Rattle.server.specs.declared.State.{State}
 
 -- what f gives from place i on, n places
@@ -32,9 +32,9 @@ abbrev pub place_at : Config → List Tag → List ℕ → List ℕ → ℕ → 
 place_at cfg tags lengths store i =
     record { tag = tag_at tags i; element = element_with (stored_length lengths i) (element_at cfg store i) }
 
-abbrev pub floor_of : Floor → Option Tag
-floor_of Floor.None = none
-floor_of (Floor.At t) = some t
+abbrev pub floor_of : Given Tag → Option Tag
+floor_of None = none
+floor_of (Some t) = some t
 
 unfoldable pub view : Config → State → List ℕ → Server Element
 view cfg s store =

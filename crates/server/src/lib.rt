@@ -8,37 +8,32 @@ mod within;
 
 ghost use Rattle.std.specs.Prelude.{◌≡◌};
 ghost use Rattle.config.specs.Questions.{first_no};
+ghost use Rattle.config.specs.Refusal.{verdict_number};
 ghost use Rattle.server.specs.Calls.{FindPost, FreshPost, LendPost, StepPost, fresh_state, state_questions, step_questions};
 ghost use Rattle.server.specs.inner.Receive.{ReceivePost};
 ghost use Rattle.server.specs.inner.Serve.{unchanged};
 
-use config::{Config, RECORD, Refusal, Server, Verdict};
-use record::{Header, Reading};
+use config::{Config, RECORD, Refusal, Server};
+use record::Header;
 use tag::Tag;
 
-// No floor, or the highest tag that was dropped.
-#[derive(Clone, Copy)]
-pub enum Floor {
-    None,
-    At(Tag),
-}
-
-// What a server keeps: its number, the highest finalised tag, the floor, and the first `count` of the tags as the stored ones.
-// The element of tag i stands in the store at i × E, and the length of its board is length i.
-#[derive(Clone, Copy)]
+// What a server keeps: its number, the highest finalised tag, the floor, which is the highest tag that was dropped, if any was, and
+// the first `count` of the tags as the stored ones. The element of tag i stands in the store at i × E, and the length of its board
+// is length i.
+#[derive(Clone, Copy, PartialEq, Eq)]
 pub struct State {
     pub me: Server,
     pub count: u8,
     pub highest: Tag,
-    pub floor: Floor,
+    pub floor: Option<Tag>,
     pub tags: [Tag; 8],
     pub lengths: [u16; 8],
 }
 
-// What a call leaves: its verdict and the state.
+// What a call leaves: its verdict and the state, which stands beside it, for `StepPost` and `FreshPost` say of a refusal too which it is.
 #[derive(Clone, Copy)]
 pub struct Stepped {
-    pub verdict: Verdict,
+    pub verdict: Result<(), Refusal>,
     pub state: State,
 }
 
@@ -47,29 +42,26 @@ fn refused(s: State, why: Refusal) -> Stepped
     ensures { result ≡ unchanged s why }
 {
     Stepped {
-        verdict: Verdict::No(why),
+        verdict: Err(why),
         state: s,
     }
 }
 
-// Questions 1 to 5 and 21, and 6 of a state and of its store's length: the number of the first that is answered no, or 0.
-pub fn ask(cfg: Config, state: State, long: usize) -> u8
-    ensures { result ≡ first_no (state_questions cfg state long) }
+// Questions 1 to 5 and 21, and 6 of a state and of its store's length: the first that is answered no is the refusal.
+pub fn ask(cfg: Config, state: State, long: usize) -> Result<(), Refusal>
+    ensures { verdict_number result ≡ first_no (state_questions cfg state long) }
 {
-    let no = cfg.ask();
-    if no != 0 {
-        return no;
-    }
+    cfg.ask()?;
     if long != within::store_length(cfg) {
-        return 6;
+        return Err(Refusal::Shape);
     }
     if !within::numbers(cfg, state) {
-        return 6;
+        return Err(Refusal::Shape);
     }
     if !within::lengths(cfg, state) {
-        return 6;
+        return Err(Refusal::Shape);
     }
-    0
+    Ok(())
 }
 
 // A server that stores one tag, (0, 0), with a length.
@@ -83,7 +75,7 @@ fn first(me: Server, length: u16) -> State
     State {
         me,
         highest: start,
-        floor: Floor::None,
+        floor: None,
         count: 1,
         tags: [start; 8],
         lengths: [length; 8],
@@ -94,9 +86,8 @@ fn first(me: Server, length: u16) -> State
 pub fn fresh(cfg: Config, me: Server, element: &[u8], store: &mut [u8]) -> Stepped
     ensures { FreshPost cfg me element.now store.old store.new result }
 {
-    let no = cfg.ask();
-    if no != 0 {
-        return refused(first(me, 0), Refusal::of(no));
+    if let Err(why) = cfg.ask() {
+        return refused(first(me, 0), why);
     }
     if element.len() != cfg.e {
         return refused(first(me, 0), Refusal::Shape);
@@ -109,60 +100,57 @@ pub fn fresh(cfg: Config, me: Server, element: &[u8], store: &mut [u8]) -> Stepp
     }
     copies::copy(element, store);
     Stepped {
-        verdict: Verdict::Accepted,
+        verdict: Ok(()),
         state: first(me, (cfg.k * cfg.e) as u16),
     }
 }
 
-// What the first questions of a step tell.
-#[derive(Clone, Copy)]
-enum Told {
-    // The number of the first that is answered no.
-    No(u8),
-    // The header of a record with this server's number.
-    Request(Header),
-}
-
-// Questions 1 to 5, 21, 6 and 12 of a step, and 16 of the server's number.
-fn receive(cfg: Config, state: State, handed: &[u8], store: usize, answer: usize) -> Told
+// Questions 1 to 5, 21, 6 and 12 of a step, and 16 of the server's number: the header of a record with this server's number, or the
+// first that is answered no.
+fn receive(
+    cfg: Config,
+    state: State,
+    handed: &[u8],
+    store: usize,
+    answer: usize,
+) -> Result<Header, Refusal>
     ensures { ReceivePost cfg state handed.now store answer result }
 {
-    let no = ask(cfg, state, store);
-    if no != 0 {
-        return Told::No(no);
-    }
+    ask(cfg, state, store)?;
     if handed.len() != RECORD {
-        return Told::No(6);
+        return Err(Refusal::Shape);
     }
     if answer != RECORD {
-        return Told::No(6);
+        return Err(Refusal::Shape);
     }
-    let Reading::Message(h) = record::read(cfg, handed) else {
-        return Told::No(12);
+    let Ok(h) = record::read(cfg, handed) else {
+        return Err(Refusal::IllFormed);
     };
     let server = h.server;
     let me = state.me;
-    if server.number() != me.number() {
-        return Told::No(16);
+    if server.number() == me.number() {
+        Ok(h)
+    } else {
+        Err(Refusal::Misdirected)
     }
-    Told::Request(h)
 }
 
-// Questions 1 to 5, 21, 6, 12 and 16 of a record that a step would be handed: the number of the first that is answered no, or 0.
-pub fn ask_step(cfg: Config, state: State, handed: &[u8], store: usize, answer: usize) -> u8
-    ensures { result ≡ first_no (step_questions cfg state handed.now store answer) }
+// Questions 1 to 5, 21, 6, 12 and 16 of a record that a step would be handed: the first that is answered no is the refusal.
+pub fn ask_step(
+    cfg: Config,
+    state: State,
+    handed: &[u8],
+    store: usize,
+    answer: usize,
+) -> Result<(), Refusal>
+    ensures { verdict_number result ≡ first_no (step_questions cfg state handed.now store answer) }
 {
-    let told = receive(cfg, state, handed, store, answer);
-    match told {
-        Told::No(no) => no,
-        Told::Request(h) => {
-            let kind = h.kind;
-            if !kind.is_for_server() {
-                return 16;
-            }
-            0
-        }
+    let h = receive(cfg, state, handed, store, answer)?;
+    let kind = h.kind;
+    if !kind.is_for_server() {
+        return Err(Refusal::Misdirected);
     }
+    Ok(())
 }
 
 // One step on a record: questions 1 to 5, 21, 6, 12 and 16. The answer is written to a lent record.
@@ -175,60 +163,34 @@ pub fn step(
 ) -> Stepped
     ensures { StepPost cfg state handed.now store.old answer.old store.new answer.new result }
 {
-    let told = receive(cfg, state, handed, store.len(), answer.len());
-    match told {
-        Told::No(no) => refused(state, Refusal::of(no)),
-        Told::Request(h) => serve::request(cfg, state, h, handed, store, answer),
+    match receive(cfg, state, handed, store.len(), answer.len()) {
+        Err(why) => refused(state, why),
+        Ok(h) => serve::request(cfg, state, h, handed, store, answer),
     }
 }
 
-// Where the stored element of a tag stands.
-#[derive(Clone, Copy)]
-pub enum Found {
-    // The call is refused.
-    No(Refusal),
-    // The tag is not stored.
-    Nowhere,
-    // So many bytes from the start of the store.
-    At(usize),
-}
-
-// The first place in a store of this length that holds a tag: questions 1 to 5, 21 and 6.
-pub fn find(cfg: Config, state: State, tag: Tag, long: usize) -> Found
+// The first place in a store of this length that holds a tag, in bytes from the start of the store, if it is stored: questions 1 to
+// 5, 21 and 6.
+pub fn find(cfg: Config, state: State, tag: Tag, long: usize) -> Result<Option<usize>, Refusal>
     ensures { FindPost cfg state tag long result }
 {
-    let no = ask(cfg, state, long);
-    if no != 0 {
-        return Found::No(Refusal::of(no));
-    }
+    ask(cfg, state, long)?;
     let count = state.count as usize;
     let tags = state.tags;
     let place = places::place_of(tag, 0, count, tags);
     if count <= place {
-        return Found::Nowhere;
+        return Ok(None);
     }
-    Found::At(place * cfg.e)
+    Ok(Some(place * cfg.e))
 }
 
-// The stored element of a tag, as that part of the store: empty if there is none or the call is refused. The refusal's number, or
-// 0, goes into the lent number. Questions 1 to 5, 21 and 6.
-pub fn lend<'a>(cfg: Config, state: State, tag: Tag, store: &'a [u8], no: &mut u8) -> &'a [u8]
-    ensures { LendPost cfg state tag store.now result.now no.new }
+// The stored element of a tag, as that part of the store: empty if there is none. Questions 1 to 5, 21 and 6.
+pub fn lend<'a>(cfg: Config, state: State, tag: Tag, store: &'a [u8]) -> Result<&'a [u8], Refusal>
+    ensures { LendPost cfg state tag store.now result }
 {
-    let found = find(cfg, state, tag, store.len());
-    match found {
-        Found::No(why) => {
-            *no = why.number();
-            &store[0..0]
-        }
-        Found::Nowhere => {
-            *no = 0;
-            &store[0..0]
-        }
-        Found::At(from) => {
-            *no = 0;
-            let end = from + cfg.e;
-            &store[from..end]
-        }
-    }
+    let Some(from) = find(cfg, state, tag, store.len())? else {
+        return Ok(&store[0..0]);
+    };
+    let end = from + cfg.e;
+    Ok(&store[from..end])
 }

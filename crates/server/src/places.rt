@@ -14,7 +14,7 @@ pub(crate) struct Least {
     pub place: usize,
 }
 
-// The first place from `from` on that holds the tag, or `count`.
+// The first place from `from` on that holds the tag, or `count`. The loop yields it by `break`: document 01 names this form.
 pub(crate) fn place_of(t: Tag, from: usize, count: usize, tags: [Tag; 8]) -> usize
     requires { (from ≤ count) × (count ≤ 8) }
     ensures { result ≡ from + place_in t (each (tag_at tags) from (count - from)) }
@@ -40,14 +40,11 @@ pub(crate) fn lowest(cfg: Config, t: Tag, count: usize, tags: [Tag; 8]) -> Least
 {
     let mut tag = t;
     let mut place = count;
-    let mut i = 0;
-    while i < count {
-        let x = tags[i];
-        if tag.above(cfg, x) {
-            tag = x;
+    for (i, x) in tags[..count].iter().enumerate() {
+        if tag.above(cfg, *x) {
+            tag = *x;
             place = i;
         }
-        i += 1;
     }
     Least { tag, place }
 }

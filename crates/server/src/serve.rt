@@ -10,8 +10,8 @@ ghost use Rattle.server.specs.inner.Places.{Room};
 ghost use Rattle.server.specs.inner.Serve.{ReadFinalisePost, ReadFinalisePre, RespondPost, RespondPre, RequestPre, bare_of, raised, reply_of, request_number};
 ghost use Rattle.server.specs.View.{floor_of};
 
-use crate::{Floor, State, Stepped, places};
-use config::{Config, Refusal, Verdict};
+use crate::{State, Stepped, places};
+use config::{Config, Refusal};
 use record::{Header, Kind};
 use tag::Tag;
 
@@ -36,11 +36,11 @@ fn raise(cfg: Config, s: State, t: Tag) -> State
 }
 
 // The tag is at or below the floor.
-fn at_or_below(cfg: Config, t: Tag, floor: Floor) -> bool
+fn at_or_below(cfg: Config, t: Tag, floor: Option<Tag>) -> bool
     requires { Valid cfg }
     ensures { result ≡ at_or_below_floor (key cfg) t (floor_of floor) }
 {
-    let Floor::At(f) = floor else {
+    let Some(f) = floor else {
         return false;
     };
     !t.above(cfg, f)
@@ -85,11 +85,8 @@ fn respond(cfg: Config, s: State, h: Header, reply: Reply, answer: &mut [u8]) ->
         present: reply.present,
         length: reply.length,
     };
-    record::write(cfg, out, answer);
-    Stepped {
-        verdict: Verdict::Accepted,
-        state: s,
-    }
+    let verdict = record::write(cfg, out, answer);
+    Stepped { verdict, state: s }
 }
 
 // Stores a tag and its element at the first free place, with the length.
@@ -136,7 +133,7 @@ fn drop_smallest(
     let low = places::lowest(cfg, t, count, tags);
     let smallest = low.tag;
     let place = low.place;
-    let floor = Floor::At(smallest);
+    let floor = Some(smallest);
     if count <= place {
         return State {
             me,

@@ -9,7 +9,7 @@ ghost use Rattle.server.specs.inner.Spread.{RisenPost, SpreadPost, floor_full, s
 ghost use Rattle.server.specs.Within.{every, floor_within, lengths_within, numbers_within, once as once_in};
 ghost use Rattle.server.specs.View.{each, floor_of, lengths_used, stored_length, tag_at};
 
-use crate::{Floor, State, places};
+use crate::{State, places};
 use config::{Config, Server};
 use tag::Tag;
 
@@ -37,15 +37,7 @@ fn each_allowed(clients: usize, count: usize, tags: [Tag; 8]) -> bool
     requires { count ≤ 8 }
     ensures { result ≡ every (allowed clients) (each (tag_at tags) 0 count) }
 {
-    let mut i = 0;
-    while i < count {
-        let t = tags[i];
-        if !t.allowed(clients) {
-            return false;
-        }
-        i += 1;
-    }
-    true
+    tags[..count].iter().all(|t| t.allowed(clients))
 }
 
 // Each of the first `count` tags is there once.
@@ -53,13 +45,11 @@ fn once(count: usize, tags: [Tag; 8]) -> bool
     requires { count ≤ 8 }
     ensures { result ≡ once_in (each (tag_at tags) 0 count) }
 {
-    let mut i = 0;
-    while i < count {
+    for i in 0..count {
         let t = tags[i];
         if places::place_of(t, i + 1, count, tags) < count {
             return false;
         }
-        i += 1;
     }
     true
 }
@@ -69,23 +59,15 @@ fn each_above(cfg: Config, floor: Tag, count: usize, tags: [Tag; 8]) -> bool
     requires { count ≤ 8 }
     ensures { result ≡ every (λ t. above cfg t floor) (each (tag_at tags) 0 count) }
 {
-    let mut i = 0;
-    while i < count {
-        let t = tags[i];
-        if !t.above(cfg, floor) {
-            return false;
-        }
-        i += 1;
-    }
-    true
+    tags[..count].iter().all(|t| t.above(cfg, floor))
 }
 
 // Where there is a floor, it is within its limit, D + 1 tags are stored, and each is above it.
-fn floor_within(cfg: Config, floor: Floor, count: usize, tags: [Tag; 8]) -> bool
+fn floor_within(cfg: Config, floor: Option<Tag>, count: usize, tags: [Tag; 8]) -> bool
     requires { (Valid cfg) × (count ≤ 8) }
     ensures { result ≡ floor_within cfg (floor_of floor) (each (tag_at tags) 0 count) }
 {
-    let Floor::At(f) = floor else {
+    let Some(f) = floor else {
         return true;
     };
     if !f.allowed(cfg.c) {
@@ -98,11 +80,11 @@ fn floor_within(cfg: Config, floor: Floor, count: usize, tags: [Tag; 8]) -> bool
 }
 
 // Where there is a floor, it is within its limit, and D + 1 tags are stored.
-fn floor_full(cfg: Config, floor: Floor, count: usize) -> bool
+fn floor_full(cfg: Config, floor: Option<Tag>, count: usize) -> bool
     requires { Valid cfg }
     ensures { result ≡ floor_full cfg (floor_of floor) count }
 {
-    let Floor::At(f) = floor else {
+    let Some(f) = floor else {
         return true;
     };
     if !f.allowed(cfg.c) {
@@ -124,16 +106,11 @@ fn spread(clients: usize, count: usize, tags: [Tag; 8]) -> bool
     ensures { SpreadPost clients none (each (tag_at tags) 0 count) result }
 {
     let mut seen = 0u64;
-    let mut i = count;
-    while 0 < i {
-        i -= 1;
-        let number = tags[i].number;
-        let client = tags[i].client;
-        let t = Tag { number, client };
+    for t in &tags[..count] {
         if !t.allowed(clients) {
             return false;
         }
-        let next = seen | 1 << spot(t);
+        let next = seen | 1 << spot(*t);
         if next == seen {
             return false;
         }
@@ -169,42 +146,11 @@ fn risen(clients: usize, low: u64, count: usize, tags: [Tag; 8]) -> bool
     ensures { RisenPost clients low (each (tag_at tags) 0 count) result }
 {
     let mut seen = 0u64;
-    let mut i = count;
-    while 0 < i {
-        i -= 1;
-        let c = tags[i].client;
-        let n = tags[i].number;
-        if clients <= less(c) {
+    for t in &tags[..count] {
+        if clients <= less(t.client) {
             return false;
         }
-        let r = packed(n, c);
-        if r <= low {
-            return false;
-        }
-        let next = seen | 1 << r % 64;
-        if seen == next {
-            return false;
-        }
-        seen = next;
-    }
-    true
-}
-
-// The same of eight tags. The loop has a constant length, so that the compiler unrolls it.
-fn eight(clients: usize, low: u64, tags: [Tag; 8]) -> bool
-    requires { clients ≤ 16 }
-    ensures { RisenPost clients low (each (tag_at tags) 0 8) result }
-{
-    let mut seen = 0u64;
-    let mut i = 8usize;
-    while 0 < i {
-        i -= 1;
-        let c = tags[i].client;
-        let n = tags[i].number;
-        if clients <= less(c) {
-            return false;
-        }
-        let r = packed(n, c);
+        let r = packed(t.number, t.client);
         if r <= low {
             return false;
         }
@@ -239,12 +185,9 @@ fn quick(cfg: Config, s: State) -> bool
     if !floor_full(cfg, floor, count) {
         return false;
     }
-    let Floor::At(f) = floor else {
+    let Some(f) = floor else {
         return spread(cfg.c, count, tags);
     };
-    if count == 8 {
-        return eight(cfg.c, past(f.number), tags);
-    }
     risen(cfg.c, past(f.number), count, tags)
 }
 
@@ -292,14 +235,7 @@ fn each_length(most: usize, count: usize, lengths: [u16; 8]) -> bool
     requires { count ≤ 8 }
     ensures { result ≡ every (λ n. nat_le n most) (each (stored_length lengths) 0 count) }
 {
-    let mut i = 0;
-    while i < count {
-        if most < lengths[i] as usize {
-            return false;
-        }
-        i += 1;
-    }
-    true
+    lengths[..count].iter().all(|n| *n as usize <= most)
 }
 
 // Whether the lengths beside the stored elements are at most V.

@@ -31,9 +31,8 @@ fn configured(n: u8, k: u8, d: u8, e: u8, c: u8) -> Config {
 
 // Questions 1 to 5 come before the ranks are read.
 fn begin(stdin: Stdin, mut cfg: Config, m: usize) {
-    let no = cfg.ask_rig(m);
-    if no != 0 {
-        stream::refused(no);
+    if let Err(why) = cfg.ask_rig(m) {
+        stream::refused(why.number());
         return;
     }
     let mut ranks = [0u8; 16];
@@ -48,9 +47,8 @@ fn begin(stdin: Stdin, mut cfg: Config, m: usize) {
 
 // Question 21 comes before the number of boards is read.
 fn several(stdin: Stdin, cfg: Config, m: usize) {
-    let no = cfg.ask_rig(m);
-    if no != 0 {
-        stream::refused(no);
+    if let Err(why) = cfg.ask_rig(m) {
+        stream::refused(why.number());
         return;
     }
     let mut number = [0u8; 1];
@@ -72,9 +70,8 @@ fn counted(m: usize, boards: u8) -> Room {
 
 // Question 22 of the number of boards comes before the shares are read.
 fn share(stdin: Stdin, cfg: Config, mut room: Room) {
-    let no = cfg.ask_room(room);
-    if no != 0 {
-        stream::refused(no);
+    if let Err(why) = cfg.ask_room(room) {
+        stream::refused(why.number());
         return;
     }
     let mut bytes = [0u8; 16];
@@ -91,19 +88,16 @@ fn share(stdin: Stdin, cfg: Config, mut room: Room) {
 // The shares of their bytes, 2 each.
 fn shares(bytes: [u8; 16]) -> [usize; 8] {
     let mut all = [0; 8];
-    let mut i = 0;
-    while i < 8 {
+    for i in 0..8 {
         all[i] = lines::little(bytes[2 * i], bytes[2 * i + 1]);
-        i += 1;
     }
     all
 }
 
 // Question 22 of the shares comes before the starting boards are looked at.
 fn start(stdin: Stdin, cfg: Config, room: Room) {
-    let no = cfg.ask_room(room);
-    if no != 0 {
-        stream::refused(no);
+    if let Err(why) = cfg.ask_room(room) {
+        stream::refused(why.number());
         return;
     }
     let mut boards = [0u8; 8192];

@@ -9,9 +9,10 @@ use lib.Dec.{eqb}
 use Rattle.config.specs.declared.Config.{Config}
 use Rattle.config.specs.Config.{questions}
 use Rattle.config.specs.Questions.{ask, first_no}
-use Rattle.config.specs.Refusal.{clamped}
-use Rattle.config.proofs.Questions.{last_no, last_yes, questions_numbered}
-use Rattle.record.proofs.Answers.{first_stops}
+use Rattle.config.specs.declared.Refusal.{Refusal}
+use Rattle.config.specs.Refusal.{refusal_number}
+use Rattle.config.proofs.Refusals.{refusal_some}
+use Rattle.config.proofs.Questions.{first_no_stop, last_no, last_yes, questions_numbered}
 
 -- question 6 of the bytes, and the states that they and zeros tell
 module _ {A : Type 0} (cfg : Config) (holds : Bool) (told blank : A) where
@@ -25,10 +26,10 @@ module _ {A : Type 0} (cfg : Config) (holds : Bool) (told blank : A) where
   refused : (n : ℕ) → refusal ≡ n → (n ≡ 0 → ⊥) → Answer n blank
   refused n e some = (sym e, rw (ne_eqb refusal 0 (λ z. some (sym e ∙ z))))
 
-  pub not_asked : (asked number : ℕ) → asked ≡ first_no (questions cfg) → (asked ≡ 0 → ⊥) → number ≡ clamped asked → Answer number blank
-  not_asked asked number e some c =
-      let f = first_stops (questions cfg) (ask 6 holds ∷ []) asked number (questions_numbered cfg) e some c in
-      rw f.1 (refused asked f.0 some)
+  pub not_asked : (why : Refusal) → {number : ℕ} → refusal_number why ≡ first_no (questions cfg) → number ≡ refusal_number why → Answer number blank
+  not_asked why {number} e h =
+      let some = refusal_some why e in
+      rw h (refused (refusal_number why) (first_no_stop (questions cfg) (ask 6 holds ∷ []) some.1 ∙ sym e) some.0)
 
   module _ (passed : first_no (questions cfg) ≡ 0) where
     pub not-state : holds ≡ false → Answer 6 blank

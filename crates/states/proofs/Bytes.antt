@@ -1,13 +1,12 @@
 -- Tags as bytes and back, and the test whether bytes are the same. Assumes nothing.
 use mathlib.Core.Path.{◌≡◌, refl, sym, ap, ap₂}
-use mathlib.Core.Bool.{Bool, true, false, ◌&&◌}
+use mathlib.Core.Bool.{Bool, true, ◌&&◌}
 use mathlib.Core.List.{List, [], ◌∷◌}
-use Prim.Native.Nat.{ℕ, ◌+◌, ◌≤◌, ◌<◌}
-use native.Mathlib.Numerals.{add-one}
+use Prim.Native.Nat.{ℕ, ◌≤◌, ◌<◌}
 use borrow.Author.Tests.{eq-eqb, eqb-true}
 use lib.Dec.{eqb}
-use lib.ListN.{length, get_or, drop, drop_of_length-le}
-use lib.Seq.{drop-cons}
+use lib.ListN.{length}
+use Rattle.std.specs.Cmp.Lexicographic.{pointwise}
 use Rattle.laws.proofs.Bools.{and_left, and_right}
 use Rattle.tag.specs.declared.Tag.{Tag}
 use Rattle.record.specs.Record.{four_bytes, highest_number, two_bytes}
@@ -44,26 +43,13 @@ same_one (x ∷ xs) (y ∷ ys) h =
     ap₂ {A = ℕ} (λ (z : ℕ) (l : List ℕ). z ∷ l) (eqb-true x y (and_left (eqb x y) (same_bytes xs ys) h))
     (same_one xs ys (and_right (eqb x y) (same_bytes xs ys) h))
 
--- lists of two lengths are not the same
-pub same_long : (a b : List ℕ) → (length a ≡ length b → ⊥) → same_bytes a b ≡ false
-same_long a b ne = go (same_bytes a b) refl
-  where
-    go : (t : Bool) → same_bytes a b ≡ t → t ≡ false
-    go true h = absurd (ne (ap length (same_one a b h)))
-    go false h = refl
-
--- the test from place i on: a place where they differ, one where they do not, the end
-module _ (a b : List ℕ) (i : ℕ) where
-  abbrev pub same_from : Bool
-  same_from = same_bytes (drop i a) (drop i b)
-
-  pub same_step : i < length a → i < length b → same_from ≡ eqb (get_or a i 0) (get_or b i 0) && same_bytes (drop (i + 1) a) (drop (i + 1) b)
-  unfolding same_bytes
-  same_step ha hb = rw (drop-cons a i 0 ha, drop-cons b i 0 hb, add-one i)
-
-  pub same_end : length a ≤ i → length b ≤ i → same_from ≡ true
-  unfolding same_bytes
-  same_end ha hb = rw (drop_of_length-le a {i = i} ha, drop_of_length-le b {i = i} hb)
+-- the test as `==` makes it
+pub same_pointwise : (a b : List ℕ) → pointwise eqb a b ≡ same_bytes a b
+unfolding same_bytes
+same_pointwise [] [] = refl
+same_pointwise [] (y ∷ ys) = refl
+same_pointwise (x ∷ xs) [] = refl
+same_pointwise (x ∷ xs) (y ∷ ys) = ap (λ t. eqb x y && t) (same_pointwise xs ys)
 
 -- where such a test is the last of three that hold
 pub last_same : (t u : Bool) (a b : List ℕ) → (t && (u && same_bytes a b)) ≡ true → b ≡ a

@@ -1,4 +1,5 @@
 -- A server's state as bytes: how it is packed, what bytes tell, and which bytes are a state's.
+use Rattle.tag.specs.declared.Tag.{Tag}
 use Rattle.std.specs.Prelude.{ℕ, ◌+◌, ◌*◌, Bool, cond, ◌&&◌, ◌≡◌, List, [], ◌∷◌, ◌++◌, eqb, leb, length, get_or, replicate}
 use Rattle.laws.specs.Bytes.{joined, tabulate}
 use Rattle.config.specs.declared.Config.{Config}
@@ -7,7 +8,7 @@ use Rattle.config.specs.Number.{server_number}
 use Rattle.config.specs.Questions.{Question, ask, first_no, within}
 use Rattle.config.specs.Refusal.{verdict_number}
 use Rattle.tag.specs.Tag.{start}
-use Rattle.server.specs.declared.Floor.{Floor}
+use Rattle.std.specs.Prelude.{Option, None, Some}
 use Rattle.server.specs.declared.State.{State}
 use Rattle.server.specs.View.{stored_length, tag_at}
 use Rattle.states.specs.declared.servers.Unpacked.{Unpacked}
@@ -16,17 +17,17 @@ use Rattle.states.specs.Bytes.{empty_row, length_from, same_bytes, tag_from, tag
 -- ---- packing
 
 -- whether there is a floor, as a number
-abbrev pub floor_flag : Floor → ℕ
-floor_flag Floor.None = 0
-floor_flag (Floor.At t) = 1
+abbrev pub floor_flag : Option Tag → ℕ
+floor_flag None = 0
+floor_flag (Some t) = 1
 
 -- the first row: the server's number, how many tags are stored, whether there is a floor
 unfoldable pub head_row : State → List ℕ
 head_row s = server_number s.me ∷ s.count ∷ floor_flag s.floor ∷ replicate 5 0
 
-unfoldable pub floor_row : Floor → List ℕ
-floor_row Floor.None = empty_row
-floor_row (Floor.At t) = tag_row t 0
+unfoldable pub floor_row : Option Tag → List ℕ
+floor_row None = empty_row
+floor_row (Some t) = tag_row t 0
 
 -- the row of the stored tag at place i, with the length beside its element; past the count nothing is kept
 unfoldable pub stored_row : State → ℕ → List ℕ
@@ -52,7 +53,7 @@ state_of bs =
       me = record { 0 = get_or bs 0 0 };
       count = get_or bs 1 0;
       highest = tag_from bs 8;
-      floor = cond (eqb (get_or bs 2 0) 1) (Floor.At (tag_from bs 16)) Floor.None;
+      floor = cond (eqb (get_or bs 2 0) 1) (Some (tag_from bs 16)) None;
       tags = tabulate 8 (λ i. tag_from bs (stored_at i));
       lengths = tabulate 8 (λ i. length_from bs (stored_at i + 5));
     }

@@ -6,17 +6,17 @@ ghost use Rattle.states.specs.Clients.{PackPost, UnpackPost, head_row, numbers_o
 ghost use Rattle.states.specs.inner.Clients.{RefusedPost, ToldPre, lengths_row, plain_of, row_at};
 
 use client::{Phase, State};
-use config::{Client, Config, FIRST_CLIENT, NewClient, Refusal, Verdict};
+use config::{Client, Config, FIRST_CLIENT, Refusal};
 use record::layout;
 use tag::Tag;
 
 // The bytes of a state.
 pub const LENGTH: usize = 56;
 
-// What unpacking gives: its verdict and the state. Where that is a refusal, the state is of no use.
+// What unpacking gives: its verdict and the state, which stands beside it, for `UnpackPost` says of a refusal too which it is: that of zeros.
 #[derive(Clone, Copy)]
 pub struct Unpacked {
-    pub verdict: Verdict,
+    pub verdict: Result<(), Refusal>,
     pub state: State,
 }
 
@@ -37,13 +37,11 @@ pub fn pack(state: State) -> [u8; 56]
     let phase = state.phase;
     let x = numbers_of(phase);
     let mut out = [0u8; LENGTH];
-    let mut i = 0;
-    while i < 7 {
+    for i in 0..7 {
         let from = 8 * i;
         let end = from + 8;
         let r = row(state, x, i);
         copies::copy(&r, &mut out[from..end]);
-        i += 1;
     }
     out
 }
@@ -167,36 +165,35 @@ fn length_sent(lengths: [u16; 16], sent: u32, i: usize) -> u16
 pub fn unpack(cfg: Config, bytes: &[u8]) -> Unpacked
     ensures { UnpackPost cfg bytes.now result }
 {
-    let no = cfg.ask();
-    if no != 0 {
-        return refused(no);
+    if let Err(why) = cfg.ask() {
+        return refused(why);
     }
     if bytes.len() != LENGTH {
-        return refused(6);
+        return refused(Refusal::Shape);
     }
-    let NewClient::Made(me) = Client::new(cfg, bytes[0]) else {
-        return refused(6);
+    let Ok(me) = Client::new(cfg, bytes[0]) else {
+        return refused(Refusal::Shape);
     };
     let state = told(me, bytes);
     let again = pack(state);
     if !crate::same(&again, bytes) {
-        return refused(6);
+        return refused(Refusal::Shape);
     }
     Unpacked {
-        verdict: Verdict::Accepted,
+        verdict: Ok(()),
         state,
     }
 }
 
 // A refusal, with the state that zeros tell, of client 1.
-fn refused(no: u8) -> Unpacked
-    ensures { RefusedPost no result }
+fn refused(why: Refusal) -> Unpacked
+    ensures { RefusedPost why result }
 {
     let mut zeros = [0u8; LENGTH];
     zeros[0] = 1;
     let state = told(FIRST_CLIENT, &zeros);
     Unpacked {
-        verdict: Verdict::No(Refusal::of(no)),
+        verdict: Err(why),
         state,
     }
 }
@@ -207,10 +204,8 @@ fn told(me: Client, bytes: &[u8]) -> State
     ensures { result ≡ state_of bytes.now }
 {
     let mut lengths = [0u16; 16];
-    let mut i = 0;
-    while i < 16 {
-        lengths[i] = crate::length_at(24 + 2 * i, bytes);
-        i += 1;
+    for (i, length) in lengths.iter_mut().enumerate() {
+        *length = crate::length_at(24 + 2 * i, bytes);
     }
     State {
         me,

@@ -4,17 +4,17 @@ ghost use Rattle.std.specs.Prelude.{◌≡◌, ◌<◌, length as long};
 ghost use Rattle.states.specs.Servers.{PackPost, UnpackPost, floor_flag, floor_row, head_row, packed_length, state_of, stored_row};
 ghost use Rattle.states.specs.inner.Servers.{RefusedPost, ToldPre, row_at};
 
-use config::{Config, FIRST_SERVER, NewServer, Refusal, Server, Verdict};
-use server::{Floor, State};
+use config::{Config, FIRST_SERVER, Refusal, Server};
+use server::State;
 use tag::Tag;
 
 // The bytes of a state.
 pub const LENGTH: usize = 88;
 
-// What unpacking gives: its verdict and the state. Where that is a refusal, the state is of no use.
+// What unpacking gives: its verdict and the state, which stands beside it, for `UnpackPost` says of a refusal too which it is: that of zeros.
 #[derive(Clone, Copy)]
 pub struct Unpacked {
-    pub verdict: Verdict,
+    pub verdict: Result<(), Refusal>,
     pub state: State,
 }
 
@@ -23,13 +23,11 @@ pub fn pack(state: State) -> [u8; 88]
     ensures { PackPost state result }
 {
     let mut out = [0u8; LENGTH];
-    let mut i = 0;
-    while i < 11 {
+    for i in 0..11 {
         let from = 8 * i;
         let end = from + 8;
         let r = row(state, i);
         copies::copy(&r, &mut out[from..end]);
-        i += 1;
     }
     out
 }
@@ -63,22 +61,22 @@ fn head(state: State) -> [u8; 8]
 }
 
 // Whether there is a floor, as a number.
-fn floor_flag(floor: Floor) -> u8
+fn floor_flag(floor: Option<Tag>) -> u8
     ensures { result ≡ floor_flag floor }
 {
     match floor {
-        Floor::None => 0,
-        Floor::At(_t) => 1,
+        None => 0,
+        Some(_t) => 1,
     }
 }
 
 // The floor's row.
-fn floor_row(floor: Floor) -> [u8; 8]
+fn floor_row(floor: Option<Tag>) -> [u8; 8]
     ensures { result ≡ floor_row floor }
 {
     match floor {
-        Floor::None => [0; 8],
-        Floor::At(t) => crate::tag_row(t, 0),
+        None => [0; 8],
+        Some(t) => crate::tag_row(t, 0),
     }
 }
 
@@ -100,36 +98,35 @@ fn stored_row(state: State, i: usize) -> [u8; 8]
 pub fn unpack(cfg: Config, bytes: &[u8]) -> Unpacked
     ensures { UnpackPost cfg bytes.now result }
 {
-    let no = cfg.ask();
-    if no != 0 {
-        return refused(no);
+    if let Err(why) = cfg.ask() {
+        return refused(why);
     }
     if bytes.len() != LENGTH {
-        return refused(6);
+        return refused(Refusal::Shape);
     }
-    let NewServer::Made(me) = Server::new(cfg, bytes[0]) else {
-        return refused(6);
+    let Ok(me) = Server::new(cfg, bytes[0]) else {
+        return refused(Refusal::Shape);
     };
     let state = told(me, bytes);
     let again = pack(state);
     if !crate::same(&again, bytes) {
-        return refused(6);
+        return refused(Refusal::Shape);
     }
     Unpacked {
-        verdict: Verdict::Accepted,
+        verdict: Ok(()),
         state,
     }
 }
 
 // A refusal, with the state that zeros tell, of server 1.
-fn refused(no: u8) -> Unpacked
-    ensures { RefusedPost no result }
+fn refused(why: Refusal) -> Unpacked
+    ensures { RefusedPost why result }
 {
     let mut zeros = [0u8; LENGTH];
     zeros[0] = 1;
     let state = told(FIRST_SERVER, &zeros);
     Unpacked {
-        verdict: Verdict::No(Refusal::of(no)),
+        verdict: Err(why),
         state,
     }
 }
@@ -144,12 +141,10 @@ fn told(me: Server, bytes: &[u8]) -> State
         client: 0,
     }; 8];
     let mut lengths = [0u16; 8];
-    let mut i = 0;
-    while i < 8 {
+    for i in 0..8 {
         let at = 24 + 8 * i;
         tags[i] = crate::tag_at(at, bytes);
         lengths[i] = crate::length_at(at + 5, bytes);
-        i += 1;
     }
     State {
         me,
@@ -162,12 +157,12 @@ fn told(me: Server, bytes: &[u8]) -> State
 }
 
 // The floor that 88 bytes tell.
-fn floor_at(bytes: &[u8]) -> Floor
+fn floor_at(bytes: &[u8]) -> Option<Tag>
     requires { long bytes.now ≡ packed_length }
     ensures { result ≡ (state_of bytes.now).floor }
 {
     if bytes[2] != 1 {
-        return Floor::None;
+        return None;
     }
-    Floor::At(crate::tag_at(16, bytes))
+    Some(crate::tag_at(16, bytes))
 }

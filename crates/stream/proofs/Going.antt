@@ -1,9 +1,10 @@
 -- A run goes on by the events of a block, from a making that is not refused. Assumes nothing.
+use Rattle.std.proofs.Common.{Result, Ok, Err}
 use Rattle.std.proofs.Common.{◌≡◌, ℕ, List, [], ◌++◌, refl, ap, ◌∙◌, arith, length-append}
 use Rattle.laws.specs.Bytes.{Bytes}
 use Rattle.config.specs.declared.Config.{Config}
 use Rattle.config.specs.declared.Refusal.{Refusal}
-use Rattle.config.specs.declared.Verdict.{Verdict}
+use Rattle.config.specs.Refusal.{Verdict}
 use Rattle.config.specs.Refusal.{verdict_number}
 use Rattle.config.proofs.Refusals.{refusal_low}
 use Rattle.rig.specs.declared.Made.{Made}
@@ -38,7 +39,7 @@ went_on {cfg} {m} {rig} {l} {first} {left} {now} {input} {out} {r} {then} w p =
 
 module _ {cfg : Config} {m : ℕ} {start : List ℕ} {l : Lent} {r : Made} {made_in : Lent} (post : MakePost cfg m start l r made_in) where
   -- a making that gives a refusal got a number
-  pub was_refused : {why : Refusal} → r.verdict ≡ Verdict.No why → make_no cfg m start l ≡ 0 → ⊥
+  pub was_refused : {why : Refusal} → r.verdict ≡ Err why → make_no cfg m start l ≡ 0 → ⊥
   was_refused {why} e z = omega (arith, post.number, ap verdict_number e, refusal_low why, z)
 
   -- all events of one that got none

@@ -9,6 +9,7 @@ pub(crate) fn filled(stdin: Stdin, front: usize, size: usize, input: &mut [u8]) 
     ensures { (front ≤ result) × (result ≤ length input.old) × (take front input.new ≡ take front input.old) }
 {
     let mut end = front;
+    // A turn goes on by as many bytes as a read gives.
     while end < size {
         let more = more_at(stdin, end, input);
         if more == 0 {
@@ -36,11 +37,6 @@ pub(crate) fn kept(taken: usize, end: usize, input: &mut [u8]) -> usize
     requires { (taken ≤ end) × (end ≤ length input.old) }
     ensures { (result ≡ end - taken) × (take result input.new ≡ take result (drop taken input.old)) }
 {
-    let rest = end - taken;
-    let mut i = 0;
-    while i < rest {
-        input[i] = input[taken + i];
-        i += 1;
-    }
-    rest
+    input.copy_within(taken..end, 0);
+    end - taken
 }

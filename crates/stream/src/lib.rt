@@ -8,22 +8,21 @@
 mod input;
 pub mod several;
 
-ghost use Rattle.std.specs.Prelude.{◌≡◌, ◌<◌, ◌≤◌, length};
+ghost use Rattle.std.specs.Prelude.{◌≡◌, ◌≤◌, length};
 ghost use Rattle.config.specs.Config.{Valid, most_messages};
 ghost use Rattle.rig.specs.Calls.{make_no};
 ghost use Rattle.events.specs.View.{lent};
 ghost use Rattle.stream.specs.inner.Went.{RunTo, WentOn};
 
-use config::{Config, Verdict};
+use config::Config;
 use events::Rig;
 use std::io::Stdin;
 
 // Makes a rig of a starting board and runs the events of standard input on it, one line an event. A making that is refused has the
 // line of count 0.
 pub fn run(stdin: Stdin, cfg: Config, m: usize, start: &[u8]) {
-    let no = cfg.ask_rig(m);
-    if no != 0 {
-        refused(no);
+    if let Err(why) = cfg.ask_rig(m) {
+        refused(why.number());
         return;
     }
     let mut messages = io::large_buffer();
@@ -96,7 +95,7 @@ fn begin(
 {
     let made = rig::make(cfg, m, start, messages, stores, boards, elements);
     let verdict = made.verdict;
-    if let Verdict::No(why) = verdict {
+    if let Err(why) = verdict {
         refused(why.number());
         return;
     }
@@ -135,8 +134,7 @@ fn blocks(
     let size = lines::event_length(cfg, m);
     let mut count = 1;
     let mut end = 0;
-    let mut turns = u64::MAX;
-    while turns > 0 {
+    for _ in 0..u64::MAX {
         end = input::filled(stdin, end, size, input);
         let ran = lines::block(
             cfg,
@@ -152,18 +150,12 @@ fn blocks(
         );
         rig = ran.rig;
         count = ran.count;
-        turns = left(turns, wrote(end, size, count, ran.used, output));
+        if !wrote(end, size, count, ran.used, output) {
+            break;
+        }
         end = input::kept(ran.taken, end, input);
     }
     count
-}
-
-// The turns that are left: none where it doesn't go on.
-fn left(turns: u64, goes_on: bool) -> u64
-    requires { 0 < turns }
-    ensures { result < turns }
-{
-    if goes_on { turns - 1 } else { 0 }
 }
 
 // Writes the lines of a block and answers whether it goes on: not where a write fails, nor where the input has ended, with a line for a

@@ -5,7 +5,7 @@
 ghost use Rattle.std.specs.Prelude.{◌≤◌, length};
 
 use super::input;
-use config::{Config, Room, Verdict};
+use config::{Config, Room};
 use std::io::Stdin;
 
 // Makes a rig of starting boards and runs the events of standard input on it, one line an event. A making that is refused has the line of
@@ -49,7 +49,7 @@ fn begin(
 ) {
     let made = boards::make(cfg, room, start, messages, owners, stores, boards, elements);
     let verdict = made.verdict;
-    if let Verdict::No(why) = verdict {
+    if let Err(why) = verdict {
         super::refused(why.number());
         return;
     }
@@ -88,8 +88,7 @@ fn blocks(
     let size = lines::several::event_length(cfg, room.m);
     let mut count = 1;
     let mut end = 0;
-    let mut turns = u64::MAX;
-    while turns > 0 {
+    for _ in 0..u64::MAX {
         end = input::filled(stdin, end, size, input);
         let ran = records(
             cfg,
@@ -106,7 +105,9 @@ fn blocks(
         );
         rig = ran.rig;
         count = ran.count;
-        turns = super::left(turns, super::wrote(end, size, count, ran.used, output));
+        if !super::wrote(end, size, count, ran.used, output) {
+            break;
+        }
         end = input::kept(ran.taken, end, input);
     }
 }
@@ -140,6 +141,7 @@ fn records(
     let size = lines::several::event_length(cfg, room.m);
     let mut taken = 0;
     let mut used = 0;
+    // Goes on by a record only where that has a line, and how far is answered.
     while taken < input.len() {
         let said = lines::several::event(
             cfg, room, rig, count, taken, input, used, output, messages, owners, stores, boards,

@@ -8,7 +8,7 @@ ghost use Rattle.tag.specs.Tag.{above, allowed, higher, same};
 use config::Config;
 
 // A tag: a number, and a client number.
-#[derive(Clone, Copy)]
+#[derive(Clone, Copy, PartialEq, Eq, Debug)]
 pub struct Tag {
     pub number: u32,
     pub client: u8,
@@ -44,10 +44,7 @@ impl Tag {
     pub fn same(self, other: Tag) -> bool
         ensures { result ≡ same self other }
     {
-        if self.number == other.number {
-            return self.client == other.client;
-        }
-        false
+        self == other
     }
 
     // Whether the tag is allowed where there are `clients` clients.

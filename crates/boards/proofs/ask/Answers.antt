@@ -10,6 +10,8 @@ use lib.Dec.{eqb, leb}
 use lib.ListN.{take, get_elem?}
 use Rattle.laws.proofs.Below.{below_no}
 use Rattle.laws.proofs.Bools.{and_right}
+use Rattle.config.proofs.Exits.{exits}
+use Rattle.config.proofs.Refusals.{refusal_some}
 use Rattle.config.specs.declared.Config.{Config}
 use Rattle.config.specs.declared.Room.{Room}
 use Rattle.config.specs.Config.{board_length}
@@ -73,18 +75,19 @@ owners-long : (cfg : Config) (room : Room) (board read : ℕ) (x : Sizes) → al
 owners-long cfg room board read x h =
     (sizes_are x (due cfg room) (and_right (eqb board (board_length cfg) && eqb read (board_length cfg)) (sized_by cfg room x) h)).owners
 
-pub returns-then-no-ne0 : goal.returns-then-no-ne0
-returns-then-no-ne0 c =
+pub returns-in_err-ask_lengths : goal.returns-in_err-ask_lengths
+returns-in_err-ask_lengths c =
     let a = c.args in
     let long = all_long a.cfg a.room a.board a.read a.sizes in
-    six_part a.cfg a.room a.call c.ask_lengths-no.result long (rig_within a.cfg a.room a.rig a.owners.now) c.ask_lengths-no.ensures c.if-no-ne0.true
+    exits c.from_residual.result _ c.from_residual.ensures.1
+    ∙ six_part a.cfg a.room a.call _ long (rig_within a.cfg a.room a.rig a.owners.now) c.in_err-ask_lengths.ensures (refusal_some _ c.in_err-ask_lengths.ensures).0
 
 pub returns-then-room-rig : goal.returns-then-room-rig
 returns-then-room-rig c =
     let b = c in
     let a = b.args in
     let long = all_long a.cfg a.room a.board a.read a.sizes in
-    let yes = all_yes a.cfg a.room a.call b.ask_lengths-no.result long b.ask_lengths-no.ensures b.if-no-ne0.false in
+    let yes = all_yes a.cfg a.room a.call 0 long b.in_ok-ask_lengths.ensures refl in
     six_no a.cfg a.room a.call yes.0 (long && rig_within a.cfg a.room a.rig a.owners.now) yes.1
     (ap₂ ◌&&◌ yes.2 (too_many a.cfg a.room a.rig a.owners.now (boards_low a.room (room_is a.cfg a.room yes.0)) c.if-room-rig.true))
 
@@ -94,7 +97,7 @@ flight-requires c =
     let s = b in
     let a = s.args in
     let long = all_long a.cfg a.room a.board a.read a.sizes in
-    let yes = all_yes a.cfg a.room a.call b.ask_lengths-no.result long b.ask_lengths-no.ensures b.if-no-ne0.false in
+    let yes = all_yes a.cfg a.room a.call 0 long b.in_ok-ask_lengths.ensures refl in
     let few : a.rig.count ≤ a.room.m = omega (arith, c.if-room-rig.false) in
     ((room_is a.cfg a.room yes.0, (room_most a.cfg a.room yes.0).1), few, omega (arith, few, s.requires, owners-long a.cfg a.room a.board a.read a.sizes yes.2))
 
@@ -103,7 +106,7 @@ returns-then-not-flight c =
     let b = c in
     let a = b.args in
     let long = all_long a.cfg a.room a.board a.read a.sizes in
-    let yes = all_yes a.cfg a.room a.call b.ask_lengths-no.result long b.ask_lengths-no.ensures b.if-no-ne0.false in
+    let yes = all_yes a.cfg a.room a.call 0 long b.in_ok-ask_lengths.ensures refl in
     six_no a.cfg a.room a.call yes.0 (long && rig_within a.cfg a.room a.rig a.owners.now) yes.1
     (ap₂ ◌&&◌ yes.2 (flight-no a.cfg a.room a.rig a.owners.now (sym c.flight.ensures ∙ not-true _ c.if-not-flight.true-raw)))
 
@@ -112,14 +115,14 @@ parties-requires c =
     let b = c in
     let a = b.args in
     let long = all_long a.cfg a.room a.board a.read a.sizes in
-    (all_yes a.cfg a.room a.call b.ask_lengths-no.result long b.ask_lengths-no.ensures b.if-no-ne0.false).0
+    (all_yes a.cfg a.room a.call 0 long b.in_ok-ask_lengths.ensures refl).0
 
 pub returns-then-not-parties : goal.returns-then-not-parties
 returns-then-not-parties c =
     let b = c in
     let a = b.args in
     let long = all_long a.cfg a.room a.board a.read a.sizes in
-    let yes = all_yes a.cfg a.room a.call b.ask_lengths-no.result long b.ask_lengths-no.ensures b.if-no-ne0.false in
+    let yes = all_yes a.cfg a.room a.call 0 long b.in_ok-ask_lengths.ensures refl in
     six_no a.cfg a.room a.call yes.0 (long && rig_within a.cfg a.room a.rig a.owners.now) yes.1
     (ap₂ ◌&&◌ yes.2 (parties-no a.cfg a.room a.rig a.owners.now (sym c.parties.ensures ∙ not-true _ c.if-not-parties.true-raw)))
 
@@ -128,7 +131,7 @@ returns c =
     let b = c in
     let a = b.args in
     let long = all_long a.cfg a.room a.board a.read a.sizes in
-    let yes = all_yes a.cfg a.room a.call b.ask_lengths-no.result long b.ask_lengths-no.ensures b.if-no-ne0.false in
+    let yes = all_yes a.cfg a.room a.call 0 long b.in_ok-ask_lengths.ensures refl in
     six_yes a.cfg a.room a.call yes.0 (long && rig_within a.cfg a.room a.rig a.owners.now) yes.1
     (ap₂ ◌&&◌ yes.2
     (all-within a.cfg a.room a.rig a.owners.now (sym c.parties.ensures ∙ not-false _ c.if-not-parties.false-raw)

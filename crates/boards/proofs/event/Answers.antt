@@ -1,3 +1,4 @@
+use mathlib.Core.Path.{refl}
 use native.Mathlib.Omega.{arith}
 use Rattle.config.proofs.Rooms.{boards_high, boards_low, room_is}
 use Rattle.boards.specs.View.{lent}
@@ -6,37 +7,37 @@ use Rattle.boards.proofs.Entering.{accepted, code_zero, early_refused, long_yes,
 use Rattle.boards.proofs.OnEveryBoard.{every_event}
 use Rattle.boards.proofs.event.Goals as goal
 
-pub returns-then-no-ne0 : goal.returns-then-no-ne0
-returns-then-no-ne0 c =
+pub returns-in-Err : goal.returns-in-Err
+returns-in-Err c =
     let a = c.args in
     let l = lent a.messages.now a.owners.now a.stores.now a.boards.now a.elements.now in
-    early_refused a.cfg a.room a.rig a.call a.board.now a.read.now l c.ask-no.ensures c.if-no-ne0.true c.of.ensures c.unturned.ensures
+    early_refused a.cfg a.room a.rig a.call a.board.now a.read.now l _ c.in-Err.ensures c.unturned.ensures
 
 pub returns-then-call-lt1 : goal.returns-then-call-lt1
 returns-then-call-lt1 c =
     let a = c.args in
     let l = lent a.messages.now a.owners.now a.stores.now a.boards.now a.elements.now in
-    unknown a.cfg a.room a.rig a.call a.board.now a.read.now l c.ask-no.ensures c.if-no-ne0.false (code_zero a.call.code c.if-call-lt1.true) c.unturned-then-call-lt1.ensures
+    unknown a.cfg a.room a.rig a.call a.board.now a.read.now l c.in_default.ensures refl (code_zero a.call.code c.if-call-lt1.true) c.unturned-then-call-lt1.ensures
 
 pub returns-then-call-gt8 : goal.returns-then-call-gt8
 returns-then-call-gt8 c =
     let a = c.args in
     let l = lent a.messages.now a.owners.now a.stores.now a.boards.now a.elements.now in
-    unknown a.cfg a.room a.rig a.call a.board.now a.read.now l c.ask-no.ensures c.if-no-ne0.false (no_code a.call.code c.if-call-gt8.true) c.unturned-then-call-gt8.ensures
+    unknown a.cfg a.room a.rig a.call a.board.now a.read.now l c.in_default.ensures refl (no_code a.call.code c.if-call-gt8.true) c.unturned-then-call-gt8.ensures
 
 pub all-requires : goal.all-requires
 all-requires c =
     let a = c.args in
     let l = lent a.messages.now a.owners.now a.stores.now a.boards.now a.elements.now in
-    let taken = room_is a.cfg a.room (accepted a.cfg a.room a.rig a.call a.board.now a.read.now l c.ask-no.ensures c.if-no-ne0.false) in
+    let taken = room_is a.cfg a.room (accepted a.cfg a.room a.rig a.call a.board.now a.read.now l c.in_default.ensures refl) in
     (boards_low a.room taken, boards_high a.room taken, c.if-call-gt5.true, omega (arith, c.if-call-gt8.false))
 
 pub returns-then-call-gt5 : goal.returns-then-call-gt5
 returns-then-call-gt5 c =
     let a = c.args in
     let l = lent a.messages.now a.owners.now a.stores.now a.boards.now a.elements.now in
-    let asked = c.ask-no.ensures in
-    let none = c.if-no-ne0.false in
+    let asked = c.in_default.ensures in
+    let none = refl in
     every_event a.cfg a.room a.rig a.call a.board.now a.read.now l _
     (accepted a.cfg a.room a.rig a.call a.board.now a.read.now l asked none)
     (long_yes a.cfg a.room a.rig a.call a.board.now a.read.now l asked none)
@@ -48,7 +49,7 @@ pub event-requires : goal.event-requires
 event-requires c =
     let a = c.args in
     let l = lent a.messages.now a.owners.now a.stores.now a.boards.now a.elements.now in
-    named_pre a.cfg a.room a.rig a.call a.board.now a.read.now l c.ask-no.ensures c.if-no-ne0.false (omega (arith, c.if-call-lt1.false)) (omega (arith, c.if-call-gt5.false))
+    named_pre a.cfg a.room a.rig a.call a.board.now a.read.now l c.in_default.ensures refl (omega (arith, c.if-call-lt1.false)) (omega (arith, c.if-call-gt5.false))
 
 pub returns : goal.returns
 returns c = c.event.ensures

@@ -1,6 +1,6 @@
 use mathlib.Core.Path.{◌≡◌, refl, sym, ap, ◌∙◌}
 use mathlib.Core.Bool.{true, ◌&&◌}
-use mathlib.Core.List.{[]}
+use mathlib.Core.List.{List, []}
 use mathlib.Core.Option.{some}
 use Prim.Native.Nat.{ℕ, ◌*◌}
 use native.Mathlib.Nat.{le_of_eq}
@@ -10,89 +10,65 @@ use lib.Dec.{leb}
 use lib.ListN.{length}
 use Rattle.laws.proofs.Bools.{and_left, and_right}
 use Rattle.laws.proofs.Parts.{copied}
+use Rattle.config.specs.declared.Config.{Config}
 use Rattle.config.specs.Config.{board_length}
-use Rattle.config.specs.Questions.{first_no, numbered}
+use Rattle.config.specs.Questions.{first_no}
 use Rattle.config.proofs.Questions.{yes_next}
 use Rattle.protocol.specs.Boards.{board_of, cut}
 use Rattle.protocol.specs.Client.{begin_questions}
 use Rattle.protocol.proofs.Cut.{cut_again}
+use Rattle.client.specs.declared.State.{State}
 use Rattle.client.specs.Questions.{begin_write_questions, is_board, is_sends}
 use Rattle.client.specs.State.{bare}
-use Rattle.client.proofs.Answers.{announces, asks, begin-numbered, begin-refused, begun, operation-below, passes}
-use borrow.Author.Rules.{rules}
+use Rattle.client.proofs.Answers.{announces, asks, begin-refused, begun, operation-below, passes}
 use Rattle.client.proofs.begin_write.Goals as goal
-use Rattle.client.proofs.begin_write.Goals.{Else-no-ne0}
 
 -- all questions are answered yes: the buffers have their lengths, and the board's fits
-module _ (c : Else-no-ne0) where
-  abbrev b : ℕ
-  b = length c.args.board.now
+module _ (cfg : Config) (x : State) (n : ℕ) (board kept sends : List ℕ) (none : 0 ≡ first_no (begin_write_questions cfg x n board kept sends)) where
+  pass : first_no (begin_write_questions cfg x n board kept sends) ≡ 0
+  pass = sym none
 
-  abbrev k : ℕ
-  k = length c.args.kept.now
+  two : (is_board cfg (length kept) && is_sends cfg (length sends)) ≡ true
+  two = and_right (is_board cfg (length board)) (is_board cfg (length kept) && is_sends cfg (length sends)) (passes _ _ _ _ pass).1
 
-  abbrev n : ℕ
-  n = length c.args.sends.now
-
-  pass : first_no (begin_write_questions c.args.cfg c.args.state c.args.length c.args.board.now c.args.kept.now c.args.sends.now) ≡ 0
-  pass = sym c.begin_write-no.ensures ∙ c.if-no-ne0.false
-
-  others : (is_board c.args.cfg k && is_sends c.args.cfg n) ≡ true
-  others = and_right (is_board c.args.cfg b) (is_board c.args.cfg k && is_sends c.args.cfg n) (passes _ _ _ _ pass).1
-
-  copy-length : b ≡ k
+  copy-length : length board ≡ length kept
   copy-length =
-      eqb-true b (board_length c.args.cfg) (and_left (is_board c.args.cfg b) (is_board c.args.cfg k && is_sends c.args.cfg n) (passes _ _ _ _ pass).1)
-      ∙ sym (eqb-true k (board_length c.args.cfg) (and_left (is_board c.args.cfg k) (is_sends c.args.cfg n) others))
+      eqb-true (length board) (board_length cfg)
+      (and_left (is_board cfg (length board)) (is_board cfg (length kept) && is_sends cfg (length sends)) (passes _ _ _ _ pass).1)
+      ∙ sym (eqb-true (length kept) (board_length cfg) (and_left (is_board cfg (length kept)) (is_sends cfg (length sends)) two))
 
-  sends-length : n ≡ 80 * c.args.cfg.n
-  sends-length = eqb-true n (80 * c.args.cfg.n) (and_right (is_board c.args.cfg k) (is_sends c.args.cfg n) others)
+  sends-length : length sends ≡ 80 * cfg.n
+  sends-length = eqb-true (length sends) (80 * cfg.n) (and_right (is_board cfg (length kept)) (is_sends cfg (length sends)) two)
 
   -- 19, and then 9 to 11
-  then : (leb c.args.length (board_length c.args.cfg) ≡ true) × (first_no (begin_questions (bare c.args.cfg c.args.state)) ≡ 0)
-  then =
-      yes_next 19 (leb c.args.length (board_length c.args.cfg)) (begin_questions (bare c.args.cfg c.args.state)) (omega arith)
-      (passes _ _ _ _ pass).3
+  then : (leb n (board_length cfg) ≡ true) × (first_no (begin_questions (bare cfg x)) ≡ 0)
+  then = yes_next 19 (leb n (board_length cfg)) (begin_questions (bare cfg x)) (omega arith) (passes _ _ _ _ pass).3
 
-pub begin_write-no-requires : goal.begin_write-no-requires
-unfolding numbered
-begin_write-no-requires c = search rules
-
-pub refused-requires : goal.refused-requires
-unfolding numbered
-refused-requires c = search rules
-
-pub returns-then-no-ne0 : goal.returns-then-no-ne0
-unfolding numbered
-returns-then-no-ne0 c es = begin-refused _ _ _ _ (begin-numbered _ _) _ _ es _ c.begin_write-no.ensures c.if-no-ne0.true c.refused.ensures
-
-pub cut-requires : goal.cut-requires
-unfolding numbered
-cut-requires c = search rules
+pub returns-in-Err : goal.returns-in-Err
+returns-in-Err c es = begin-refused _ _ _ _ _ _ es _ _ c.in-Err.ensures c.refused.ensures
 
 pub begun-requires : goal.begun-requires
-unfolding numbered
-begun-requires c = operation-below _ _ (then (goal.at.begun-requires c).Else-no-ne0).1
+begun-requires c =
+    let a = c.args in
+    operation-below _ _ (then a.cfg a.state a.length a.board.now a.kept.now a.sends.now c.in_default.ensures).1
 
 pub announce-requires : goal.announce-requires
-unfolding numbered
-announce-requires c = let e = c in rw c.begun.ensures (announces _ _ (passes _ _ _ _ (pass (goal.at.announce-requires c).Else-no-ne0)).2 true _ (then (goal.at.announce-requires c).Else-no-ne0).0 (passes _ _ _ _ (pass (goal.at.announce-requires c).Else-no-ne0)).0 _ _ (sends-length (goal.at.announce-requires c).Else-no-ne0))
-
-pub shape_of-kept : goal.shape_of-kept
-unfolding numbered
-shape_of-kept c = search rules
-
-pub shape_of-sends : goal.shape_of-sends
-unfolding numbered
-shape_of-sends c = search rules
+announce-requires c =
+    let a = c.args in
+    let p = passes _ _ _ _ (sym c.in_default.ensures) in
+    rw c.begun.ensures
+    (announces _ _ p.2 true _ (then a.cfg a.state a.length a.board.now a.kept.now a.sends.now c.in_default.ensures).0 p.0 _ _
+    (sends-length a.cfg a.state a.length a.board.now a.kept.now a.sends.now c.in_default.ensures))
 
 pub returns : goal.returns
-returns c es = let e = c in
-    let a = e.args in
+returns c es =
+    let a = c.args in
     let n = a.length in
-    let copy = (c.copy.ensures.whole (le_of_eq (copy-length (goal.at.returns c).Else-no-ne0))).1 ∙ copied a.board.now a.kept.now _ refl (sym (copy-length (goal.at.returns c).Else-no-ne0)) in
+    let same-length = copy-length a.cfg a.state n a.board.now a.kept.now a.sends.now c.in_default.ensures in
+    let fits = (then a.cfg a.state n a.board.now a.kept.now a.sends.now c.in_default.ensures).0 in
+    let copy = (c.copy.ensures.whole (le_of_eq same-length)).1 ∙ copied a.board.now a.kept.now _ refl (sym same-length) in
     let same = c.cut.ensures ∙ ap (cut n) copy in
-    begun _ _ _ _ (pass (goal.at.returns c).Else-no-ne0) (some (board_of n a.board.now)) a.kept.now _ es a.sends.now refl refl refl same
-    (asks _ a.state (passes _ _ _ _ (pass (goal.at.returns c).Else-no-ne0)).2 true n (then (goal.at.returns c).Else-no-ne0).0 _ _ _ es _ []
+    begun _ _ _ _ (sym c.in_default.ensures) (some (board_of n a.board.now)) a.kept.now _ es a.sends.now refl refl refl same
+    (asks _ a.state (passes _ _ _ _ (sym c.in_default.ensures)).2 true n fits _ _ _ es _ []
     (ap (λ bs. some (record { length = n; bytes = bs })) (ap (cut n) same ∙ cut_again n a.board.now))
     (rw c.begun.ensures at c.announce.ensures))

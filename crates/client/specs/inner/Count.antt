@@ -1,12 +1,11 @@
 -- An answer judged, and counted unless it is of kind 9: the first half of a client's step, as the code takes it.
-use Rattle.std.specs.Prelude.{ℕ, ◌+◌, ◌-◌, ◌^◌, Bool, true, false, cond, not, ◌&&◌, eqb}
+use Rattle.std.specs.Prelude.{ℕ, ◌+◌, ◌-◌, ◌^◌, Bool, true, false, cond, not, ◌&&◌, eqb, Option, Some, None}
 use Rattle.config.specs.declared.Config.{Config}
 use Rattle.config.specs.Number.{server_number}
 use Rattle.tag.specs.Tag.{key, same}
 use Rattle.record.specs.declared.Header.{Header}
 use Rattle.protocol.specs.Client.{is_cleared, judged}
 use Rattle.protocol.specs.Tags.{higher}
-use Rattle.client.specs.declared.count.Awaited.{Awaited}
 use Rattle.client.specs.declared.count.Taken.{Taken}
 use Rattle.client.specs.declared.Phase.{Phase}
 use Rattle.client.specs.declared.Phase.TheVariants.{Idle, Asking, PreWriting, FinalisingWrite, FinalisingRead, Down}
@@ -46,6 +45,5 @@ abbrev pub taken_of : Config → Phase → Header → Taken
 taken_of cfg phase h = cond (is_cleared h.kind) Taken.Cleared (Taken.Counted (counting_of cfg phase h))
 
 -- if the answer is of the client's operation, too
-abbrev pub count_of : Config → State → Header → Awaited
-count_of cfg x h =
-    cond (eqb h.operation x.operation && awaits_of x.phase h) (Awaited.Answer (taken_of cfg x.phase h)) Awaited.Other
+abbrev pub count_of : Config → State → Header → Option Taken
+count_of cfg x h = cond (eqb h.operation x.operation && awaits_of x.phase h) (Some (taken_of cfg x.phase h)) None

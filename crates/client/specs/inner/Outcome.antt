@@ -1,9 +1,7 @@
 -- What a call leaves of a client.
-use Rattle.std.specs.Prelude.{ℕ, ◌+◌, ◌-◌, min, Bool, cond, ◌≡◌, length, set}
-use Rattle.config.specs.declared.Verdict.{Verdict}
+use Rattle.std.specs.Prelude.{ℕ, ◌+◌, ◌-◌, Bool, cond, ◌≡◌, length, set, Ok}
 use Rattle.config.specs.Number.{server_number}
-use Rattle.config.specs.Questions.{last_question}
-use Rattle.config.specs.Refusal.{passing15, verdict_number}
+use Rattle.config.specs.Refusal.{verdict_number}
 use Rattle.tag.specs.Tag.{start}
 use Rattle.record.specs.declared.Header.{Header}
 use Rattle.client.specs.declared.Ended.{Ended}
@@ -14,13 +12,13 @@ use Rattle.client.specs.declared.State.{State}
 
 -- a refusal leaves the client as it was
 pub record RefusedPost (x : State) (refusal : ℕ) (r : Moved) : Type 0 where
-  pub verdict : verdict_number r.verdict ≡ min (passing15 refusal) last_question
+  pub verdict : verdict_number r.verdict ≡ refusal
   pub state : r.state ≡ x
   pub sent : r.sent ≡ 0
   pub ended : r.ended ≡ Ended.Nothing
 
 abbrev pub accepted_of : State → ℕ → Ended → Moved
-accepted_of x sent ended = record { verdict = Verdict.Accepted; state = x; sent = sent; ended = ended }
+accepted_of x sent ended = record { verdict = Ok tt; state = x; sent = sent; ended = ended }
 
 -- the client with its next operation number, asking, with the length of a board to write
 abbrev pub begun_of : State → Bool → ℕ → State

@@ -1,12 +1,14 @@
 -- What the first questions of a step tell.
-use Rattle.std.specs.Prelude.{ℕ, Bool, true, ◌≡◌, List, length}
+use Rattle.std.specs.Prelude.{ℕ, Bool, true, ◌≡◌, List, length, Result, Ok, Err}
 use Rattle.config.specs.declared.Config.{Config}
+use Rattle.config.specs.declared.Refusal.{Refusal}
 use Rattle.config.specs.Config.{Valid}
 use Rattle.config.specs.Questions.{first_no}
+use Rattle.config.specs.Refusal.{refusal_number}
+use Rattle.record.specs.declared.Header.{Header}
 use Rattle.record.specs.Calls.{with_element}
 use Rattle.record.specs.Record.{message_of, well_formed}
 use Rattle.client.specs.declared.State.{State}
-use Rattle.client.specs.declared.questions.Asked.{Asked}
 use Rattle.client.specs.declared.questions.Sizes.{Sizes}
 use Rattle.client.specs.Questions.{answer_questions, call_questions, is_for, step_sized}
 use Rattle.client.specs.State.{state_within}
@@ -22,8 +24,8 @@ pub record Received (cfg : Config) (x : State) (message : List ℕ) (l : Sizes) 
   pub well-formed : well_formed cfg message ≡ true
   pub for_me : is_for x (message_of cfg message) ≡ true
 
--- the number of the first no, whatever is answered to 14; or the header of the record's message
-abbrev pub ReceivePost : Config → State → List ℕ → Sizes → Asked → Type 0
-ReceivePost cfg x message l (Asked.No number) =
-    (number ≡ 0 → ⊥) × ((awaits : Bool) → number ≡ first_no (call_questions cfg (sized cfg (length message) l) x (answer_questions cfg x message awaits)))
-ReceivePost cfg x message l (Asked.Answer h) = Received cfg x message l × (with_element cfg h message ≡ message_of cfg message)
+-- the first no, whatever is answered to 14; or the header of the record's message
+abbrev pub ReceivePost : Config → State → List ℕ → Sizes → Result Header Refusal → Type 0
+ReceivePost cfg x message l (Err why) =
+    (awaits : Bool) → refusal_number why ≡ first_no (call_questions cfg (sized cfg (length message) l) x (answer_questions cfg x message awaits))
+ReceivePost cfg x message l (Ok h) = Received cfg x message l × (with_element cfg h message ≡ message_of cfg message)

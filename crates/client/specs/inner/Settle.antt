@@ -1,7 +1,6 @@
 -- The second half of a client's step: what it takes and what it leaves.
-use Rattle.std.specs.Prelude.{ℕ, ◌≤◌, true, ◌≡◌, List, length}
+use Rattle.std.specs.Prelude.{ℕ, ◌≤◌, true, ◌≡◌, List, length, Ok}
 use Rattle.config.specs.declared.Config.{Config}
-use Rattle.config.specs.declared.Verdict.{Verdict}
 use Rattle.config.specs.Config.{Valid, board_length, elements_length, sends_length}
 use Rattle.config.specs.Number.{client_number}
 use Rattle.protocol.specs.Boards.{BoardMoved, decode, encode}
@@ -30,7 +29,7 @@ settle_of cfg x l = protocol.settle (encode cfg) (decode cfg) cfg (client_number
 
 -- what the code leaves of a client is what the protocol's move does
 pub record Moves (cfg : Config) (x : State) (move : BoardMoved) (kept es sends sends' board board' : List ℕ) (r : Moved) : Type 0 where
-  pub verdict : r.verdict ≡ Verdict.Accepted
+  pub verdict : r.verdict ≡ Ok tt
   pub self : r.state.me ≡ x.me
   pub same_length : r.state.length ≡ x.length
   pub same_lengths : r.state.lengths ≡ x.lengths

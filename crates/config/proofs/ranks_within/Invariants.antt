@@ -1,6 +1,6 @@
 use mathlib.Core.Path.{◌≡◌}
 use mathlib.Core.Bool.{Bool, true}
-use Prim.Native.Nat.{ℕ, ◌+◌, ◌-◌, ◌≤◌}
+use Prim.Native.Nat.{ℕ, ◌+◌, ◌≤◌}
 use lib.Dec.{leb}
 use Rattle.laws.specs.Below.{all_below}
 use Rattle.config.specs.declared.Config.{Config}
@@ -11,8 +11,5 @@ use Rattle.config.proofs.ranks_within.Given as goal
 abbrev pub here : Config → ℕ → Bool
 here cfg i = leb (rank cfg (i + 1)) highest_rank
 
-abbrev pub invariant-loop-i : goal.invariant-loop-i
-invariant-loop-i l = (l.i ≤ l.cfg.c) × (all_below l.i (here l.cfg) ≡ true)
-
-abbrev pub decreases-loop-i : goal.decreases-loop-i
-decreases-loop-i l = l.cfg.c - l.i
+abbrev pub invariant-loop-rank : goal.invariant-loop-rank
+invariant-loop-rank l = (l.rank-index ≤ l.fn.cfg.c) × (all_below l.rank-index (here l.fn.cfg) ≡ true)

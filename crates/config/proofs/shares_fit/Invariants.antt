@@ -1,6 +1,6 @@
 -- The shares of the boards passed are taken from M: with what is left they are M. Assumes nothing.
 use mathlib.Core.Path.{◌≡◌}
-use Prim.Native.Nat.{ℕ, ◌+◌, ◌-◌, ◌≤◌}
+use Prim.Native.Nat.{ℕ, ◌+◌, ◌≤◌}
 use Rattle.laws.specs.Below.{sum_below}
 use Rattle.config.specs.declared.Room.{Room}
 use Rattle.config.specs.Room.{share_of}
@@ -10,8 +10,5 @@ use Rattle.config.proofs.shares_fit.Given as goal
 abbrev pub here : Room → ℕ → ℕ
 here room i = share_of room (i + 1)
 
-abbrev pub invariant-loop-board : goal.invariant-loop-board
-invariant-loop-board l = (l.board ≤ l.room.boards) × (sum_below l.board (here l.room) + l.left ≡ l.room.m)
-
-abbrev pub decreases-loop-board : goal.decreases-loop-board
-decreases-loop-board l = l.room.boards - l.board
+abbrev pub invariant-loop-share : goal.invariant-loop-share
+invariant-loop-share l = (l.share-index ≤ l.fn.room.boards) × (sum_below l.share-index (here l.fn.room) + l.left ≡ l.fn.room.m)

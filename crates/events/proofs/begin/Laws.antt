@@ -2,7 +2,7 @@
 -- done. Assumes nothing.
 use Prim.Native.Nat.{ℕ, ◌+◌, ◌*◌, ◌≤◌, ◌<◌}
 use mathlib.Core.Path.{◌≡◌, refl, sym, ap, ap₂, subst, ◌∙◌}
-use mathlib.Core.Bool.{Bool, true, false, cond, false≢true}
+use mathlib.Core.Bool.{Bool, true, false, false≢true}
 use mathlib.Core.Option.{Option, none, some}
 use mathlib.Core.List.{List, ◌++◌, map}
 use native.Mathlib.Omega.{arith}
@@ -17,9 +17,8 @@ use Rattle.config.specs.declared.Config.{Config}
 use Rattle.config.specs.declared.Refusal.{Refusal}
 use Rattle.config.specs.Config.{board_length}
 use Rattle.config.specs.Questions.{first_no, within}
-use Rattle.config.specs.Refusal.{clamped, refusal_number}
-use Rattle.config.proofs.Questions.{Given, first_no_given}
-use Rattle.config.proofs.Refusals.{refusal_given}
+use Rattle.config.specs.Refusal.{refusal_number}
+use Rattle.config.proofs.Refusals.{refusal_some}
 use Rattle.record.specs.Record.{message_of, record_of}
 use Rattle.config.specs.Config.{store_length}
 use Rattle.client.specs.Questions.{ask_begin_questions, begin_read_questions, begin_write_questions}
@@ -47,7 +46,7 @@ use Rattle.events.specs.Calls.{EventPost, called, event_no, records_after, turne
 use Rattle.events.specs.inner.Begin.{ReadPost, WritePost, asked_no, asked_write_no, full_no}
 use Rattle.events.specs.inner.Part.{acting, refusing}
 use Rattle.events.specs.inner.Turn.{Ready}
-use Rattle.events.proofs.Clients.{idle_of, ask_number, ask_numbered, begin_asked, read_number, write_number}
+use Rattle.events.proofs.Clients.{idle_of, ask_number, begin_asked, read_number, write_number}
 use Rattle.events.proofs.Numbers.{early_number, long_number}
 use Rattle.events.proofs.Pairs.{Back, back_same, client-at, parts_of}
 use Rattle.events.proofs.Ready.{board_long, client_below, client_me, client_within, is_valid, kept_long, messages_long, party_client, server_below}
@@ -166,22 +165,6 @@ module _ (cfg : Config) (m : ℕ) (p : Part) (party : ℕ) where
       asked_full z =
           sym (rw (there, lt-leb (p.count + cfg.n) m over, eq-eqb (first_no (ask_begin_questions cfg p.pair.client)) 0 (sym e ∙ z)))
 
-  -- it is a refusal's number
-  asked_given : Given (asked_no cfg m p party)
-  asked_given = by (within 1 cfg.c party) (leb (p.count + cfg.n) m)
-    where
-      k : ℕ
-      k = first_no (ask_begin_questions cfg p.pair.client)
-
-      full : (z : Bool) → Given (cond z 13 k)
-      full true = (omega arith, λ e. omega arith)
-      full false = first_no_given (ask_begin_questions cfg p.pair.client) (ask_numbered cfg p.pair.client)
-
-      by : (t f : Bool) → Given (cond t (cond f 0 (full_no k)) 8)
-      by false f = (omega arith, λ e. omega arith)
-      by true true = (omega arith, λ e. omega arith)
-      by true false = full (eqb k 0)
-
   -- and where it is 0, there is the client, and room
   pub asked_yes : 0 ≡ asked_no cfg m p party → (within 1 cfg.c party ≡ true) × (p.count + cfg.n ≤ m)
   asked_yes e = by (within 1 cfg.c party) (leb (p.count + cfg.n) m) refl refl
@@ -207,13 +190,6 @@ module _ (cfg : Config) (m : ℕ) (p : Part) (a : Call) where
 
   pub write-fits : leb a.length (board_length cfg) ≡ true → asked_no cfg m p a.party ≡ asked_write_no cfg m p a
   write-fits in-range = rw in-range
-
-  write_given : Given (asked_write_no cfg m p a)
-  write_given = by (leb a.length (board_length cfg))
-    where
-      by : (b : Bool) → Given (cond b (asked_no cfg m p a.party) 19)
-      by true = asked_given cfg m p a.party
-      by false = (omega arith, λ e. omega arith)
 
   pub write_yes : 0 ≡ asked_write_no cfg m p a → (leb a.length (board_length cfg) ≡ true) × (0 ≡ asked_no cfg m p a.party)
   write_yes e = by (leb a.length (board_length cfg)) refl
@@ -302,19 +278,15 @@ sends-length cfg m count messages long fits =
 
 module _ (cfg : Config) (m : ℕ) (p : Part) (a : Call) (messages : List ℕ) (x : Change) where
   -- refused
-  module _ (got : ℕ) (why : Refusal) (some_no : got ≡ 0 → ⊥) (is : refusal_number why ≡ clamped got) (refuses : x ≡ refusing why p) where
-    number : {no : ℕ} → got ≡ no → Given no → refusal_number why ≡ got
-    number e given = refusal_given (subst Given (sym e) given) some_no is
-
-    pub write_refused : got ≡ asked_write_no cfg m p a → (board boards : List ℕ) → WritePost cfg m p a board messages boards x messages boards
+  module _ (why : Refusal) (refuses : x ≡ refusing why p) where
+    pub write_refused : refusal_number why ≡ asked_write_no cfg m p a → (board boards : List ℕ) → WritePost cfg m p a board messages boards x messages boards
     write_refused e board boards read stores elements code =
-        refused_on why refuses (λ r ready. written_number ready code got e some_no ∙ sym (number e (write_given cfg m p a)))
+        refused_on why refuses (λ r ready. written_number ready code (refusal_number why) e (refusal_some why e).0)
 
-    pub read_refused : got ≡ asked_no cfg m p a.party → ReadPost cfg m p a messages x messages
+    pub read_refused : refusal_number why ≡ asked_no cfg m p a.party → ReadPost cfg m p a messages x messages
     read_refused e board read stores boards elements code =
-        refused_on why refuses (λ r ready. asked_number ready (read_begins cfg r _ a board code) got e some_no ∙ sym (number e (asked_given cfg m p a.party)))
+        refused_on why refuses (λ r ready. asked_number ready (read_begins cfg r _ a board code) (refusal_number why) e (refusal_some why e).0)
 
-  -- the client was asked
   module _ (none_no : 0 ≡ asked_no cfg m p a.party) (long : length messages ≡ 80 * m) (y : Acted) (sends sends' messages' : List ℕ)
       (acts : x ≡ acting y (p.count + y.sent) p)
       (sends-are : sends ≡ take (80 * cfg.n) (drop (80 * p.count) messages))

@@ -1,19 +1,18 @@
-use borrow.Author.Rules.{rules}
-use mathlib.Core.Path.{sym, ◌∙◌}
+use mathlib.Core.Path.{sym}
 use Rattle.client.specs.Questions.{begin_read_questions}
 use Rattle.host.proofs.Kept.{begin_not_taken, begin_not_told, begin_taken, client_long}
 use Rattle.host.proofs.coded_client_read.Goals as goal
 
-pub returns-then-asked-ne0 : goal.returns-then-asked-ne0
-returns-then-asked-ne0 c kept = begin_not_told _ _ _ c.client-asked.ensures _ _ kept _ c.if-asked-ne0.true
+pub returns-in-Err : goal.returns-in-Err
+returns-in-Err c kept = begin_not_told _ _ _ _ kept _ c.in-Err.ensures c.number.ensures
 
-pub returns-then-no-ne0 : goal.returns-then-no-ne0
-returns-then-no-ne0 c kept = let a = c.args in
-    begin_not_taken _ _ _ c.client-asked.ensures c.if-asked-ne0.false (λ cfg x. begin_read_questions cfg x a.sends.now) _ kept kept _ _ _ (c.begin_read-after.ensures kept) _ c.number-no.ensures c.if-no-ne0.true
+pub returns-in-Err-verdict : goal.returns-in-Err-verdict
+returns-in-Err-verdict c kept =
+    begin_not_taken _ _ c.in-Ok.ensures (λ cfg x. begin_read_questions cfg x c.args.sends.now) _ (c.begin_read-after.ensures kept) c.in-Err-verdict.is c.number-in-Err-verdict.ensures
 
-pub client-requires : goal.client-requires
-client-requires c = client_long _ _ (sym c.client-asked.ensures.number ∙ c.if-asked-ne0.false)
+pub client-requires-2 : goal.client-requires-2
+client-requires-2 c = client_long _ _ (sym c.in-Ok.ensures.number)
 
 pub returns : goal.returns
-returns c kept = let a = c.args in
-    begin_taken _ _ _ c.client-asked.ensures c.if-asked-ne0.false (λ cfg x. begin_read_questions cfg x a.sends.now) _ kept kept _ _ _ (c.begin_read-after.ensures kept) _ c.number-no.ensures c.if-no-ne0.false _ c.client.ensures
+returns c kept =
+    begin_taken _ _ c.in-Ok.ensures (λ cfg x. begin_read_questions cfg x c.args.sends.now) _ (c.begin_read-after.ensures kept) c.in_default.is _ c.client-2.ensures

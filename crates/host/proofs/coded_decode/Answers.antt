@@ -1,9 +1,8 @@
-use borrow.Author.Rules.{rules}
 use Rattle.host.proofs.Codes.{decoded, not_decoded}
 use Rattle.host.proofs.coded_decode.Goals as goal
 
-pub returns-then-asked-ne0 : goal.returns-then-asked-ne0
-returns-then-asked-ne0 c = not_decoded _ _ c.read-asked.ensures c.if-asked-ne0.true _ _ _
+pub returns-in-Err : goal.returns-in-Err
+returns-in-Err c = not_decoded _ c.number.ensures c.in-Err.ensures _ _ _
 
 pub returns : goal.returns
-returns c = decoded _ _ c.read-asked.ensures c.if-asked-ne0.false _ _ _ _ _ _ c.number.ensures c.decode.ensures
+returns c = decoded _ c.in-Ok.ensures _ _ _ _ _ _ c.verdict_number.ensures c.decode.ensures

@@ -1,9 +1,8 @@
-use borrow.Author.Rules.{rules}
 use Rattle.host.proofs.Codes.{encoded, not_encoded}
 use Rattle.host.proofs.coded_encode.Goals as goal
 
-pub returns-then-asked-ne0 : goal.returns-then-asked-ne0
-returns-then-asked-ne0 c = not_encoded _ _ c.read-asked.ensures c.if-asked-ne0.true _ _ _
+pub returns-in-Err : goal.returns-in-Err
+returns-in-Err c = not_encoded _ c.number.ensures c.in-Err.ensures _ _ _
 
 pub returns : goal.returns
-returns c = encoded _ _ c.read-asked.ensures c.if-asked-ne0.false _ _ _ _ _ _ c.number.ensures c.encode.ensures
+returns c = encoded _ c.in-Ok.ensures _ _ _ _ _ _ c.verdict_number.ensures c.encode.ensures

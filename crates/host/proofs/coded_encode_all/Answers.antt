@@ -1,9 +1,8 @@
-use borrow.Author.Rules.{rules}
 use Rattle.host.proofs.Codes.{encoded_all, not_encoded_all}
 use Rattle.host.proofs.coded_encode_all.Goals as goal
 
-pub returns-then-asked-ne0 : goal.returns-then-asked-ne0
-returns-then-asked-ne0 c = not_encoded_all _ _ c.read-asked.ensures c.if-asked-ne0.true _ _ _ _
+pub returns-in-Err : goal.returns-in-Err
+returns-in-Err c = not_encoded_all _ c.number.ensures c.in-Err.ensures _ _ _ _
 
 pub returns : goal.returns
-returns c = encoded_all _ _ c.read-asked.ensures c.if-asked-ne0.false _ _ _ _ _ _ _ c.number.ensures c.encode_all.ensures
+returns c = encoded_all _ c.in-Ok.ensures _ _ _ _ _ _ _ c.verdict_number.ensures c.encode_all.ensures

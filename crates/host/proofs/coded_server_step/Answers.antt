@@ -1,16 +1,15 @@
-use borrow.Author.Rules.{rules}
-use mathlib.Core.Path.{sym, ◌∙◌}
+use mathlib.Core.Path.{sym}
 use Rattle.host.proofs.Kept.{server_long, step_not_taken, step_not_told, step_taken}
 use Rattle.host.proofs.coded_server_step.Goals as goal
 
-pub returns-then-asked-ne0 : goal.returns-then-asked-ne0
-returns-then-asked-ne0 c = step_not_told _ _ _ c.server-asked.ensures _ _ _ c.if-asked-ne0.true
+pub returns-in-Err : goal.returns-in-Err
+returns-in-Err c = step_not_told _ _ _ _ _ c.in-Err.ensures c.number.ensures
 
-pub returns-then-no-ne0 : goal.returns-then-no-ne0
-returns-then-no-ne0 c = step_not_taken _ _ _ c.server-asked.ensures _ _ _ c.if-asked-ne0.false _ _ _ c.step-after.ensures _ c.number-no.ensures c.if-no-ne0.true
+pub returns-in-Err-verdict : goal.returns-in-Err-verdict
+returns-in-Err-verdict c = step_not_taken _ _ _ _ _ c.in-Ok.ensures c.step-after.ensures c.in-Err-verdict.is c.number-in-Err-verdict.ensures
 
-pub server-requires : goal.server-requires
-server-requires c = server_long _ _ (sym c.server-asked.ensures.number ∙ c.if-asked-ne0.false)
+pub server-requires-2 : goal.server-requires-2
+server-requires-2 c = server_long _ _ (sym c.in-Ok.ensures.number)
 
 pub returns : goal.returns
-returns c = step_taken _ _ _ c.server-asked.ensures _ _ _ c.if-asked-ne0.false _ _ _ c.step-after.ensures _ c.number-no.ensures c.if-no-ne0.false _ c.server.ensures
+returns c = step_taken _ _ _ _ _ c.in-Ok.ensures c.step-after.ensures c.in_default.is _ c.server-2.ensures

@@ -1,27 +1,28 @@
 -- What the bytes of a configuration and of a state tell. Assumes nothing.
 use Prim.Native.Nat.{ℕ, ◌-◌}
 use mathlib.Core.Path.{◌≡◌, refl, sym, ap, ◌∙◌}
-use mathlib.Core.Bool.{true, cond}
+use mathlib.Core.Bool.{true}
 use mathlib.Core.List.{List, [], ◌∷◌, ◌++◌}
-use native.Mathlib.Decide.{ℕ_discrete}
 use native.Mathlib.Omega.{arith}
 use borrow.Author.Tests.{eq-eqb, ne_eqb}
 use lib.Dec.{eqb}
 use lib.ListN.{length, take, drop, length-drop}
 use lib.Seq.{take_all}
+use Rattle.std.specs.Result.{IsErrAnd}
+use Rattle.std.proofs.Common.{Result, Ok, Err}
 use Rattle.laws.proofs.Parts.{copied}
 use Rattle.config.specs.declared.Config.{Config}
-use Rattle.config.specs.Config.{least, questions}
+use Rattle.config.specs.declared.Refusal.{Refusal}
 use Rattle.config.specs.Questions.{Question, ask, first_no, numbered}
-use Rattle.config.specs.Refusal.{verdict_number}
+use Rattle.config.specs.Refusal.{refusal_number, verdict_number}
 use Rattle.config.proofs.Questions.{first_no_no, first_no_yes, passes, stops}
+use Rattle.config.proofs.Refusals.{refusal_low}
 use Rattle.states.specs.declared.clients.Unpacked as clients
 use Rattle.states.specs.declared.servers.Unpacked as servers
 use Rattle.states.specs.Clients as clientBytes
 use Rattle.states.specs.Servers as serverBytes
-use Rattle.host.specs.declared.told.Configured.{Configured}
-use Rattle.host.specs.Config.{client_questions, config_length, config_of, config_questions, server_questions}
-use Rattle.host.specs.inner.Told.{ClientTold, ConfigRead, ConfigTold, ServerTold}
+use Rattle.host.specs.Config.{client_questions, config_length, config_of, server_questions}
+use Rattle.host.specs.inner.Told.{ClientTold, ConfigRead, ServerTold, Told}
 
 -- the length's question
 abbrev pub of_length : List ℕ → List Question
@@ -32,21 +33,13 @@ unfolding numbered
 length_numbered bytes = refl
 
 -- bytes of another length
-pub read_short : (bytes : List ℕ) → (length bytes ≡ config_length → ⊥) → ConfigRead bytes (record { no = 6; cfg = least })
-read_short bytes short =
-    record {
-      number = sym (first_no_no 6 (eqb (length bytes) config_length) [] (ne_eqb (length bytes) config_length short));
-      config = λ h. absurd (omega (arith, h));
-    }
+pub read_short : (bytes : List ℕ) → (length bytes ≡ config_length → ⊥) → 6 ≡ first_no (of_length bytes)
+read_short bytes short = sym (first_no_no 6 (eqb (length bytes) config_length) [] (ne_eqb (length bytes) config_length short))
 
 -- 21 bytes
-pub read_whole : (bytes : List ℕ) → length bytes ≡ config_length → (cfg : Config) → cfg ≡ config_of bytes → ConfigRead bytes (record { no = 0; cfg = cfg })
+pub read_whole : (bytes : List ℕ) → length bytes ≡ config_length → 0 ≡ first_no (of_length bytes)
 unfolding first_no
-read_whole bytes long cfg is =
-    record {
-      number = sym (first_no_yes 6 (eqb (length bytes) config_length) [] (eq-eqb (length bytes) config_length long));
-      config = λ _. is;
-    }
+read_whole bytes long = sym (first_no_yes 6 (eqb (length bytes) config_length) [] (eq-eqb (length bytes) config_length long))
 
 -- the ranks that are copied are the last 16
 module _ (bytes : List ℕ) (long : length bytes ≡ config_length) where
@@ -62,57 +55,63 @@ module _ (bytes : List ℕ) (long : length bytes ≡ config_length) where
   pub ranks_copied : (ranks out : List ℕ) → length ranks ≡ 16 → out ≡ take (length ranks_in) ranks_in ++ drop (length ranks_in) ranks → out ≡ drop 5 bytes
   ranks_copied ranks out sixteen e = e ∙ copied ranks_in ranks (length ranks_in) refl (sixteen ∙ sym ranks_long) ∙ ranks_are
 
--- ---- what is asked behind it
+-- ---- what is told
 
--- the first of two numbers: that of the length, or that of questions about the configuration
-module _ (config : List ℕ) (r : Configured) (told : ConfigRead config r) (asks : Config → List Question) (n m : ℕ)
-    (asked : n ≡ first_no (asks r.cfg)) (is : m ≡ cond (eqb r.no 0) n r.no) where
-  pub both_number : m ≡ first_no (ask 6 (eqb (length config) config_length) ∷ asks (config_of config))
-  both_number = elim (ℕ_discrete r.no 0) as (λ _. m ≡ first_no (of_length config ++ asks (config_of config))) [
-    | yes z ↦
-        passes (of_length config) (asks (config_of config)) r.no m (length_numbered config) told.number z
-        (is ∙ rw (eq-eqb r.no 0 z) (asked ∙ ap (λ (x : Config). first_no (asks x)) (told.config z)))
-    | no s ↦
-        is ∙ rw (ne_eqb r.no 0 s) (stops (of_length config) (asks (config_of config)) r.no told.number s)
-  ]
+-- a refusal of the first no
+pub untold : {T : Type 0} (r : Result T Refusal) (why : Refusal) (asks : List Question) (x : T) → IsErrAnd r (λ e. e ≡ why)
+    → refusal_number why ≡ first_no asks → Told asks x r
+untold (Ok given) why asks x h e = absurd h
+untold (Err w) why asks x h e = record { number = ap refusal_number h ∙ e; gives = tt }
 
-  -- neither is refused
-  pub both_zero : m ≡ 0 → (r.no ≡ 0) × (n ≡ 0)
-  both_zero z = elim (ℕ_discrete r.no 0) as (λ _. (r.no ≡ 0) × (n ≡ 0)) [
-    | yes y ↦ (y, sym (is ∙ rw (eq-eqb r.no 0 y)) ∙ z)
-    | no s ↦ absurd (s (sym (is ∙ rw (ne_eqb r.no 0 s)) ∙ z))
-  ]
+-- its number is that of what is asked first, whatever is asked behind it, and not 0
+module _ {T : Type 0} {asks : List Question} {x : T} {why : Refusal} {n : ℕ} (told : Told asks x (Err why)) (is : n ≡ refusal_number why) where
+  pub not_zero : n ≡ 0 → ⊥
+  not_zero z = omega (arith, refusal_low why, is, z)
 
-module _ (config : List ℕ) (r : Configured) (told : ConfigRead config r) (n m : ℕ) (is : m ≡ cond (eqb r.no 0) n r.no) where
-  pub config_told : n ≡ first_no (questions r.cfg) → ConfigTold config (record { no = m; cfg = r.cfg })
-  unfolding config_questions
-  config_told asked =
-      record {
-        number = both_number config r told questions n m asked is;
-        config = λ z. told.config (both_zero config r told questions n m asked is z).0;
-      }
+  pub first_told : n ≡ first_no asks
+  first_told = is ∙ told.number
 
-  module _ (state : List ℕ) where
-    pub server_told : (u : servers.Unpacked) → serverBytes.UnpackPost r.cfg state u → n ≡ verdict_number u.verdict
-        → ServerTold config state (record { no = m; cfg = r.cfg; state = u.state })
-    unfolding server_questions
-    server_told u post e =
-        let asks : Config → List Question = λ cfg. serverBytes.unpack_questions cfg state in
-        let asked = e ∙ post.number in
-        record {
-          number = both_number config r told asks n m asked is;
-          config = λ z. told.config (both_zero config r told asks n m asked is z).0;
-          told = λ z. post.state ∙ rw (eq-eqb (first_no (asks r.cfg)) 0 (sym asked ∙ (both_zero config r told asks n m asked is z).1));
-        }
+  pub stops_told : (rest : List Question) → n ≡ first_no (asks ++ rest)
+  stops_told rest = stops asks rest n first_told not_zero
 
-    pub client_told : (u : clients.Unpacked) → clientBytes.UnpackPost r.cfg state u → n ≡ verdict_number u.verdict
-        → ClientTold config state (record { no = m; cfg = r.cfg; state = u.state })
-    unfolding client_questions
-    client_told u post e =
-        let asks : Config → List Question = λ cfg. clientBytes.unpack_questions cfg state in
-        let asked = e ∙ post.number in
-        record {
-          number = both_number config r told asks n m asked is;
-          config = λ z. told.config (both_zero config r told asks n m asked is z).0;
-          told = λ z. post.state ∙ rw (eq-eqb (first_no (asks r.cfg)) 0 (sym asked ∙ (both_zero config r told asks n m asked is z).1));
-        }
+-- where nothing is refused, it is that of what is asked behind it
+pub passes_told : {T : Type 0} {asks : List Question} {x y : T} → Told asks x (Ok y) → numbered asks ≡ true → (rest : List Question) (n : ℕ)
+    → n ≡ first_no rest → n ≡ first_no (asks ++ rest)
+passes_told {asks = asks} told known rest n e = passes asks rest 0 n known told.number refl e
+
+-- ---- what is asked behind the length
+
+module _ {T : Type 0} (config : List ℕ) (asks : Config → List Question) (x : T) where
+  abbrev all : List Question
+  all = of_length config ++ asks (config_of config)
+
+  pub unread : (r : Result T Refusal) (why : Refusal) → IsErrAnd r (λ e. e ≡ why) → ConfigRead config (Err why) → Told all x r
+  unread r why h told = untold r why all x h (stops_told told refl (asks (config_of config)))
+
+  module _ {cfg : Config} (read : ConfigRead config (Ok cfg)) where
+    behind : (n : ℕ) → n ≡ first_no (asks cfg) → n ≡ first_no all
+    behind n e = passes_told read (length_numbered config) (asks (config_of config)) n (e ∙ ap (λ (y : Config). first_no (asks y)) read.gives)
+
+    pub refused : (r : Result T Refusal) (why : Refusal) → IsErrAnd r (λ e. e ≡ why) → refusal_number why ≡ first_no (asks cfg) → Told all x r
+    refused r why h e = untold r why all x h (behind (refusal_number why) e)
+
+    pub given : (y : T) → 0 ≡ first_no (asks cfg) → y ≡ x → Told all x (Ok y)
+    given y e is = record { number = behind 0 e; gives = is }
+
+-- the state is unpacked
+module _ (config state : List ℕ) {cfg : Config} (read : ConfigRead config (Ok cfg)) where
+  pub server_given : (u : servers.Unpacked) → serverBytes.UnpackPost cfg state u → 0 ≡ verdict_number u.verdict
+      → ServerTold config state (Ok (record { cfg = cfg; state = u.state }))
+  unfolding server_questions
+  server_given u post e =
+      let none = e ∙ post.number in
+      let is : u.state ≡ serverBytes.state_of state = post.state ∙ rw (eq-eqb (first_no (serverBytes.unpack_questions cfg state)) 0 (sym none)) in
+      given config (λ cfg. serverBytes.unpack_questions cfg state) _ read _ none (λ i. record { cfg = read.gives i; state = is i })
+
+  pub client_given : (u : clients.Unpacked) → clientBytes.UnpackPost cfg state u → 0 ≡ verdict_number u.verdict
+      → ClientTold config state (Ok (record { cfg = cfg; state = u.state }))
+  unfolding client_questions
+  client_given u post e =
+      let none = e ∙ post.number in
+      let is : u.state ≡ clientBytes.state_of state = post.state ∙ rw (eq-eqb (first_no (clientBytes.unpack_questions cfg state)) 0 (sym none)) in
+      given config (λ cfg. clientBytes.unpack_questions cfg state) _ read _ none (λ i. record { cfg = read.gives i; state = is i })

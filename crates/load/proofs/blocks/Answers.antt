@@ -29,24 +29,24 @@ loop-left-init c =
     }
 
 pub block-load-requires : goal.block-load-requires
-block-load-requires c = (c.loop-left.invariant.made.along, omega (arith, c.lesser-n.ensures, c.loop-left.invariant.same, c.requires.1))
+block-load-requires c = (c.loop-left.invariant.made.along, omega (arith, c.min-n.ensures, c.loop-left.invariant.same, c.requires.1))
 
 pub wrote-requires : goal.wrote-requires
-wrote-requires c = omega (arith, c.block-load.auto.out, c.lesser-n.ensures, c.loop-left.invariant.same, c.requires.1)
+wrote-requires c = omega (arith, c.block-load.auto.out, c.min-n.ensures, c.loop-left.invariant.same, c.requires.1)
 
 pub still-left-requires : goal.still-left-requires
-still-left-requires c = omega (arith, c.lesser-n.ensures)
+still-left-requires c = omega (arith, c.min-n.ensures)
 
 pub loop-left-smaller : goal.loop-left-smaller
 loop-left-smaller c =
-    let n = c.lesser-n in
+    let n = c.min-n in
     let l = c.loop-left in
     omega (arith, n.ensures, c.loop-left-test.true, left_after c.wrote.result l.left n.result (omega (arith, n.ensures)) c.still-left.ensures)
 
 pub loop-left-preserved : goal.loop-left-preserved
 loop-left-preserved c =
     let o = c.block-load in
-    let n = c.lesser-n in
+    let n = c.min-n in
     let l = c.loop-left in
     let i = l.invariant in
     record {

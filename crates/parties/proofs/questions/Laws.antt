@@ -11,6 +11,10 @@ use lib.Dec.{eqb}
 use Rattle.config.specs.declared.Config.{Config}
 use Rattle.config.specs.Config.{Valid, questions, store_length}
 use Rattle.config.specs.Number.{client_number, server_number}
+use Rattle.std.specs.Result.{is_ok}
+use Rattle.std.proofs.Common.{Ok, Err}
+use Rattle.config.specs.Refusal.{Verdict, refusal_number, verdict_number}
+use Rattle.config.proofs.Refusals.{refusal_some}
 use Rattle.config.specs.Questions.{ask, first_no}
 use Rattle.config.proofs.Questions.{first_no_no, first_no_pass, later, questions_numbered}
 use Rattle.config.proofs.Valid.{valid_asked}
@@ -48,6 +52,12 @@ module _ (cfg : Config) (v : Valid cfg) (holds : Bool) (got : ℕ) (e : got ≡ 
 
   pub place_stopped : (got ≡ 0 → ⊥) → holds ≡ false
   place_stopped n = sym place_told ∙ ne_eqb got 0 n
+
+-- whether it is answered yes
+pub place_ok : (cfg : Config) → Valid cfg → (holds : Bool) (r : Verdict) → verdict_number r ≡ first_no (place_questions cfg holds) → is_ok r ≡ holds
+place_ok cfg v holds (Ok x) e = place_told cfg v holds 0 e
+place_ok cfg v holds (Err why) e =
+    sym (ne_eqb (refusal_number why) 0 (refusal_some why e).0) ∙ place_told cfg v holds (refusal_number why) e
 
 module _ (cfg : Config) (i : ℕ) where
   pub other_server : (x : Node) → eqb (server_number x.state.me) (i + 1) ≡ false → server_in_place cfg i (some x) ≡ false

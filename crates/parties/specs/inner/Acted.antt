@@ -1,7 +1,8 @@
 -- What a party has done, as the code says it.
+use Rattle.std.specs.Prelude.{Ok, Err}
 use Rattle.config.specs.declared.Client.{Client}
 use Rattle.config.specs.declared.Refusal.{Refusal}
-use Rattle.config.specs.declared.Verdict.{Verdict}
+use Rattle.config.specs.Refusal.{Verdict}
 use Rattle.server.specs.declared.Stepped.{Stepped}
 use Rattle.client.specs.declared.Ended.{Ended}
 use Rattle.client.specs.declared.Moved.{Moved}
@@ -26,13 +27,13 @@ ended_by me (Ended.Read t length) = Answer.Read me t length
 
 -- the client has moved, or was refused
 abbrev pub moved_on : Verdict → Pair → Moved → Acted
-moved_on Verdict.Accepted x y =
+moved_on (Ok tt) x y =
     record {
       answer = ended_by y.state.me y.ended;
       pair = record { node = x.node; client = y.state };
       sent = y.sent;
     }
-moved_on (Verdict.No why) x y = refusing why x
+moved_on (Err why) x y = refusing why x
 
 -- the pair with another state of its server
 abbrev pub with_state : Pair → Stepped → Pair
@@ -40,5 +41,5 @@ with_state x y = record { node = record { state = y.state; up = x.node.up }; cli
 
 -- the server has done its step, or was refused
 abbrev pub stepped_on : Verdict → Pair → Stepped → Acted
-stepped_on Verdict.Accepted x y = record { answer = Answer.Nothing; pair = with_state x y; sent = 1 }
-stepped_on (Verdict.No why) x y = refusing why x
+stepped_on (Ok tt) x y = record { answer = Answer.Nothing; pair = with_state x y; sent = 1 }
+stepped_on (Err why) x y = refusing why x

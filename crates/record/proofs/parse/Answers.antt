@@ -17,8 +17,8 @@ abbrev made : After-sound → Header
 made c =
     record {
       kind = c.of-kind.result;
-      client = c.in-Made.client;
-      server = c.in-Made-new.server;
+      client = c.in-Ok.client;
+      server = c.in-Ok-new.server;
       operation = c.number_at-operation.result;
       tag = record { number = c.number_at-number.result; client = get_or c.args.buf.now 12 0 };
       length = c.length-length.result;
@@ -31,8 +31,8 @@ says c =
     let s = c in
     record {
       kind = c.of-kind.ensures;
-      client = (some_client s.args.cfg _ _ _ c.new.ensures c.in-Made.is).1;
-      server = (some_server s.args.cfg _ _ _ c.new-2.ensures c.in-Made-new.is).1;
+      client = (some_client s.args.cfg _ _ _ c.new.ensures c.in-Ok.is).1;
+      server = (some_server s.args.cfg _ _ _ c.new-2.ensures c.in-Ok-new.is).1;
       operation = c.number_at-operation.ensures;
       tag = λ i. record { number = c.number_at-number.ensures i; client = get_or s.args.buf.now 12 0 };
       present = refl;
@@ -93,8 +93,8 @@ returns c =
     accepted s.args.cfg _ _ (says (goal.at.returns c).After-sound)
     (well-formed s.args.cfg _ _ (says (goal.at.returns c).After-sound) s.requires.eighty
     (sym d.laid_out.ensures ∙ not-false _ d.if-not-laid_out.false-raw)
-    (some_client s.args.cfg _ _ _ d.new.ensures d.in-Made.is).0
-    (some_server s.args.cfg _ _ _ d.new-2.ensures d.in-Made-new.is).0
+    (some_client s.args.cfg _ _ _ d.new.ensures d.in-Ok.is).0
+    (some_server s.args.cfg _ _ _ d.new-2.ensures d.in-Ok-new.is).0
     t
     f
     (sym d.sound.ensures ∙ not-false _ c.if-not-sound.false-raw))

@@ -1,30 +1,33 @@
 use mathlib.Core.Path.{refl, sym, ◌∙◌}
 use borrow.Author.Rules.{rules}
+use Rattle.std.proofs.lemmas.Result.{err_from_is_err_and}
 use Rattle.config.specs.Config.{questions}
-use Rattle.config.proofs.Questions.{questions_numbered}
+use Rattle.config.proofs.Questions.{first_no_stop}
+use Rattle.config.proofs.Refusals.{refusal_some}
 use Rattle.config.proofs.Valid.{valid}
 use Rattle.record.specs.Calls.{read_questions}
-use Rattle.record.proofs.Answers.{first_stops, not_read, parsed-read, read-last, read-shape}
+use Rattle.record.proofs.Answers.{not_read, parsed-read, read-last, read-shape}
 use Rattle.record.proofs.read.Goals as goal
 
-pub returns-then-no-ne0 : goal.returns-then-no-ne0
+pub returns-in_err-ask : goal.returns-in_err-ask
 unfolding read_questions
-returns-then-no-ne0 c =
+returns-in_err-ask c =
     let a = c.args in
-    let f = first_stops (questions a.cfg) _ _ _ (questions_numbered a.cfg) c.ask-no.ensures c.if-no-ne0.true c.of.ensures in
-    not_read a.cfg _ _ _ f.0 c.if-no-ne0.true f.1
-
-pub returns-then-buf-ne-RECORD : goal.returns-then-buf-ne-RECORD
-returns-then-buf-ne-RECORD c =
-    let a = c.args in
-    not_read a.cfg _ 6 _ (read-shape a.cfg _ (sym c.ask-no.ensures ∙ c.if-no-ne0.false) c.if-buf-ne-RECORD.true) (λ z. search rules) refl
+    let p = err_from_is_err_and c.from_residual.result c.from_residual.ensures.1 in
+    let some = refusal_some _ c.in_err-ask.ensures in
+    rw (p.1, p.2) (not_read a.cfg _ _ _ (first_no_stop (questions a.cfg) _ some.1 ∙ sym c.in_err-ask.ensures) some.0 refl)
 
 pub parse-requires : goal.parse-requires
 parse-requires c =
-    record { valid = valid c.args.cfg (sym c.ask-no.ensures ∙ c.if-no-ne0.false); eighty = c.if-buf-ne-RECORD.false }
+    record { valid = valid c.args.cfg (sym c.in_ok-ask.ensures); eighty = c.if-buf-eq-RECORD.true }
+
+pub returns-then-buf-eq-RECORD : goal.returns-then-buf-eq-RECORD
+returns-then-buf-eq-RECORD c =
+    let a = c.args in
+    let e = read-last a.cfg _ (sym c.in_ok-ask.ensures) c.if-buf-eq-RECORD.true in
+    parsed-read a.cfg _ e _ c.parse.ensures
 
 pub returns : goal.returns
 returns c =
     let a = c.args in
-    let e = read-last a.cfg _ (sym c.ask-no.ensures ∙ c.if-no-ne0.false) c.if-buf-ne-RECORD.false in
-    parsed-read a.cfg _ e _ c.parse.ensures
+    not_read a.cfg _ 6 _ (read-shape a.cfg _ (sym c.in_ok-ask.ensures) c.if-buf-eq-RECORD.false) (λ z. search rules) refl

@@ -51,13 +51,13 @@ module _ (cfg : Config) (r : Rig) where
       (sym (at_get_d r.servers i x h)) (sym (at_get_d r.clients i y k))
 
   -- all places are in order
-  pub all-within : (most : ℕ) → cfg.n ≤ most → cfg.c ≤ most → all_below most place_yes ≡ true → parties_within cfg r ≡ true
+  pub all-within : (most : ℕ) → cfg.n ≤ most → cfg.c ≤ most → ((i : ℕ) → i < most → place_yes i ≡ true) → parties_within cfg r ≡ true
   all-within most a b h =
       ap₂ ◌&&◌
       (below_all cfg.n server_at (λ i l. is_asked cfg.n i (server_at i) l
-      ∙ and_left (unless cfg.n i (server_at i)) (unless cfg.c i (client_at i)) (below_at most place_yes h i (omega (arith, l, a)))))
+      ∙ and_left (unless cfg.n i (server_at i)) (unless cfg.c i (client_at i)) (h i (omega (arith, l, a)))))
       (below_all cfg.c client_at (λ i l. is_asked cfg.c i (client_at i) l
-      ∙ and_right (unless cfg.n i (server_at i)) (unless cfg.c i (client_at i)) (below_at most place_yes h i (omega (arith, l, b)))))
+      ∙ and_right (unless cfg.n i (server_at i)) (unless cfg.c i (client_at i)) (h i (omega (arith, l, b)))))
 
   place-yes : parties_within cfg r ≡ true → (i : ℕ) → place_yes i ≡ true
   place-yes h i =
@@ -67,8 +67,8 @@ module _ (cfg : Config) (r : Rig) where
 
   -- a place is not
   pub place_no : (i : ℕ) → place_yes i ≡ false → parties_within cfg r ≡ false
-  place_no i h = told (parties_within cfg r) refl
+  place_no i h = go (parties_within cfg r) refl
     where
-      told : (b : Bool) → parties_within cfg r ≡ b → parties_within cfg r ≡ false
-      told true e = absurd (true≢false (sym (place-yes e i) ∙ h))
-      told false e = e
+      go : (b : Bool) → parties_within cfg r ≡ b → parties_within cfg r ≡ false
+      go true e = absurd (true≢false (sym (place-yes e i) ∙ h))
+      go false e = e

@@ -1,12 +1,11 @@
 -- A tag and its element, stored: at a free place, or in that of the smallest.
-use Rattle.std.specs.Prelude.{◌≡◌, ℕ, ◌+◌, ◌*◌, true, cond, List, length, nat_le, slice_set}
+use Rattle.std.specs.Prelude.{Some, ◌≡◌, ℕ, ◌+◌, ◌*◌, true, cond, List, length, nat_le, slice_set}
 use Rattle.laws.specs.Parts.{over}
 use Rattle.config.specs.declared.Config.{Config}
 use Rattle.tag.specs.declared.Tag.{Tag}
 use Rattle.tag.specs.Tag.{allowed, key}
 use Rattle.record.specs.Element.{element_with}
 use Rattle.protocol.specs.Server.{store as stores}
-use Rattle.server.specs.declared.Floor.{Floor}
 use Rattle.server.specs.declared.State.{State}
 use Rattle.server.specs.declared.places.Least.{Least}
 use Rattle.server.specs.Within.{ValidState}
@@ -37,7 +36,7 @@ lowest cfg s t = least_from cfg t s.count 0 (tags_used s)
 -- the floor is f, and tags are stored with their lengths
 abbrev pub floored : State → Tag → List Tag → List ℕ → State
 floored s f tags lengths =
-    record { me = s.me; highest = s.highest; floor = Floor.At f; count = s.count; tags = tags; lengths = lengths }
+    record { me = s.me; highest = s.highest; floor = Some f; count = s.count; tags = tags; lengths = lengths }
 
 -- the lowest is the floor; if it is not t, then t has its place
 unfoldable pub dropped : Config → State → Tag → ℕ → State

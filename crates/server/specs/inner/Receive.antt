@@ -1,11 +1,13 @@
 -- What the first questions of a step tell.
-use Rattle.std.specs.Prelude.{◌≡◌, ℕ, true, List, length, ◌≢◌}
+use Rattle.std.specs.Prelude.{◌≡◌, ℕ, true, List, length, Result, Ok, Err}
 use Rattle.config.specs.declared.Config.{Config}
+use Rattle.config.specs.declared.Refusal.{Refusal}
 use Rattle.config.specs.Config.{Valid, record_length, store_length}
 use Rattle.config.specs.Questions.{first_no}
+use Rattle.config.specs.Refusal.{refusal_number}
+use Rattle.record.specs.declared.Header.{Header}
 use Rattle.record.specs.Calls.{with_element}
 use Rattle.record.specs.Record.{message_of, well_formed}
-use Rattle.server.specs.declared.Told.{Told}
 use Rattle.server.specs.declared.State.{State}
 use Rattle.server.specs.Calls.{step_questions}
 use Rattle.server.specs.Within.{state_within}
@@ -20,10 +22,9 @@ pub record Passed (cfg : Config) (s : State) (handed : List ℕ) (store answer :
   pub answer_eighty : answer ≡ record_length
   pub well-formed : well_formed cfg handed ≡ true
 
--- the number of the first no; or the header of the record's message, with 16 left as to its kind
-abbrev pub ReceivePost : Config → State → List ℕ → ℕ → ℕ → Told → Type 0
-ReceivePost cfg s handed store answer (Told.No number) =
-    (number ≢ 0) × (number ≡ first_no (step_questions cfg s handed store answer))
-ReceivePost cfg s handed store answer (Told.Request h) =
+-- the header of the record's message, with 16 left as to its kind; or a refusal of the first no
+abbrev pub ReceivePost : Config → State → List ℕ → ℕ → ℕ → Result Header Refusal → Type 0
+ReceivePost cfg s handed store answer (Err why) = refusal_number why ≡ first_no (step_questions cfg s handed store answer)
+ReceivePost cfg s handed store answer (Ok h) =
     Passed cfg s handed store answer × (with_element cfg h handed ≡ message_of cfg handed)
     × (request_number (with_element cfg h handed) ≡ first_no (step_questions cfg s handed store answer))

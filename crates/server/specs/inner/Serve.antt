@@ -1,10 +1,9 @@
 -- What a step takes once its questions are asked, and what it gives.
-use Rattle.std.specs.Prelude.{◌≡◌, ℕ, true, false, cond, List, length, nat_le}
+use Rattle.std.specs.Prelude.{◌≡◌, ℕ, true, false, cond, List, length, nat_le, Err}
 use Rattle.std.proofs.Math.Option.{Option, none, some}
 use Rattle.config.specs.declared.Config.{Config}
 use Rattle.config.specs.declared.Refusal.{Refusal}
 use Rattle.config.specs.declared.Server.{Server as ServerNumber}
-use Rattle.config.specs.declared.Verdict.{Verdict}
 use Rattle.config.specs.Config.{Valid, record_length}
 use Rattle.config.specs.Number.{client_number, server_number}
 use Rattle.config.specs.Questions.{within}
@@ -28,7 +27,7 @@ use Rattle.server.specs.View.{view}
 
 -- a refusal, with all as it was
 abbrev pub unchanged : State → Refusal → Stepped
-unchanged s why = record { verdict = Verdict.No why; state = s }
+unchanged s why = record { verdict = Err why; state = s }
 
 -- the answer to a request
 unfoldable pub reply : ServerNumber → Header → Kind → Tag → Option Element → Message Element

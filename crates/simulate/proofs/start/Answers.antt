@@ -17,15 +17,15 @@ starts_fit : (cfg : Config) (room : Room) → first_no (room_questions cfg room)
 starts_fit cfg room h = mul-le-mul (boards_high room (room_is cfg room h)) (board_small cfg (room_valid cfg room h))
 
 pub overflow_mul-v : goal.overflow_mul-v
-overflow_mul-v c = let a = c.args in record { fits = omega (arith, board_small a.cfg (room_valid a.cfg a.room (sym c.ask_room-no.ensures ∙ c.if-no-ne0.false))) }
+overflow_mul-v c = let a = c.args in record { fits = omega (arith, board_small a.cfg (room_valid a.cfg a.room (sym c.in_default.ensures))) }
 
 pub overflow_mul-long : goal.overflow_mul-long
-overflow_mul-long c = let a = c.args in record { fits = omega (arith, starts_fit a.cfg a.room (sym c.ask_room-no.ensures ∙ c.if-no-ne0.false)) }
+overflow_mul-long c = let a = c.args in record { fits = omega (arith, starts_fit a.cfg a.room (sym c.in_default.ensures)) }
 
 pub slice_bounds-boards-end : goal.slice_bounds-boards-end
-slice_bounds-boards-end c = let a = c.args in starts_fit a.cfg a.room (sym c.ask_room-no.ensures ∙ c.if-no-ne0.false)
+slice_bounds-boards-end c = let a = c.args in starts_fit a.cfg a.room (sym c.in_default.ensures)
 
 pub slice_bounds-play-end : goal.slice_bounds-play-end
 slice_bounds-play-end c =
     let a = c.args in
-    sym (length-take-le (a.room.boards * (a.cfg.k * a.cfg.e)) _ (starts_fit a.cfg a.room (sym c.ask_room-no.ensures ∙ c.if-no-ne0.false)))
+    sym (length-take-le (a.room.boards * (a.cfg.k * a.cfg.e)) _ (starts_fit a.cfg a.room (sym c.in_default.ensures)))

@@ -6,12 +6,13 @@ use Prim.Native.Nat.{ℕ, ◌+◌, ◌*◌, ◌≤◌, ◌<◌}
 use native.Mathlib.Omega.{arith}
 use lib.Dec.{eqb, leb}
 use lib.ListN.{get_or}
+use Rattle.tag.specs.declared.Tag.{Tag}
 use Rattle.laws.specs.Bytes.{joined, tabulate}
 use Rattle.laws.proofs.Bytes.{tabulate_cong}
 use Rattle.tag.specs.Tag.{start}
 use Rattle.record.specs.Record.{four_bytes, highest_number, little_endian, little_two, two_bytes}
 use Rattle.record.proofs.Laws.{four_number}
-use Rattle.server.specs.declared.Floor.{Floor}
+use Rattle.std.proofs.Common.{Option, None, Some}
 use Rattle.server.specs.declared.State.{State}
 use Rattle.server.specs.View.{stored_length, tag_at}
 use Rattle.states.specs.Bytes.{empty_row, length_from, tag_from, tag_row}
@@ -21,9 +22,9 @@ use Rattle.states.proofs.Rows.{part_byte}
 use Rattle.states.proofs.servers.Packed.{first, first_long, stored_wide}
 
 -- a floor's tag has a number of four bytes
-abbrev pub FloorFits : Floor → Type 0
-FloorFits Floor.None = Unit
-FloorFits (Floor.At t) = t.number ≤ highest_number
+abbrev pub FloorFits : Option Tag → Type 0
+FloorFits None = Unit
+FloorFits (Some t) = t.number ≤ highest_number
 
 -- what a state that the code holds is: the numbers of its tags have four bytes, and its lengths two
 pub record Fitting (s : State) : Type 0 where
@@ -32,10 +33,10 @@ pub record Fitting (s : State) : Type 0 where
   pub tags : (i : ℕ) → (tag_at s.tags i).number ≤ highest_number
   pub lengths : (i : ℕ) → stored_length s.lengths i < 65536
 
-floor_back : (f : Floor) (rest : List ℕ) → FloorFits f → cond (eqb (floor_flag f) 1) (Floor.At (tag_from (floor_row f ++ rest) 0)) Floor.None ≡ f
+floor_back : (f : Option Tag) (rest : List ℕ) → FloorFits f → cond (eqb (floor_flag f) 1) (Some (tag_from (floor_row f ++ rest) 0)) None ≡ f
 unfolding floor_row tag_row four_bytes two_bytes
-floor_back Floor.None rest h = refl
-floor_back (Floor.At t) rest h = λ i. Floor.At (record { number = four_number t.number h i; client = t.client })
+floor_back None rest h = refl
+floor_back (Some t) rest h = λ i. Some (record { number = four_number t.number h i; client = t.client })
 
 module _ (s : State) (fits : Fitting s) where
   -- a stored tag's row gives the tag and its length, if it is in use
@@ -85,5 +86,5 @@ module _ (s : State) (fits : Fitting s) where
   pub back : state_of (packed s) ≡ tidy s
   unfolding state_of tidy packed head_row tag_row four_bytes two_bytes
   back =
-      let floor : cond (eqb (get_or (packed s) 2 0) 1) (Floor.At (tag_from (packed s) 16)) Floor.None ≡ s.floor = floor_back s.floor (joined (tabulate 8 (stored_row s))) fits.floor in
+      let floor : cond (eqb (get_or (packed s) 2 0) 1) (Some (tag_from (packed s) 16)) None ≡ s.floor = floor_back s.floor (joined (tabulate 8 (stored_row s))) fits.floor in
       λ i. record { me = s.me; count = s.count; highest = highest_back i; floor = floor i; tags = tags_back i; lengths = lengths_back i }

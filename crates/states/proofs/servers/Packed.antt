@@ -5,9 +5,10 @@ use mathlib.Core.List.{List, ◌++◌}
 use Prim.Native.Nat.{ℕ, zero, suc, ◌+◌}
 use lib.Dec.{leb}
 use lib.ListN.{length, length-append}
+use Rattle.tag.specs.declared.Tag.{Tag}
 use Rattle.laws.specs.Bytes.{joined, tabulate}
 use Rattle.record.specs.Record.{four_bytes, two_bytes}
-use Rattle.server.specs.declared.Floor.{Floor}
+use Rattle.std.proofs.Common.{Option, None, Some}
 use Rattle.server.specs.declared.State.{State}
 use Rattle.server.specs.View.{stored_length, tag_at}
 use Rattle.states.specs.Bytes.{empty_row, tag_row}
@@ -17,10 +18,10 @@ use Rattle.states.proofs.Bytes.{tag_wide}
 use Rattle.states.proofs.Rows.{parts_long}
 
 -- each row has 8 bytes
-floor_wide : (f : Floor) → length (floor_row f) ≡ 8
+floor_wide : (f : Option Tag) → length (floor_row f) ≡ 8
 unfolding floor_row
-floor_wide Floor.None = refl
-floor_wide (Floor.At t) = tag_wide t 0
+floor_wide None = refl
+floor_wide (Some t) = tag_wide t 0
 
 pub stored_wide : (s : State) (i : ℕ) → length (stored_row s i) ≡ 8
 unfolding stored_row

@@ -1,8 +1,9 @@
 -- Rows of a client's state, what unpacking takes, and what a refusal gives.
 use Rattle.std.specs.Prelude.{ℕ, zero, suc, ◌+◌, ◌*◌, false, ◌≡◌, List, ◌∷◌, ◌++◌, length, get_or, replicate}
 use Rattle.config.specs.declared.Client.{Client}
+use Rattle.config.specs.declared.Refusal.{Refusal}
 use Rattle.config.specs.Number.{client_number}
-use Rattle.config.specs.Refusal.{clamped, verdict_number}
+use Rattle.config.specs.Refusal.{refusal_number, verdict_number}
 use Rattle.tag.specs.declared.Tag.{Tag}
 use Rattle.record.specs.Record.{four_bytes, two_bytes}
 use Rattle.client.specs.declared.State.{State}
@@ -36,6 +37,6 @@ pub record ToldPre (me : Client) (bs : List ℕ) : Type 0 where
   pub number : client_number me ≡ get_or bs 0 0
 
 -- a refusal, with the state that zeros tell, of client 1
-pub record RefusedPost (no : ℕ) (r : Unpacked) : Type 0 where
-  pub number : verdict_number r.verdict ≡ clamped no
+pub record RefusedPost (why : Refusal) (r : Unpacked) : Type 0 where
+  pub number : verdict_number r.verdict ≡ refusal_number why
   pub state : r.state ≡ state_of (1 ∷ replicate 55 0)

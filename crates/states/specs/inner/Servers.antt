@@ -1,8 +1,9 @@
 -- Rows of a server's state, what unpacking takes, and what a refusal gives.
 use Rattle.std.specs.Prelude.{ℕ, zero, suc, ◌≡◌, List, ◌∷◌, length, get_or, replicate}
 use Rattle.config.specs.declared.Server.{Server}
+use Rattle.config.specs.declared.Refusal.{Refusal}
 use Rattle.config.specs.Number.{server_number}
-use Rattle.config.specs.Refusal.{clamped, verdict_number}
+use Rattle.config.specs.Refusal.{refusal_number, verdict_number}
 use Rattle.server.specs.declared.State.{State}
 use Rattle.states.specs.declared.servers.Unpacked.{Unpacked}
 use Rattle.states.specs.Bytes.{tag_row}
@@ -21,6 +22,6 @@ pub record ToldPre (me : Server) (bs : List ℕ) : Type 0 where
   pub number : server_number me ≡ get_or bs 0 0
 
 -- a refusal, with the state that zeros tell, of server 1
-pub record RefusedPost (no : ℕ) (r : Unpacked) : Type 0 where
-  pub number : verdict_number r.verdict ≡ clamped no
+pub record RefusedPost (why : Refusal) (r : Unpacked) : Type 0 where
+  pub number : verdict_number r.verdict ≡ refusal_number why
   pub state : r.state ≡ state_of (1 ∷ replicate 87 0)

@@ -28,12 +28,6 @@ bounds-rig-i c = omega (arith, c.loop-i-test.true, c.requires.1)
 pub put-left-requires-in-loop-i : goal.put-left-requires-in-loop-i
 put-left-requires-in-loop-i c = omega (arith, c.loop-i-test.true, c.requires.1)
 
-pub overflow_add-i : goal.overflow_add-i
-overflow_add-i c = omega (arith, c.loop-i-test.true, c.requires.1)
-
-pub loop-i-smaller : goal.loop-i-smaller
-loop-i-smaller c = omega (arith, c.loop-i-test.true)
-
 pub loop-i-preserved : goal.loop-i-preserved
 loop-i-preserved c =
     let s = c in

@@ -24,12 +24,6 @@ one-x-requires c = record { pre = still_sized c.requires c.loop-i.invariant; pla
 pub put-rig-requires : goal.put-rig-requires
 put-rig-requires c = let s = c in omega (arith, c.loop-i-test.true, few_boards s.args.cfg s.args.room s.requires.accepted)
 
-pub overflow_add-i : goal.overflow_add-i
-overflow_add-i c = let s = c in omega (arith, c.loop-i-test.true, few_boards s.args.cfg s.args.room s.requires.accepted)
-
-pub loop-i-smaller : goal.loop-i-smaller
-loop-i-smaller c = omega (arith, c.loop-i-test.true)
-
 pub loop-i-preserved : goal.loop-i-preserved
 loop-i-preserved c =
     let s = c in

@@ -1,4 +1,3 @@
-use Prim.Native.Nat.{◌-◌}
 use Rattle.events.specs.View.{lent}
 use Rattle.boards.proofs.Making.{FreshBelow}
 use Rattle.boards.proofs.fresh.rig.Given as goal
@@ -6,6 +5,3 @@ use Rattle.boards.proofs.fresh.rig.Given as goal
 abbrev pub invariant-loop-i : goal.invariant-loop-i
 invariant-loop-i l =
     FreshBelow l.cfg l.room l.start (lent l.initial.messages l.initial.stores l.initial.boards l.initial.elements) (lent l.messages l.stores l.boards l.elements) l.rig l.i
-
-abbrev pub decreases-loop-i : goal.decreases-loop-i
-decreases-loop-i l = l.room.boards - l.i

@@ -8,6 +8,7 @@ use Rattle.config.specs.declared.Config.{Config}
 use Rattle.config.specs.Config.{rig_questions}
 use Rattle.config.specs.Questions.{ask, first_no}
 use Rattle.config.proofs.Questions.{last_all, last_yes, rig_questions_numbered}
+use Rattle.config.proofs.Refusals.{refusal_some}
 use Rattle.config.proofs.Valid.{rig_valid}
 use Rattle.events.specs.Questions.{rig_within}
 use Rattle.boards.specs.Questions.{up_alike}
@@ -23,14 +24,13 @@ module _ (cfg : Config) (m : ℕ) (n : ℕ) (five : first_no (rig_questions cfg 
   is-yes : (holds : Bool) → n ≡ first_no (rig_questions cfg m ++ ask 6 holds ∷ []) → n ≡ 0 → holds ≡ true
   is-yes holds e none = (last_all (rig_questions cfg m) 6 holds (rig_questions_numbered cfg m) (omega arith) (sym e ∙ none)).1
 
-pub returns-then-ask-ne0 : goal.returns-then-ask-ne0
+pub returns-in_default : goal.returns-in_default
 unfolding up_alike rig_with
-returns-then-ask-ne0 c =
+returns-in_default c =
     let a = c.args in
     let within = rig_within a.cfg a.m in
     let x = c.one.result in
-    let asked = c.ask in
-    rw (sym (ap within c.one.ensures) ∙ sym (is-no a.cfg a.m asked.result c.requires (within x) asked.ensures c.if-ask-ne0.true))
+    rw (sym (ap within c.one.ensures) ∙ sym (is-no a.cfg a.m _ c.requires (within x) c.in_default.ensures (refusal_some _ c.in_default.ensures).0))
 
 pub servers_alike-requires : goal.servers_alike-requires
 servers_alike-requires c = rig_valid c.args.cfg c.args.m refl c.requires
@@ -41,9 +41,8 @@ returns-then-not-servers_alike c =
     let a = c.args in
     let within = rig_within a.cfg a.m in
     let x = c.one.result in
-    let asked = c.ask in
     rw (
-      sym (ap within c.one.ensures) ∙ is-yes a.cfg a.m asked.result c.requires (within x) asked.ensures c.if-ask-ne0.false,
+      sym (ap within c.one.ensures) ∙ is-yes a.cfg a.m 0 c.requires (within x) c.in-Ok.ensures refl,
       sym c.servers_alike.ensures ∙ not-true _ c.if-not-servers_alike.true-raw,
     )
 
@@ -56,9 +55,8 @@ returns c =
     let a = c.args in
     let within = rig_within a.cfg a.m in
     let x = c.one.result in
-    let asked = c.ask in
     c.clients_alike.ensures
     ∙ rw (
-      sym (ap within c.one.ensures) ∙ is-yes a.cfg a.m asked.result c.requires (within x) asked.ensures c.if-ask-ne0.false,
+      sym (ap within c.one.ensures) ∙ is-yes a.cfg a.m 0 c.requires (within x) c.in-Ok.ensures refl,
       sym c.servers_alike.ensures ∙ not-false _ c.if-not-servers_alike.false-raw,
     )

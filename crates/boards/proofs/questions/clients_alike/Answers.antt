@@ -21,13 +21,7 @@ alike_read x y i a b low h k = same_read client_up x.clients y.clients i a b (om
 
 pub loop-i-init : goal.loop-i-init
 unfolding all_below
-loop-i-init c = (omega arith, refl)
-
-pub bounds-x-i : goal.bounds-x-i
-bounds-x-i c = omega (arith, c.loop-i-test.true, c.requires.c_high)
-
-pub bounds-y-i : goal.bounds-y-i
-bounds-y-i c = omega (arith, c.loop-i-test.true, c.requires.c_high)
+loop-i-init c = refl
 
 pub returns-then-not-same : goal.returns-then-not-same
 returns-then-not-same c =
@@ -39,12 +33,6 @@ returns-then-not-same c =
     let read = alike_read x y i _ _ (omega (arith, low, s.requires.c_high)) (client_places x _ s.well_formed.1.0) (client_places y _ s.well_formed.1.1.0) in
     sym (below_no s.args.cfg.c (alikeAt x y) i low (sym read ∙ sym (c.same.ensures ∙ ap₂ same c.is_up.ensures c.is_up-in-loop-i.ensures) ∙ not-true _ c.if-not-same.true-raw))
 
-pub overflow_add-i : goal.overflow_add-i
-overflow_add-i c = omega (arith, c.loop-i-test.true, c.requires.c_high)
-
-pub loop-i-smaller : goal.loop-i-smaller
-loop-i-smaller c = omega (arith, c.loop-i-test.true)
-
 pub loop-i-preserved : goal.loop-i-preserved
 loop-i-preserved c =
     let s = c in
@@ -52,14 +40,12 @@ loop-i-preserved c =
     let y = s.args.y in
     let i = c.loop-i.i in
     let low = c.loop-i-test.true in
-    let read = alike_read x y i _ _ (omega (arith, low, s.requires.c_high)) (client_places x _ s.well_formed.1.0) (client_places y _ s.well_formed.1.1.0) in (
-      omega (arith, low),
-      below_next i (alikeAt x y) c.loop-i.invariant.1 (sym read ∙ sym (c.same.ensures ∙ ap₂ same c.is_up.ensures c.is_up-in-loop-i.ensures) ∙ not-false _ c.if-not-same.false-raw),
-    )
+    let read = alike_read x y i _ _ (omega (arith, low, s.requires.c_high)) (client_places x _ s.well_formed.1.0) (client_places y _ s.well_formed.1.1.0) in
+    below_next i (alikeAt x y) c.loop-i.invariant (sym read ∙ sym (c.same.ensures ∙ ap₂ same c.is_up.ensures c.is_up-in-loop-i.ensures) ∙ not-false _ c.if-not-same.false-raw)
 
 pub returns : goal.returns
 returns c =
     let a = c.args in
     let l = c.loop-i in
-    let end : l.i ≡ a.cfg.c = omega (arith, l.invariant.0, c.loop-i-test.false) in
-    sym l.invariant.1 ∙ ap (λ n. all_below n (alikeAt a.x a.y)) end
+    let end : l.i ≡ a.cfg.c = omega arith in
+    sym l.invariant ∙ ap (λ n. all_below n (alikeAt a.x a.y)) end

@@ -1,5 +1,5 @@
 -- The clients of the places passed are up on both boards or down on both. Assumes nothing.
-use Prim.Native.Nat.{ℕ, ◌-◌, ◌≤◌}
+use Prim.Native.Nat.{ℕ}
 use mathlib.Core.Path.{◌≡◌}
 use mathlib.Core.Bool.{Bool, true}
 use lib.ListN.{get_elem?}
@@ -13,7 +13,4 @@ abbrev pub alikeAt : OneBoard → OneBoard → ℕ → Bool
 alikeAt x y i = same (client_up (get_elem? x.clients i)) (client_up (get_elem? y.clients i))
 
 abbrev pub invariant-loop-i : goal.invariant-loop-i
-invariant-loop-i l = (l.i ≤ l.cfg.c) × (all_below l.i (alikeAt l.x l.y) ≡ true)
-
-abbrev pub decreases-loop-i : goal.decreases-loop-i
-decreases-loop-i l = l.cfg.c - l.i
+invariant-loop-i l = all_below l.i (alikeAt l.x l.y) ≡ true

@@ -32,7 +32,7 @@ board-read cfg room r i d e low eight =
 
 pub loop-i-init : goal.loop-i-init
 unfolding all_below
-loop-i-init c = (omega arith, refl)
+loop-i-init c = refl
 
 pub offset_bounds-rig-i : goal.offset_bounds-rig-i
 offset_bounds-rig-i c = let s = c in omega (arith, c.loop-i-test.true, boards_high s.args.room (room_is s.args.cfg s.args.room s.requires))
@@ -52,26 +52,18 @@ returns-then-not-board c =
     let read = board-read a.cfg a.room a.rig i _ _ (omega (arith, below, boards_high a.room (room_is a.cfg a.room s.requires))) (board_places a.rig _ s.well_formed.1.1.0) in
     sym (below_no a.room.boards (board_within a.cfg a.room a.rig) i below (sym read ∙ sym c.board.ensures ∙ not-true _ c.if-not-board.true-raw))
 
-pub overflow_add-i : goal.overflow_add-i
-overflow_add-i c = let s = c in omega (arith, c.loop-i-test.true, boards_high s.args.room (room_is s.args.cfg s.args.room s.requires))
-
-pub loop-i-smaller : goal.loop-i-smaller
-loop-i-smaller c = omega (arith, c.loop-i-test.true)
-
 pub loop-i-preserved : goal.loop-i-preserved
 loop-i-preserved c =
     let s = c in
     let a = s.args in
     let l = c.loop-i in
     let below = c.loop-i-test.true in
-    let read = board-read a.cfg a.room a.rig l.i _ _ (omega (arith, below, boards_high a.room (room_is a.cfg a.room s.requires))) (board_places a.rig _ s.well_formed.1.1.0) in (
-      omega (arith, below),
-      below_next l.i (board_within a.cfg a.room a.rig) l.invariant.1 (sym read ∙ sym c.board.ensures ∙ not-false _ c.if-not-board.false-raw),
-    )
+    let read = board-read a.cfg a.room a.rig l.i _ _ (omega (arith, below, boards_high a.room (room_is a.cfg a.room s.requires))) (board_places a.rig _ s.well_formed.1.1.0) in
+    below_next l.i (board_within a.cfg a.room a.rig) l.invariant (sym read ∙ sym c.board.ensures ∙ not-false _ c.if-not-board.false-raw)
 
 pub returns : goal.returns
 returns c =
     let a = c.args in
     let l = c.loop-i in
-    let end : l.i ≡ a.room.boards = omega (arith, l.invariant.0, c.loop-i-test.false) in
-    sym l.invariant.1 ∙ ap (λ n. all_below n (board_within a.cfg a.room a.rig)) end
+    let end : l.i ≡ a.room.boards = omega arith in
+    sym l.invariant ∙ ap (λ n. all_below n (board_within a.cfg a.room a.rig)) end

@@ -22,13 +22,7 @@ alike_read x y i a b low h k = same_read up_seen x.servers y.servers i a b (omeg
 
 pub loop-i-init : goal.loop-i-init
 unfolding all_below
-loop-i-init c = (omega arith, refl)
-
-pub bounds-x-i : goal.bounds-x-i
-bounds-x-i c = omega (arith, c.loop-i-test.true, c.requires.n_high)
-
-pub bounds-y-i : goal.bounds-y-i
-bounds-y-i c = omega (arith, c.loop-i-test.true, c.requires.n_high)
+loop-i-init c = refl
 
 pub returns-then-not-same : goal.returns-then-not-same
 returns-then-not-same c =
@@ -40,12 +34,6 @@ returns-then-not-same c =
     let read = alike_read x y i _ _ (omega (arith, low, s.requires.n_high)) (server_places x _ s.well_formed.1.0) (server_places y _ s.well_formed.1.1.0) in
     sym (below_no s.args.cfg.n (alikeAt x y) i low (sym read ∙ sym c.same.ensures ∙ not-true _ c.if-not-same.true-raw))
 
-pub overflow_add-i : goal.overflow_add-i
-overflow_add-i c = omega (arith, c.loop-i-test.true, c.requires.n_high)
-
-pub loop-i-smaller : goal.loop-i-smaller
-loop-i-smaller c = omega (arith, c.loop-i-test.true)
-
 pub loop-i-preserved : goal.loop-i-preserved
 loop-i-preserved c =
     let s = c in
@@ -53,14 +41,12 @@ loop-i-preserved c =
     let y = s.args.y in
     let i = c.loop-i.i in
     let low = c.loop-i-test.true in
-    let read = alike_read x y i _ _ (omega (arith, low, s.requires.n_high)) (server_places x _ s.well_formed.1.0) (server_places y _ s.well_formed.1.1.0) in (
-      omega (arith, low),
-      below_next i (alikeAt x y) c.loop-i.invariant.1 (sym read ∙ sym c.same.ensures ∙ not-false _ c.if-not-same.false-raw),
-    )
+    let read = alike_read x y i _ _ (omega (arith, low, s.requires.n_high)) (server_places x _ s.well_formed.1.0) (server_places y _ s.well_formed.1.1.0) in
+    below_next i (alikeAt x y) c.loop-i.invariant (sym read ∙ sym c.same.ensures ∙ not-false _ c.if-not-same.false-raw)
 
 pub returns : goal.returns
 returns c =
     let a = c.args in
     let l = c.loop-i in
-    let end : l.i ≡ a.cfg.n = omega (arith, l.invariant.0, c.loop-i-test.false) in
-    sym l.invariant.1 ∙ ap (λ n. all_below n (alikeAt a.x a.y)) end
+    let end : l.i ≡ a.cfg.n = omega arith in
+    sym l.invariant ∙ ap (λ n. all_below n (alikeAt a.x a.y)) end

@@ -1,16 +1,15 @@
-use mathlib.Core.Path.{refl, sym, ◌∙◌, ap, subst}
+use mathlib.Core.Path.{◌≡◌, refl, sym, ◌∙◌, ap, subst}
 use mathlib.Core.List.{List}
-use Prim.Native.Nat.{ℕ, ◌≤◌}
+use Prim.Native.Nat.{ℕ, suc, ◌+◌, ◌-◌, ◌≤◌}
 use native.Mathlib.Nat.{zero-mul}
 use native.Mathlib.Omega.{arith}
-use native.Mathlib.Numerals.{add-one}
-use lib.ListN.{drop, length-take}
+use lib.ListN.{length, drop, length-take}
 use lib.Seq.{take-nil}
 use Rattle.config.specs.declared.Config.{Config}
 use Rattle.laws.specs.Bytes.{joined}
 use Rattle.protocol.specs.Number.{present}
 use Rattle.client.specs.Servers.{sent_by}
-use Rattle.client.specs.inner.Gather.{GatherPost, GatherPre, bytes_at, lowest}
+use Rattle.client.specs.inner.Gather.{GatherPost, GatherPre, PickPost, bytes_at, lowest}
 use Rattle.client.proofs.Gathering.{gathered_all, gathered_more}
 use Rattle.client.proofs.gather.gather.Invariants.{Now}
 use Rattle.client.proofs.gather.gather.Goals as goal
@@ -50,9 +49,6 @@ loop-s-init c =
       same-packed = refl;
     }
 
-pub overflow_add-s : goal.overflow_add-s
-overflow_add-s c = omega (arith, c.loop-s-test.true, c.requires.valid.n_high)
-
 pub pick-found-requires : goal.pick-found-requires
 pick-found-requires c =
     let s = c in
@@ -64,33 +60,31 @@ pick-found-requires c =
       found_high = few now;
     }
 
-pub loop-s-smaller : goal.loop-s-smaller
-loop-s-smaller c = omega (arith, c.loop-s-test.true)
+-- and server s
+one_more : {cfg : Config} {sent : ℕ} {es numbers₀ packed₀ numbers packed numbers' packed' : List ℕ} {found found' s : ℕ} → 1 ≤ s → s ≤ cfg.n
+    → GatherPre cfg sent es numbers₀ packed₀ → Now cfg sent es numbers₀ packed₀ numbers packed found (s - 1)
+    → PickPost cfg sent s found es numbers numbers' packed packed' found' → length numbers' ≡ length numbers → length packed' ≡ length packed
+    → Now cfg sent es numbers₀ packed₀ numbers' packed' found' s
+one_more {cfg} {sent} {es} {numbers₀} {packed₀} {numbers} {packed} {numbers'} {packed'} {found} {found'} {s} low high g n p a b =
+    let i : ℕ = s - 1 in
+    let e : s ≡ suc i = omega arith in
+    record {
+      done =
+          rw e (gathered_more cfg sent es numbers₀ packed₀ i found found' numbers numbers' packed packed' n.done (rw e at p) g.elements (omega arith) g.numbers_room);
+      high = high;
+      same_numbers = a ∙ n.same_numbers;
+      same-packed = b ∙ n.same-packed;
+    }
 
 pub loop-s-preserved : goal.loop-s-preserved
 loop-s-preserved c =
-    let s = c in
-    let l = c.loop-s in
     let p = c.pick-found in
-    let below = c.loop-s-test.true in
-    record {
-      done =
-          rw (add-one l.s)
-          (gathered_more s.args.cfg s.args.sent s.args.elements.now s.args.numbers.now s.args.packed.now l.s l.found
-          p.result l.numbers _ l.packed _ l.invariant.done (rw (add-one l.s) at p.ensures) s.requires.elements below s.requires.numbers_room);
-      high = omega (arith, below);
-      same_numbers = p.auto.numbers ∙ l.invariant.same_numbers;
-      same-packed = p.auto.packed ∙ l.invariant.same-packed;
-    }
+    let e : c.loop-s.s + 1 - 1 ≡ c.loop-s.s = omega arith in
+    rw e
+    (one_more c.loop-s.auto.s c.loop-s-test.true c.requires c.loop-s.invariant p.ensures p.auto.numbers p.auto.packed)
 
-pub shape_of-numbers : goal.shape_of-numbers
-shape_of-numbers c = c.loop-s.invariant.same_numbers
-
-pub shape_of-packed : goal.shape_of-packed
-shape_of-packed c = c.loop-s.invariant.same-packed
-
-pub returns : goal.returns
-returns c =
-    let l = c.loop-s in
-    let s = c in
-    gathered_all s.args.cfg s.args.sent s.args.elements.now (omega (arith, l.invariant.high, c.loop-s-test.false)) s.requires.enough l.invariant.done
+pub returns-2 : goal.returns-2
+returns-2 c =
+    let p = c.pick-found in
+    let n = one_more c.loop-s.auto.s c.loop-s-test.true c.requires c.loop-s.invariant p.ensures p.auto.numbers p.auto.packed in
+    gathered_all c.args.cfg c.args.sent c.args.elements.now (omega arith) c.requires.enough n.done

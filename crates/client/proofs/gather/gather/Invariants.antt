@@ -1,7 +1,4 @@
-use mathlib.Core.Path.{◌≡◌}
-use mathlib.Core.List.{List}
-use Prim.Native.Nat.{ℕ, ◌-◌, ◌≤◌}
-use lib.ListN.{length}
+use Rattle.std.proofs.Common.{◌≡◌, ℕ, ◌-◌, ◌≤◌, List, length}
 use Rattle.config.specs.declared.Config.{Config}
 use Rattle.client.specs.inner.Gather.{GatherPost, lowest}
 use Rattle.client.proofs.gather.gather.Given as goal
@@ -13,9 +10,7 @@ pub record Now (cfg : Config) (sent : ℕ) (es numbers₀ packed₀ numbers pack
   pub same_numbers : length numbers ≡ length numbers₀
   pub same-packed : length packed ≡ length packed₀
 
+-- those before s are
 abbrev pub invariant-loop-s : goal.invariant-loop-s
 invariant-loop-s l =
-    Now l.cfg l.sent l.elements l.initial.numbers l.initial.packed l.numbers l.packed l.found l.s
-
-abbrev pub decreases-loop-s : goal.decreases-loop-s
-decreases-loop-s l = l.cfg.n - l.s
+    Now l.cfg l.sent l.elements l.initial.numbers l.initial.packed l.numbers l.packed l.found (l.s - 1)

@@ -10,7 +10,6 @@ use Rattle.client.specs.declared.Phase.{Phase}
 use Rattle.client.specs.declared.Phase.TheVariants.{Idle, Asking, PreWriting, FinalisingWrite, FinalisingRead, Down}
 use Rattle.client.specs.declared.State.{State}
 use Rattle.client.specs.State.{bare, phase_of, view}
-use borrow.Author.Rules.{rules}
 use Rattle.client.specs.contracts.Phase as phase
 use borrow.Enum.Refused.{opened}
 use Rattle.client.proofs.questions.idle.Goals as goal
@@ -25,17 +24,9 @@ busy cfg x (FinalisingWrite tag counted) e h = rw e
 busy cfg x (FinalisingRead tag counted sent) e h = rw e
 busy cfg x Down e h = absurd (miss (1 ∷ 2 ∷ 3 ∷ 4 ∷ []) 5 tt h)
 
-pub enum_told-1 : goal.enum_told-1
-unfolding first_no begin_questions view is_up is_idle phase_of
-enum_told-1 c = search rules
-
 pub returns-then-x-lt-HIGHEST_NUMBER : goal.returns-then-x-lt-HIGHEST_NUMBER
 unfolding first_no begin_questions view is_up is_idle phase_of
 returns-then-x-lt-HIGHEST_NUMBER c cfg = rw (c.in-Idle.is, lt-ltb _ _ c.if-x-lt-HIGHEST_NUMBER.true)
-
-pub enum_told-in-Down : goal.enum_told-in-Down
-unfolding first_no begin_questions view is_up is_idle phase_of
-enum_told-in-Down c = search rules
 
 pub returns-else-x-lt-HIGHEST_NUMBER : goal.returns-else-x-lt-HIGHEST_NUMBER
 unfolding first_no begin_questions view is_up is_idle phase_of

@@ -17,19 +17,7 @@ overflow_mul-v c = omega (arith, board_small c.args.cfg c.requires)
 
 pub loop-i-init : goal.loop-i-init
 unfolding all_below
-loop-i-init c = (omega arith, refl)
-
-pub overflow_cast-i : goal.overflow_cast-i
-overflow_cast-i c = record { fits = omega (arith, c.loop-i.invariant.0, c.requires.n_high) }
-
-pub has-requires : goal.has-requires
-has-requires c = omega (arith, c.loop-i.invariant.0, c.requires.n_high)
-
-pub offset_bounds-lengths-i : goal.offset_bounds-lengths-i
-offset_bounds-lengths-i c = record { fits = omega (arith, c.loop-i.invariant.0, c.requires.n_high) }
-
-pub bounds-lengths-i : goal.bounds-lengths-i
-bounds-lengths-i c = omega (arith, c.loop-i.invariant.0, c.requires.n_high)
+loop-i-init c = refl
 
 pub returns-then-not-length_within : goal.returns-then-not-length_within
 returns-then-not-length_within c =
@@ -41,16 +29,13 @@ returns-then-not-length_within c =
 
 pub loop-i-preserved : goal.loop-i-preserved
 loop-i-preserved c =
-    let s = c in (
-      omega arith,
-      below_next c.loop-i.i (here s.args.cfg s.args.sent s.args.lengths) c.loop-i.invariant.1
-          (ap (λ (b : Bool). cond b (leb (get_or s.args.lengths c.loop-i.i 0) (board_length s.args.cfg)) true) (sym c.has.ensures)
-          ∙ sym c.length_within.ensures ∙ not-false _ c.if-not-length_within.false-raw),
-    )
+    let s = c in
+    below_next c.loop-i.i (here s.args.cfg s.args.sent s.args.lengths) c.loop-i.invariant
+    (ap (λ (b : Bool). cond b (leb (get_or s.args.lengths c.loop-i.i 0) (board_length s.args.cfg)) true) (sym c.has.ensures)
+    ∙ sym c.length_within.ensures ∙ not-false _ c.if-not-length_within.false-raw)
 
 pub returns : goal.returns
 returns c =
-    let l = c.loop-i in
     let s = c in
-    let end : l.i ≡ s.args.cfg.n = omega (arith, l.invariant.0) in
-    sym l.invariant.1 ∙ ap (λ (n : ℕ). all_below n (here s.args.cfg s.args.sent s.args.lengths)) end
+    let end : c.loop-i.i ≡ s.args.cfg.n = omega arith in
+    sym c.loop-i.invariant ∙ ap (λ (n : ℕ). all_below n (here s.args.cfg s.args.sent s.args.lengths)) end

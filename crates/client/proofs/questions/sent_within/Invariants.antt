@@ -1,7 +1,7 @@
 use mathlib.Core.Path.{◌≡◌}
 use mathlib.Core.Bool.{Bool, true, cond}
 use mathlib.Core.List.{List}
-use Prim.Native.Nat.{ℕ, ◌+◌, ◌-◌, ◌≤◌}
+use Prim.Native.Nat.{ℕ, ◌+◌}
 use lib.Dec.{leb}
 use lib.ListN.{get_or}
 use Rattle.laws.specs.Below.{all_below}
@@ -15,7 +15,4 @@ abbrev pub here : Config → ℕ → List ℕ → ℕ → Bool
 here cfg sent lengths i = cond (member sent (i + 1)) (leb (get_or lengths i 0) (board_length cfg)) true
 
 abbrev pub invariant-loop-i : goal.invariant-loop-i
-invariant-loop-i l = (l.i ≤ l.cfg.n) × (all_below l.i (here l.cfg l.sent l.lengths) ≡ true)
-
-abbrev pub decreases-loop-i : goal.decreases-loop-i
-decreases-loop-i l = l.cfg.n - l.i
+invariant-loop-i l = all_below l.i (here l.fn.cfg l.sent l.lengths) ≡ true

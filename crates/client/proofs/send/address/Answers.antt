@@ -20,8 +20,8 @@ returns c = let o : c.args.b.operation ≤ highest_number = omega arith in
     let m = c in
     let s = m in
     let a = s.args in
-    let made = some_server a.cfg a.s _ _ m.new.ensures m.in-Made.is in
-    let server = m.in-Made.server in
+    let made = some_server a.cfg a.s _ _ m.new.ensures m.in-Ok.is in
+    let server = m.in-Ok.server in
     written a.cfg a.b s.requires.goes server (subst (λ (k : ℕ). within 1 a.cfg.n k ≡ true) (sym made.1) made.0) a.buffer.now s.requires.room o n _ _
     c.write.ensures
     ∙ ap (λ (k : ℕ). record_of a.cfg (addressed a.cfg a.b k a.buffer.now)) made.1

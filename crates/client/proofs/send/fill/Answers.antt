@@ -1,6 +1,5 @@
 use borrow.Author.Tests.{not-true, not-false}
 use Rattle.client.proofs.Sending.{encoded, none_filled}
-use borrow.Author.Rules.{rules}
 use Rattle.client.proofs.send.fill.Goals as goal
 
 pub returns-then-not-b : goal.returns-then-not-b

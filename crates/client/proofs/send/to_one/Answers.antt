@@ -4,7 +4,6 @@ use Prim.Native.Nat.{ℕ}
 use Rattle.record.specs.Record.{record_of}
 use Rattle.client.specs.inner.Send.{addressed}
 use Rattle.client.proofs.Sending.{filled_message}
-use borrow.Author.Rules.{rules}
 use Rattle.client.proofs.send.to_one.Goals as goal
 
 pub returns : goal.returns

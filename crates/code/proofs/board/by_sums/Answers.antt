@@ -1,28 +1,10 @@
 -- `code::board::by_sums` meets its contract.
 use mathlib.Core.Path.{◌∙◌}
-use native.Mathlib.Omega.{arith}
 use lib.ListN.{length}
 use Rattle.laws.specs.Bytes.{Bytes}
 use Rattle.code.specs.inner.Choice.{square_of}
-use Rattle.code.proofs.CombinedRows.{rows_combined, x_length}
+use Rattle.code.proofs.CombinedRows.{rows_combined}
 use Rattle.code.proofs.board.by_sums.Goals as goal
-
-pub all-requires : goal.all-requires
-all-requires c =
-    let a = c.args in
-    let h = c.requires in
-    record {
-      valid = h.valid;
-      rows_length = x_length a.cfg a.inverse.now a.elements.now (length a.buffer.now) h;
-      each =
-          record {
-            width = h.valid.e_high;
-            small = c.of-choices.ensures.small;
-            count_high = omega (arith, h.valid.k_high, h.valid.n_high);
-            fits = omega arith;
-            room = omega (arith, h.buffer_length);
-          };
-    }
 
 pub returns : goal.returns
 returns c =

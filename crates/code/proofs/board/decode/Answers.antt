@@ -1,10 +1,7 @@
 -- `code::board::decode` meets its contract.
 use mathlib.Core.Path.{refl, ◌∙◌}
-use Rattle.code.proofs.Single.{enough, part_small, single}
+use Rattle.code.proofs.Single.{part_small, single}
 use Rattle.code.proofs.board.decode.Goals as goal
-
-pub slice_bounds-copy-end : goal.slice_bounds-copy-end
-slice_bounds-copy-end c = let x = c.args in enough x.cfg x.servers.now x.elements.now x.buffer.now c.requires c.if-cfg-eq1.true
 
 pub returns-then-cfg-eq1 : goal.returns-then-cfg-eq1
 returns-then-cfg-eq1 c =

@@ -1,5 +1,5 @@
 -- `code::board::spread` meets its contract: the rows before i have their multiples added, the others are as they were.
-use Prim.Native.Nat.{◌*◌, ◌-◌, ◌≤◌}
+use Prim.Native.Nat.{◌*◌}
 use mathlib.Core.Path.{◌≡◌}
 use lib.ListN.{length}
 use Rattle.code.proofs.Filled.{filled}
@@ -8,7 +8,4 @@ use Rattle.code.proofs.board.spread.Given as goal
 
 abbrev pub invariant-loop-i : goal.invariant-loop-i
 invariant-loop-i l =
-    (l.i ≤ l.k) × (length l.board ≡ l.k * length l.x) × (l.board ≡ filled (each l.inverse l.r l.x l.initial.board) (l.i * length l.x) l.initial.board)
-
-abbrev pub decreases-loop-i : goal.decreases-loop-i
-decreases-loop-i l = l.k - l.i
+    (length l.board ≡ l.k * length l.x) × (l.board ≡ filled (each l.inverse l.r l.x l.initial.board) (l.i * length l.x) l.initial.board)

@@ -1,28 +1,13 @@
 -- `code::choice::chosen` meets its contract.
-use mathlib.Core.Path.{refl, ◌∙◌}
-use native.Mathlib.Omega.{arith}
-use lib.ListN.{length-set, replicate}
+use Prim.Native.Nat.{◌+◌, ◌*◌, ◌%◌}
+use lib.ListN.{get_or}
+use borrow.Author.Rules.{rules}
 use Rattle.code.specs.inner.Choice.{chosen_lanes}
-use Rattle.code.proofs.Filled.{filled_none, turn, done}
-use Rattle.code.proofs.choice.chosen.Invariants.{each}
+use Rattle.code.proofs.Made.{made}
 use Rattle.code.proofs.choice.chosen.Goals as goal
 
-pub loop-i-init : goal.loop-i-init
-loop-i-init c = (omega arith, refl, filled_none _ _)
-
-pub loop-i-preserved : goal.loop-i-preserved
-unfolding each
-loop-i-preserved c =
-    let at = c.loop-i in
-    let a = c.args in (
-      omega arith,
-      length-set at.r at.i _ ∙ at.invariant.1,
-      turn (each a.a a.b a.c a.d) at.i (replicate 16 0) at.r _ at.invariant.2 (omega arith) refl,
-    )
-
 pub returns : goal.returns
-unfolding each chosen_lanes
+unfolding chosen_lanes
 returns c =
-    let at = c.loop-i in
-    let a = c.args in
-    done (each a.a a.b a.c a.d) at.i (replicate 16 0) at.r at.invariant.2 (omega arith)
+    let l = c.args in
+    made (λ i. get_or l.a i 0 % 2 + get_or l.b i 0 % 2 * 2 + get_or l.c i 0 % 2 * 4 + get_or l.d i 0 % 2 * 8) c.from_fn.ensures.items (λ i y q k. search rules)

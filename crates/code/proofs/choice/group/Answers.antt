@@ -8,25 +8,17 @@ use Rattle.code.proofs.choice.group.Goals as goal
 
 pub loop-digit-init : goal.loop-digit-init
 loop-digit-init c =
-    let start = c in
-    let a = start.args in (
-      omega arith,
-      turned_none a.g a.square.now a.choices.now _ _ _ _ start.requires.1 c.column-a.ensures
-          c.column-b.ensures c.column-c.ensures c.column-d.ensures,
-    )
+    let a = c.args in
+    turned_none a.g a.square.now a.choices.now _ _ _ _ c.requires.1 c.column-a.ensures
+    c.column-b.ensures c.column-c.ensures c.column-d.ensures
 
 pub loop-digit-preserved : goal.loop-digit-preserved
 loop-digit-preserved c =
-    let copied = c in
-    let made = copied in
-    let at = made.loop-digit in
-    let start = made in
-    let a = start.args in (
-      omega arith,
-      turned_next a.g (square_of a.square.now) a.choices.now at.digit at.choices at.a at.b at.c at.d at.invariant.1
-          made.loop-digit-test.true start.requires.0 _ _ _ _ _ _ made.chosen-lanes.ensures (copied.copy.ensures.whole (search rules)).1
-          c.halved-half.ensures c.halved-half-in-loop-digit.ensures c.halved-half-in-loop-digit-2.ensures c.halved-half-in-loop-digit-3.ensures,
-    )
+    let at = c.loop-digit in
+    let a = c.args in
+    turned_next a.g (square_of a.square.now) a.choices.now at.digit at.choices at.a at.b at.c at.d at.invariant
+    (omega arith) c.requires.0 _ _ _ _ _ _ c.chosen-lanes.ensures (c.copy.ensures.whole (search rules)).1
+    c.halved-half.ensures c.halved-half-in-loop-digit.ensures c.halved-half-in-loop-digit-2.ensures c.halved-half-in-loop-digit-3.ensures
 
 pub returns : goal.returns
 returns c =
@@ -35,4 +27,4 @@ returns c =
     let m = square_of a.square.now in
     let e : at.digit ≡ 8 = omega arith in
     turned_all a.g m a.choices.now at.choices at.a at.b at.c at.d
-    (subst (λ n. Turned a.g m a.choices.now n at.choices at.a at.b at.c at.d) e at.invariant.1)
+    (subst (λ n. Turned a.g m a.choices.now n at.choices at.a at.b at.c at.d) e at.invariant)

@@ -1,5 +1,4 @@
 -- `code::choice::of` meets its contract: the choices of the groups before g stand.
-use Prim.Native.Nat.{◌≤◌, ◌-◌}
 use mathlib.Core.Path.{◌≡◌}
 use lib.ListN.{length}
 use Rattle.code.specs.inner.Choice.{square_of}
@@ -7,7 +6,4 @@ use Rattle.code.proofs.ChoiceLaws.{Chosen}
 use Rattle.code.proofs.choice.of.Given as goal
 
 abbrev pub invariant-loop-g : goal.invariant-loop-g
-invariant-loop-g l = (l.g ≤ 4) × (length l.choices ≡ 512) × Chosen (square_of l.square) l.g l.choices
-
-abbrev pub decreases-loop-g : goal.decreases-loop-g
-decreases-loop-g l = 4 - l.g
+invariant-loop-g l = (length l.choices ≡ 512) × Chosen (square_of l.square) l.g l.choices

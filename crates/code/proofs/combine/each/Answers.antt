@@ -12,65 +12,7 @@ use Rattle.code.proofs.combine.each.Goals as goal
 
 pub loop-t-init : goal.loop-t-init
 unfolding laid
-loop-t-init c = (omega arith, refl, λ k x few T. refl)
-
-pub overflow_mul-at : goal.overflow_mul-at
-overflow_mul-at c =
-    let a = c.args in
-    let h = c.requires in
-    let l = c.loop-t in
-    let f = place_fits a.e a.places.offset a.places.distance l.t a.places.count (length a.buffer.now) h.fits (omega arith) h.room in
-    omega (arith, f.0)
-
-pub overflow_add-at : goal.overflow_add-at
-overflow_add-at c =
-    let a = c.args in
-    let h = c.requires in
-    let l = c.loop-t in
-    let f = place_fits a.e a.places.offset a.places.distance l.t a.places.count (length a.buffer.now) h.fits (omega arith) h.room in
-    omega (arith, f.1)
-
-pub overflow_add-at-in-loop-t : goal.overflow_add-at-in-loop-t
-overflow_add-at-in-loop-t c =
-    let a = c.args in
-    let h = c.requires in
-    let l = c.loop-t in
-    let f = place_fits a.e a.places.offset a.places.distance l.t a.places.count (length a.buffer.now) h.fits (omega arith) h.room in
-    omega (arith, f.2)
-
-pub slice_bounds-one-count : goal.slice_bounds-one-count
-slice_bounds-one-count c = omega arith
-
-pub slice_bounds-one-start : goal.slice_bounds-one-start
-slice_bounds-one-start c = omega arith
-
-pub slice_bounds-one-end : goal.slice_bounds-one-end
-slice_bounds-one-end c =
-    let a = c.args in
-    let h = c.requires in
-    let l = c.loop-t in
-    let f = place_fits a.e a.places.offset a.places.distance l.t a.places.count (length a.buffer.now) h.fits (omega arith) h.room in
-    omega (arith, f.2, l.invariant.1)
-
-pub one-requires : goal.one-requires
-one-requires c =
-    let a = c.args in
-    let h = c.requires in
-    let l = c.loop-t in
-    let at = a.places.offset + l.t * a.places.distance in
-    let f = place_fits a.e a.places.offset a.places.distance l.t a.places.count (length l.buffer) h.fits (omega arith) (omega (arith, h.room, l.invariant.1)) in (
-      omega (arith, h.count_high),
-      h.small,
-      omega (arith, h.width, lent_length l.buffer at a.e f.2),
-    )
-
-pub overflow_add-t : goal.overflow_add-t
-overflow_add-t c =
-    let h = c.requires in
-    omega (arith, h.count_high)
-
-pub loop-t-smaller : goal.loop-t-smaller
-loop-t-smaller c = omega arith
+loop-t-init c = (refl, λ k x few T. refl)
 
 pub loop-t-preserved : goal.loop-t-preserved
 loop-t-preserved c =
@@ -79,14 +21,13 @@ loop-t-preserved c =
     let l = c.loop-t in
     let row : List ℕ = c.one.new.part in
     let at = a.places.offset + l.t * a.places.distance in
-    let f = place_fits a.e a.places.offset a.places.distance l.t a.places.count (length l.buffer) h.fits (omega arith) (omega (arith, h.room, l.invariant.1)) in
+    let f = place_fits a.e a.places.offset a.places.distance l.t a.places.count (length l.buffer) h.fits (omega arith) (omega (arith, h.room, l.invariant.0)) in
     let o : OnePost a.k l.t a.choices.now a.table.now a.e row =
     subst (λ n. OnePost a.k l.t a.choices.now a.table.now n row) (lent_length l.buffer at a.e f.2) c.one.ensures in (
-      omega arith,
-      back_long at a.e l.buffer row o.size f.2 ∙ l.invariant.1,
+      back_long at a.e l.buffer row o.size f.2 ∙ l.invariant.0,
       λ k x few T.
           laid_next (λ r. combination a.k a.e x (k r)) a.e a.places.offset a.places.distance l.t a.buffer.now l.buffer row
-          (l.invariant.2 k x few T) (o.whole (k l.t) x few (T l.t (omega arith))),
+          (l.invariant.1 k x few T) (o.whole (k l.t) x few (T l.t (omega arith))),
     )
 
 pub returns : goal.returns
@@ -94,4 +35,4 @@ returns c =
     let a = c.args in
     let l = c.loop-t in
     let end : l.t ≡ a.places.count = omega arith in
-    λ k x few T. l.invariant.2 k x few T ∙ ap (λ n. laid (λ r. combination a.k a.e x (k r)) a.e a.places.offset a.places.distance n a.buffer.now) end
+    λ k x few T. l.invariant.1 k x few T ∙ ap (λ n. laid (λ r. combination a.k a.e x (k r)) a.e a.places.offset a.places.distance n a.buffer.now) end

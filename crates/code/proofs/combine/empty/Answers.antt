@@ -1,22 +1,17 @@
 -- `code::combine::empty` meets its contract.
-use mathlib.Core.Path.{refl, ◌∙◌}
+use mathlib.Core.Path.{◌∙◌}
 use native.Mathlib.Omega.{arith}
-use lib.ListN.{get_or, length-set, replicate}
-use Rattle.code.proofs.Filled.{filled_none, turn, done}
+use lib.ListN.{get_or, take}
+use lib.Seq.{get_or-take, length-take-le}
+use Rattle.laws.proofs.Bytes.{tabulate_cong}
 use Rattle.code.specs.inner.Combine.{empty}
+use Rattle.code.proofs.Filled.{itself}
 use Rattle.code.proofs.combine.empty.Goals as goal
-
-pub loop-j-init : goal.loop-j-init
-loop-j-init c = (omega arith, refl, filled_none _ _)
-
-pub loop-j-preserved : goal.loop-j-preserved
-loop-j-preserved c =
-    let at = c.loop-j in (
-      omega arith,
-      length-set at.r at.j _ ∙ at.invariant.1,
-      turn (λ i. get_or c.args.table.now i 0) at.j (replicate 64 0) at.r _ at.invariant.2 (omega arith) refl,
-    )
 
 pub returns : goal.returns
 unfolding empty
-returns c = let at = c.loop-j in done _ at.j (replicate 64 0) at.r at.invariant.2 (omega arith)
+returns c =
+    let table = c.args.table.now in
+    c.copy_from_slice.ensures.after
+    ∙ itself (take 64 table) 64 (length-take-le 64 table (omega arith))
+    ∙ tabulate_cong 64 (λ i. get_or (take 64 table) i 0) (λ i. get_or table i 0) (λ i h. get_or-take 64 table i 0 h)

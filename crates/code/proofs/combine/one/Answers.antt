@@ -1,18 +1,7 @@
 -- `code::combine::one` meets its contract.
-use Prim.Native.Nat.{◌+◌}
-use native.Mathlib.Omega.{arith}
 use lib.ListN.{length}
 use Rattle.code.proofs.Combining.{combined_one}
 use Rattle.code.proofs.combine.one.Goals as goal
-
-pub last-requires : goal.last-requires
-last-requires c =
-    let h = c.requires in
-    let t = c.args.t in (
-      (h.1 t (omega arith), h.1 (16 + t) (omega arith)),
-      (h.1 (32 + t) (omega arith), h.1 (48 + t) (omega arith)),
-      h.2,
-    )
 
 pub returns : goal.returns
 returns c =

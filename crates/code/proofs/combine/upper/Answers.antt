@@ -1,5 +1,4 @@
 -- `code::combine::upper` meets its contract: the row is the combination without its b last digits.
-use Prim.Native.Nat.{◌+◌, ◌*◌, ◌-◌}
 use mathlib.Core.Path.{◌≡◌, subst}
 use native.Mathlib.Omega.{arith}
 use Rattle.code.specs.inner.Combine.{Without}
@@ -11,18 +10,6 @@ loop-b-init c =
     let a = c.args in
     let h = c.requires in
     (omega arith, omega arith, without_all a.k a.t a.choices.now a.table.now h.0 h.1 _ c.empty-row.ensures)
-
-pub next-more-requires : goal.next-more-requires
-next-more-requires c =
-    let h = c.requires in
-    let at = 64 * (c.loop-b.b - 1) + c.args.t in
-    (h.1 at (omega arith), h.1 (at + 16) (omega arith))
-
-pub add-more-requires : goal.add-more-requires
-add-more-requires c =
-    let h = c.requires in
-    let at = 64 * (c.loop-b.b - 1) + c.args.t in
-    (h.1 (at + 32) (omega arith), h.1 (at + 48) (omega arith))
 
 pub loop-b-preserved-then-k-gt8 : goal.loop-b-preserved-then-k-gt8
 loop-b-preserved-then-k-gt8 c =

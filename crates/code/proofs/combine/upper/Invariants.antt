@@ -5,6 +5,3 @@ use Rattle.code.proofs.combine.upper.Given as goal
 
 abbrev pub invariant-loop-b : goal.invariant-loop-b
 invariant-loop-b l = (1 ≤ l.b) × (l.b ≤ 8) × Without l.k l.t l.choices l.table l.row l.b
-
-abbrev pub decreases-loop-b : goal.decreases-loop-b
-decreases-loop-b l = l.b

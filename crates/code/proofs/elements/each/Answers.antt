@@ -6,7 +6,6 @@ use native.Mathlib.Nat.{mul_comm}
 use native.Mathlib.Numerals as numerals
 use native.Mathlib.Omega.{arith}
 use lib.ListN.{length}
-use Rattle.laws.proofs.Parts.{lent_length}
 use Rattle.code.specs.Element.{element}
 use Rattle.code.specs.EncodeAll.{with_elements}
 use Rattle.code.specs.Laid.{laid}
@@ -16,78 +15,7 @@ use Rattle.code.proofs.elements.each.Goals as goal
 
 pub loop-t-init : goal.loop-t-init
 unfolding laid
-loop-t-init c = (omega arith, refl, refl)
-
-pub overflow_mul-at : goal.overflow_mul-at
-overflow_mul-at c =
-    let a = c.args in
-    let h = c.requires in
-    let l = c.loop-t in
-    let f =
-    place_fits a.cfg.e a.offset a.distance l.t a.cfg.n (length a.buffer.now) h.fits (omega arith)
-    (omega (arith, h.buffer_length, mul_comm a.distance a.cfg.n)) in
-    omega (arith, f.0)
-
-pub overflow_add-at : goal.overflow_add-at
-overflow_add-at c =
-    let a = c.args in
-    let h = c.requires in
-    let l = c.loop-t in
-    let f =
-    place_fits a.cfg.e a.offset a.distance l.t a.cfg.n (length a.buffer.now) h.fits (omega arith)
-    (omega (arith, h.buffer_length, mul_comm a.distance a.cfg.n)) in
-    omega (arith, f.1)
-
-pub overflow_add-t : goal.overflow_add-t
-overflow_add-t c = omega (arith, c.requires.valid.n_high)
-
-pub overflow_cast-t : goal.overflow_cast-t
-overflow_cast-t c = omega (arith, c.requires.valid.n_high)
-
-pub overflow_add-at-in-loop-t : goal.overflow_add-at-in-loop-t
-overflow_add-at-in-loop-t c =
-    let a = c.args in
-    let h = c.requires in
-    let l = c.loop-t in
-    let f =
-    place_fits a.cfg.e a.offset a.distance l.t a.cfg.n (length a.buffer.now) h.fits (omega arith)
-    (omega (arith, h.buffer_length, mul_comm a.distance a.cfg.n)) in
-    omega (arith, f.2)
-
-pub slice_bounds-one-count : goal.slice_bounds-one-count
-slice_bounds-one-count c = omega arith
-
-pub slice_bounds-one-start : goal.slice_bounds-one-start
-slice_bounds-one-start c = omega arith
-
-pub slice_bounds-one-end : goal.slice_bounds-one-end
-slice_bounds-one-end c =
-    let a = c.args in
-    let h = c.requires in
-    let l = c.loop-t in
-    let f =
-    place_fits a.cfg.e a.offset a.distance l.t a.cfg.n (length a.buffer.now) h.fits (omega arith)
-    (omega (arith, h.buffer_length, mul_comm a.distance a.cfg.n)) in
-    omega (arith, f.2, l.invariant.1)
-
-pub one-requires : goal.one-requires
-one-requires c =
-    let a = c.args in
-    let h = c.requires in
-    let l = c.loop-t in
-    let f =
-    place_fits a.cfg.e a.offset a.distance l.t a.cfg.n (length a.buffer.now) h.fits (omega arith)
-    (omega (arith, h.buffer_length, mul_comm a.distance a.cfg.n)) in
-    record {
-      valid = h.valid;
-      board-length = h.board-length;
-      part_length = lent_length l.buffer (a.offset + l.t * a.distance) a.cfg.e (omega (arith, f.2, l.invariant.1));
-      server_low = omega arith;
-      server_high = omega arith;
-    }
-
-pub loop-t-smaller : goal.loop-t-smaller
-loop-t-smaller c = omega arith
+loop-t-init c = (refl, refl)
 
 pub loop-t-preserved : goal.loop-t-preserved
 loop-t-preserved c =
@@ -100,11 +28,10 @@ loop-t-preserved c =
     let f =
     place_fits a.cfg.e a.offset a.distance l.t a.cfg.n (length a.buffer.now) h.fits (omega arith)
     (omega (arith, h.buffer_length, mul_comm a.distance a.cfg.n)) in (
-      omega arith,
       back_long (a.offset + l.t * a.distance) a.cfg.e l.buffer row
-          (ap length is ∙ length_element a.cfg a.board.now (suc l.t)) (omega (arith, f.2, l.invariant.1))
-          ∙ l.invariant.1,
-      laid_next (λ r. element a.cfg a.board.now (suc r)) a.cfg.e a.offset a.distance l.t a.buffer.now l.buffer row l.invariant.2 is,
+          (ap length is ∙ length_element a.cfg a.board.now (suc l.t)) (omega (arith, f.2, l.invariant.0))
+          ∙ l.invariant.0,
+      laid_next (λ r. element a.cfg a.board.now (suc r)) a.cfg.e a.offset a.distance l.t a.buffer.now l.buffer row l.invariant.1 is,
     )
 
 pub returns : goal.returns
@@ -113,4 +40,4 @@ returns c =
     let a = c.args in
     let l = c.loop-t in
     let end : l.t ≡ a.cfg.n = omega arith in
-    l.invariant.2 ∙ ap (λ n. laid (λ r. element a.cfg a.board.now (suc r)) a.cfg.e a.offset a.distance n a.buffer.now) end
+    l.invariant.1 ∙ ap (λ n. laid (λ r. element a.cfg a.board.now (suc r)) a.cfg.e a.offset a.distance n a.buffer.now) end

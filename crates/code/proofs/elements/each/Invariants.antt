@@ -1,5 +1,5 @@
 -- `code::elements::each` meets its contract: the first t elements are in their places.
-use Prim.Native.Nat.{suc, ◌-◌, ◌≤◌}
+use Prim.Native.Nat.{suc}
 use mathlib.Core.Path.{◌≡◌}
 use lib.ListN.{length}
 use Rattle.code.specs.Element.{element}
@@ -8,8 +8,5 @@ use Rattle.code.proofs.elements.each.Given as goal
 
 abbrev pub invariant-loop-t : goal.invariant-loop-t
 invariant-loop-t l =
-    (l.t ≤ l.cfg.n) × (length l.buffer ≡ length l.initial.buffer)
+    (length l.buffer ≡ length l.initial.buffer)
     × (l.buffer ≡ laid (λ r. element l.cfg l.board (suc r)) l.cfg.e l.offset l.distance l.t l.initial.buffer)
-
-abbrev pub decreases-loop-t : goal.decreases-loop-t
-decreases-loop-t l = l.cfg.n - l.t

@@ -1,61 +1,34 @@
 -- `code::inverse::invert` meets its contract: the coefficients from i on are divided; then all are, and are scaled.
-use Prim.Native.Nat.{◌-◌}
+use Prim.Native.Nat.{◌+◌, ◌-◌}
 use mathlib.Core.Path.{◌≡◌, refl, ap, subst, ◌∙◌}
 use native.Mathlib.Omega.{arith}
 use lib.ListN.{get_or, take, replicate}
 use Rattle.code.specs.Element.{byte_field}
 use Rattle.code.specs.Polynomial.{roots}
+use Rattle.code.specs.inner.Lanes.{advanced}
 use Rattle.code.proofs.Advanced.{numbers_at, numbers_small}
 use Rattle.code.proofs.Division.{Divided, begins, turns, ends}
 use Rattle.code.proofs.inverse.invert.Goals as goal
-
-pub overflow_sub-i : goal.overflow_sub-i
-overflow_sub-i c = c.requires.low
-
-pub offset_bounds-inverse-i : goal.offset_bounds-inverse-i
-offset_bounds-inverse-i c = omega (arith, c.requires.low, c.requires.high)
-
-pub bounds-inverse-i : goal.bounds-inverse-i
-bounds-inverse-i c = omega (arith, c.requires.low, c.requires.high)
 
 pub loop-i-init : goal.loop-i-init
 loop-i-init c =
     let start = c in
     begins start.args.k start.args.servers.now start.requires c.lanes-s.result (start.args.k - 1) (omega (arith, start.requires.low)) (replicate 16 (replicate 16 0)) refl
 
-pub bounds-p-i : goal.bounds-p-i
-bounds-p-i c = omega (arith, c.loop-i.invariant.bound, c.requires.high)
-
 pub advance-w-requires : goal.advance-w-requires
 advance-w-requires c = λ t. rw c.lanes-s.ensures (numbers_small c.args.k c.args.servers.now c.requires t)
-
-pub overflow_sub-i-in-loop-i : goal.overflow_sub-i-in-loop-i
-overflow_sub-i-in-loop-i c = omega arith
-
-pub offset_bounds-inverse-i-in-loop-i : goal.offset_bounds-inverse-i-in-loop-i
-offset_bounds-inverse-i-in-loop-i c = omega (arith, c.loop-i.invariant.bound, c.loop-i.invariant.size, c.requires.high)
-
-pub bounds-inverse-i-in-loop-i : goal.bounds-inverse-i-in-loop-i
-bounds-inverse-i-in-loop-i c = omega (arith, c.loop-i.invariant.bound, c.loop-i.invariant.size, c.requires.high)
 
 pub advance-w-requires-in-loop-i : goal.advance-w-requires-in-loop-i
 advance-w-requires-in-loop-i c = λ t. rw c.lanes-s.ensures (numbers_small c.args.k c.args.servers.now c.requires t)
 
-pub loop-i-smaller : goal.loop-i-smaller
-loop-i-smaller c = omega arith
-
 pub loop-i-preserved : goal.loop-i-preserved
 loop-i-preserved c =
     let at = c.loop-i in
+    let one : at.i - 1 + 1 ≡ at.i = omega arith in
     turns c.args.k c.args.servers.now c.requires c.lanes-s.result at.i at.inverse at.q at.v c.roots-p.result
-    c.advance-w.result c.advance-w-in-loop-i.result c.loop-i-test.true c.roots-p.ensures
-    c.advance-w.ensures c.advance-w-in-loop-i.ensures at.invariant
-
-pub inverted-requires : goal.inverted-requires
-inverted-requires c = c.requires.high
-
-pub scale-requires : goal.scale-requires
-scale-requires c = (c.requires.high, c.loop-i.invariant.size)
+    c.advance-w.result c.advance-w-in-loop-i.result (omega arith) c.roots-p.ensures
+    (subst (λ n. c.advance-w.result ≡ advanced at.q c.lanes-s.result (replicate 16 (get_or c.roots-p.result n 0))) one c.advance-w.ensures)
+    c.advance-w-in-loop-i.ensures at.invariant
 
 pub returns : goal.returns
 returns c =

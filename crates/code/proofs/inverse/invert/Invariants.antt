@@ -7,6 +7,3 @@ use Rattle.code.proofs.inverse.invert.Given as goal
 
 abbrev pub invariant-loop-i : goal.invariant-loop-i
 invariant-loop-i l = Divided l.k (roots byte_field (take l.k l.servers)) l.s l.i l.inverse l.q l.v
-
-abbrev pub decreases-loop-i : goal.decreases-loop-i
-decreases-loop-i l = l.i

@@ -1,8 +1,8 @@
 -- `code::inverse::scale` meets its contract: the rows before i are scaled.
-use Prim.Native.Nat.{ℕ, ◌≤◌, ◌-◌}
+use Prim.Native.Nat.{ℕ}
 use mathlib.Core.Path.{◌≡◌}
 use mathlib.Core.List.{List, []}
-use lib.ListN.{length, get_or}
+use lib.ListN.{get_or}
 use Rattle.code.specs.inner.Lanes.{scaled_lanes}
 use Rattle.code.proofs.Filled.{filled}
 use Rattle.code.proofs.inverse.scale.Given as goal
@@ -12,8 +12,4 @@ unfoldable pub each : List (List ℕ) → List ℕ → ℕ → List ℕ
 each rows d i = scaled_lanes (get_or rows i []) d
 
 abbrev pub invariant-loop-i : goal.invariant-loop-i
-invariant-loop-i l =
-    (l.i ≤ l.k) × (length l.rows ≡ 16) × (length l.initial.rows ≡ 16) × (l.rows ≡ filled (each l.initial.rows l.d) l.i l.initial.rows)
-
-abbrev pub decreases-loop-i : goal.decreases-loop-i
-decreases-loop-i l = l.k - l.i
+invariant-loop-i l = l.rows ≡ filled (each l.initial.rows l.d) l.i l.initial.rows

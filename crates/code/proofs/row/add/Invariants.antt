@@ -1,8 +1,8 @@
 -- `code::row::add` meets its contract: to the bytes before j it is added, those from j on are as they were.
-use Prim.Native.Nat.{ℕ, ◌≤◌, ◌-◌}
+use Prim.Native.Nat.{ℕ}
 use mathlib.Core.Path.{◌≡◌}
 use mathlib.Core.List.{List}
-use lib.ListN.{length, get_or}
+use lib.ListN.{get_or}
 use Rattle.field.specs.Field.{plus}
 use Rattle.code.proofs.Filled.{filled}
 use Rattle.code.proofs.Tabled.{chosen}
@@ -13,7 +13,4 @@ unfoldable pub each : List ℕ → ℕ → List ℕ → ℕ → ℕ
 each row c table j = plus (get_or row j 0) (chosen c table j)
 
 abbrev pub invariant-loop-j : goal.invariant-loop-j
-invariant-loop-j l = (l.j ≤ length l.initial.row) × (length l.row ≡ length l.initial.row) × (l.row ≡ filled (each l.initial.row l.c l.table) l.j l.initial.row)
-
-abbrev pub decreases-loop-j : goal.decreases-loop-j
-decreases-loop-j l = length l.initial.row - l.j
+invariant-loop-j l = l.row ≡ filled (each l.initial.row l.c l.table) l.j l.initial.row

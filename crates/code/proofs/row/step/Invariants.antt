@@ -1,8 +1,8 @@
 -- `code::row::step` meets its contract: the bytes before j are stepped, those from j on are as they were.
-use Prim.Native.Nat.{ℕ, ◌≤◌, ◌-◌}
+use Prim.Native.Nat.{ℕ}
 use mathlib.Core.Path.{◌≡◌}
 use mathlib.Core.List.{List}
-use lib.ListN.{length, get_or}
+use lib.ListN.{get_or}
 use Rattle.field.specs.Field.{plus, times}
 use Rattle.code.proofs.Filled.{filled}
 use Rattle.code.proofs.row.step.Given as goal
@@ -12,8 +12,4 @@ unfoldable pub each : List ℕ → ℕ → List ℕ → ℕ → ℕ
 each row s more j = plus (get_or more j 0) (times s (get_or row j 0))
 
 abbrev pub invariant-loop-j : goal.invariant-loop-j
-invariant-loop-j l =
-    (l.j ≤ length l.more) × (length l.row ≡ length l.initial.row) × (length l.initial.row ≡ length l.more) × (l.row ≡ filled (each l.initial.row l.s l.more) l.j l.initial.row)
-
-abbrev pub decreases-loop-j : goal.decreases-loop-j
-decreases-loop-j l = length l.more - l.j
+invariant-loop-j l = l.row ≡ filled (each l.initial.row l.s l.more) l.j l.initial.row

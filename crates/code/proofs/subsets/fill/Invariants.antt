@@ -1,10 +1,6 @@
 -- `code::subsets::fill` meets its contract: the table has the sums of the groups before g.
-use Prim.Native.Nat.{◌-◌, ◌≤◌}
 use Rattle.code.proofs.SubsetLaws.{Filling}
 use Rattle.code.proofs.subsets.fill.Given as goal
 
 abbrev pub invariant-loop-g : goal.invariant-loop-g
-invariant-loop-g l = (l.g ≤ 4) × Filling l.e l.g l.rows l.table
-
-abbrev pub decreases-loop-g : goal.decreases-loop-g
-decreases-loop-g l = 4 - l.g
+invariant-loop-g l = Filling l.e l.g l.rows l.table

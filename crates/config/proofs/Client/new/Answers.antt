@@ -1,18 +1,17 @@
-use mathlib.Core.Path.{refl}
-use Rattle.config.specs.Config.{questions}
+use Rattle.std.proofs.lemmas.Result.{err_from_is_err_and}
 use Rattle.config.specs.Number.{client_questions}
-use Rattle.config.specs.Questions.{numbered}
 use Rattle.config.proofs.Number.{made, not_made}
 use Rattle.config.proofs.Client.new.Goals as goal
 
-pub returns-then-no-ne0 : goal.returns-then-no-ne0
-unfolding numbered questions client_questions
-returns-then-no-ne0 c =
+pub returns-in_err-ask_then : goal.returns-in_err-ask_then
+unfolding client_questions
+returns-in_err-ask_then c =
     let a = c.args in
-    not_made (client_questions a.cfg a.c) a.c c.ask_then-no.ensures refl c.if-no-ne0.true c.of.ensures
+    let p = err_from_is_err_and c.from_residual.result c.from_residual.ensures.1 in
+    rw (p.1, p.2) (not_made (client_questions a.cfg a.c) a.c _ c.in_err-ask_then.ensures)
 
 pub returns : goal.returns
 unfolding client_questions
 returns c =
     let a = c.args in
-    made (client_questions a.cfg a.c) a.c c.ask_then-no.ensures c.if-no-ne0.false
+    made (client_questions a.cfg a.c) a.c c.in_ok-ask_then.ensures

@@ -1,25 +1,28 @@
-use mathlib.Core.Path.{sym, ap, ap₂, ◌∙◌}
+use mathlib.Core.Path.{refl, sym, ap, ap₂, ◌∙◌}
 use mathlib.Core.Bool.{◌&&◌}
 use mathlib.Core.List.{[], ◌∷◌}
 use borrow.Author.Tests.{not-true, not-false}
 use lib.Dec.{leb}
 use Rattle.config.specs.Questions.{ask, first_no}
 use Rattle.config.specs.Room.{most_boards, room_questions, room_within, shares_sum}
-use Rattle.config.proofs.Questions.{rig_early, rig_later, first_no_no, first_no_yes, within_high}
+use Rattle.config.specs.Config.{rig_questions}
+use Rattle.config.proofs.Exits.{stopped}
+use Rattle.config.proofs.Questions.{rig_later, first_no_no, first_no_yes, within_high}
 use Rattle.config.proofs.Config.ask_room.Goals as goal
 
-pub returns-then-asked-ne0 : goal.returns-then-asked-ne0
+pub returns-in_err-ask_rig : goal.returns-in_err-ask_rig
 unfolding room_questions
-returns-then-asked-ne0 c =
+returns-in_err-ask_rig c =
     let a = c.args in
-    rig_early a.self a.room.m c.ask_rig-asked.ensures c.if-asked-ne0.true (ask 22 (room_within a.room) ∷ [])
+    let x = c.from_residual in
+    stopped x.result _ (rig_questions a.self a.room.m) (ask 22 (room_within a.room) ∷ []) x.ensures.1 c.in_err-ask_rig.ensures
 
 pub returns-then-not-within : goal.returns-then-not-within
 unfolding room_questions room_within
 returns-then-not-within c =
     let a = c.args in
     let room = a.room in
-    rig_later a.self room.m c.ask_rig-asked.ensures c.if-asked-ne0.false (ask 22 (room_within room) ∷ [])
+    rig_later a.self room.m c.in_ok-ask_rig.ensures refl (ask 22 (room_within room) ∷ [])
     (sym (first_no_no 22 (room_within room) []
     (ap (λ b. b && leb (shares_sum room) room.m) (sym c.within.ensures ∙ not-true _ c.if-not-within.true-raw))))
 
@@ -33,7 +36,7 @@ unfolding room_questions room_within
 returns-then-not-shares_fit c =
     let a = c.args in
     let room = a.room in
-    rig_later a.self room.m c.ask_rig-asked.ensures c.if-asked-ne0.false
+    rig_later a.self room.m c.in_ok-ask_rig.ensures refl
     (ask 22 (room_within room) ∷ [])
     (sym (first_no_no 22 (room_within room) []
     (ap₂ ◌&&◌ (sym c.within.ensures ∙ not-false _ c.if-not-within.false-raw)
@@ -44,7 +47,7 @@ unfolding room_questions room_within first_no
 returns c =
     let a = c.args in
     let room = a.room in
-    rig_later a.self room.m c.ask_rig-asked.ensures c.if-asked-ne0.false
+    rig_later a.self room.m c.in_ok-ask_rig.ensures refl
     (ask 22 (room_within room) ∷ [])
     (sym (first_no_yes 22 (room_within room) []
     (ap₂ ◌&&◌ (sym c.within.ensures ∙ not-false _ c.if-not-within.false-raw)

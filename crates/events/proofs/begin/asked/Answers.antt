@@ -1,5 +1,7 @@
-use mathlib.Core.Path.{sym, ◌∙◌}
+use mathlib.Core.Path.{refl, sym, ◌∙◌}
 use borrow.Author.Tests.{not-true, not-false}
+use Rattle.config.proofs.Exits.{exits}
+use Rattle.config.proofs.Refusals.{refusal_some}
 use Rattle.events.proofs.begin.Laws.{asked_full, asked_idle, asked_missing, asked_room}
 use Rattle.events.proofs.begin.asked.Goals as goal
 
@@ -13,14 +15,15 @@ returns-then-part-cfg c =
     let a = c.args in
     asked_room a.cfg a.m a.part a.party (sym c.client_exists.ensures ∙ not-false _ c.if-not-client_exists.false-raw) c.if-part-cfg.true
 
-pub returns-then-no-ne0 : goal.returns-then-no-ne0
-returns-then-no-ne0 c =
+pub returns-in_err-ask_begin : goal.returns-in_err-ask_begin
+returns-in_err-ask_begin c =
     let a = c.args in
-    asked_idle a.cfg a.m a.part a.party (sym c.client_exists.ensures ∙ not-false _ c.if-not-client_exists.false-raw) c.if-part-cfg.false
-    c.ask_begin-no.result c.ask_begin-no.ensures c.if-no-ne0.true
+    exits c.from_residual.result _ c.from_residual.ensures.1
+    ∙ asked_idle a.cfg a.m a.part a.party (sym c.client_exists.ensures ∙ not-false _ c.if-not-client_exists.false-raw) c.if-part-cfg.false
+    _ c.in_err-ask_begin.ensures (refusal_some _ c.in_err-ask_begin.ensures).0
 
 pub returns : goal.returns
 returns c =
     let a = c.args in
     asked_full a.cfg a.m a.part a.party (sym c.client_exists.ensures ∙ not-false _ c.if-not-client_exists.false-raw) c.if-part-cfg.false
-    c.ask_begin-no.result c.ask_begin-no.ensures c.if-no-ne0.false
+    0 c.in_ok-ask_begin.ensures refl

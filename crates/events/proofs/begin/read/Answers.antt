@@ -1,5 +1,4 @@
 use Prim.Native.Nat.{◌*◌}
-use mathlib.Core.Path.{sym, ◌∙◌}
 use mathlib.Core.List.{[]}
 use native.Mathlib.Omega.{arith}
 use Rattle.laws.proofs.Parts.{lent_is, over_lent}
@@ -7,14 +6,13 @@ use Rattle.events.proofs.begin.Laws.{asked_yes, read_acted, read_refused}
 use Rattle.events.proofs.outcome.Laws.{sent_room}
 use Rattle.events.proofs.begin.read.Goals as goal
 
-pub asked-no-requires : goal.asked-no-requires
-asked-no-requires c = let s = c in (s.requires.part.valid, s.requires.part.few)
+pub asked-requires : goal.asked-requires
+asked-requires c = let s = c in (s.requires.part.valid, s.requires.part.few)
 
-pub returns-then-no-ne0 : goal.returns-then-no-ne0
-returns-then-no-ne0 c =
+pub returns-in-Err : goal.returns-in-Err
+returns-in-Err c =
     let a = c.args in
-    read_refused a.cfg a.m a.part a.call a.messages.now c.refused.result c.asked-no.result c.of.result
-    c.if-no-ne0.true c.of.ensures c.refused.ensures c.asked-no.ensures
+    read_refused a.cfg a.m a.part a.call a.messages.now c.refused.result _ c.refused.ensures c.in-Err.ensures
 
 pub overflow_mul-from : goal.overflow_mul-from
 overflow_mul-from c = let s = c in omega (arith, s.requires.part.few)
@@ -29,7 +27,7 @@ pub slice_bounds-read-end : goal.slice_bounds-read-end
 slice_bounds-read-end c =
     let s = c in
     let a = s.args in
-    omega (arith, s.requires.long, (asked_yes a.cfg a.m a.part a.call.party (sym c.if-no-ne0.false ∙ c.asked-no.ensures)).1)
+    omega (arith, s.requires.long, (asked_yes a.cfg a.m a.part a.call.party c.in_default.ensures).1)
 
 pub overflow_add-count : goal.overflow_add-count
 overflow_add-count c =
@@ -42,7 +40,7 @@ returns c =
     let a = s.args in
     let n = a.part.count in
     let w = c.read-acted in
-    read_acted a.cfg a.m a.part a.call a.messages.now c.acted.result (sym c.if-no-ne0.false ∙ c.asked-no.ensures)
+    read_acted a.cfg a.m a.part a.call a.messages.now c.acted.result c.in_default.ensures
     s.requires.long w.result _ w.new.sends _ c.acted.ensures (lent_is a.messages.now (80 * n) (80 * a.cfg.n))
     (over_lent (80 * n) (80 * a.cfg.n) w.new.sends a.messages.now)
     c.messages-1.given.0 w.ensures

@@ -1,5 +1,4 @@
 use Prim.Native.Nat.{◌*◌}
-use mathlib.Core.Path.{sym, ◌∙◌}
 use mathlib.Core.List.{[]}
 use native.Mathlib.Omega.{arith}
 use Rattle.laws.proofs.Parts.{lent_is, over_lent, part_fits}
@@ -10,14 +9,13 @@ use Rattle.events.proofs.begin.Laws.{asked_yes, write_acted, write_refused, writ
 use Rattle.events.proofs.outcome.Laws.{sent_room}
 use Rattle.events.proofs.begin.write.Goals as goal
 
-pub write_asked-no-requires : goal.write_asked-no-requires
-write_asked-no-requires c = let s = c in (s.requires.0.part.valid, s.requires.0.part.few)
+pub write_asked-requires : goal.write_asked-requires
+write_asked-requires c = let s = c in (s.requires.0.part.valid, s.requires.0.part.few)
 
-pub returns-then-no-ne0 : goal.returns-then-no-ne0
-returns-then-no-ne0 c =
+pub returns-in-Err : goal.returns-in-Err
+returns-in-Err c =
     let a = c.args in
-    write_refused a.cfg a.m a.part a.call a.messages.now c.refused.result c.write_asked-no.result c.of.result
-    c.if-no-ne0.true c.of.ensures c.refused.ensures c.write_asked-no.ensures a.board.now a.boards.now
+    write_refused a.cfg a.m a.part a.call a.messages.now c.refused.result _ c.refused.ensures c.in-Err.ensures a.board.now a.boards.now
 
 pub overflow_mul-from : goal.overflow_mul-from
 overflow_mul-from c = let s = c in omega (arith, s.requires.0.part.few)
@@ -53,7 +51,7 @@ pub slice_bounds-write-end-2 : goal.slice_bounds-write-end-2
 slice_bounds-write-end-2 c =
     let s = c in
     let a = s.args in
-    omega (arith, s.requires.0.long, (asked_yes a.cfg a.m a.part a.call.party (write_yes a.cfg a.m a.part a.call (sym c.if-no-ne0.false ∙ c.write_asked-no.ensures)).1).1)
+    omega (arith, s.requires.0.long, (asked_yes a.cfg a.m a.part a.call.party (write_yes a.cfg a.m a.part a.call c.in_default.ensures).1).1)
 
 pub overflow_add-count : goal.overflow_add-count
 overflow_add-count c =
@@ -67,7 +65,7 @@ returns c =
     let n = a.part.count in
     let v = board_length a.cfg in
     let w = c.write-acted in
-    let asked = write_yes a.cfg a.m a.part a.call (sym c.if-no-ne0.false ∙ c.write_asked-no.ensures) in
+    let asked = write_yes a.cfg a.m a.part a.call c.in_default.ensures in
     write_acted a.cfg a.m a.part a.call a.messages.now c.acted.result asked.1
     s.requires.0.long w.result _ w.new.sends _ c.acted.ensures (lent_is a.messages.now (80 * n) (80 * a.cfg.n))
     (over_lent (80 * n) (80 * a.cfg.n) w.new.sends a.messages.now) c.messages-1.given.0

@@ -1,4 +1,3 @@
-use borrow.Author.Rules.{rules}
 use native.Mathlib.Omega.{arith}
 use Rattle.record.specs.Record.{four_bytes, two_bytes}
 use Rattle.host.specs.Outcome.{outcome_row}

@@ -1,6 +1,19 @@
-use borrow.Author.Rules.{rules}
-use Rattle.host.proofs.told.Laws.{client_told}
+use mathlib.Core.Path.{sym, ap, ◌∙◌}
+use Rattle.config.specs.Refusal.{verdict_number}
+use Rattle.states.specs.Clients.{unpack_questions}
+use Rattle.host.specs.Config.{client_questions}
+use Rattle.host.proofs.told.Laws.{refused, client_given, unread}
 use Rattle.host.proofs.told.client.Goals as goal
 
+pub returns-in_err-cfg : goal.returns-in_err-cfg
+unfolding client_questions
+returns-in_err-cfg c = unread _ (λ cfg. unpack_questions cfg c.args.state.now) _ _ _ c.from_residual.ensures.1 c.in_err-cfg.ensures
+
+pub returns-in_err-told : goal.returns-in_err-told
+unfolding client_questions
+returns-in_err-told c =
+    refused _ (λ cfg. unpack_questions cfg c.args.state.now) _ c.in_ok-cfg.ensures _ _ c.from_residual-in_err-told.ensures.1
+    (sym (ap verdict_number c.in_err-told.was) ∙ c.unpack-told.ensures.number)
+
 pub returns : goal.returns
-returns c = client_told _ _ c.read-asked.ensures _ _ c.first.ensures _ _ c.unpack-told.ensures c.number.ensures
+returns c = client_given _ _ c.in_ok-cfg.ensures _ c.unpack-told.ensures (sym (ap verdict_number c.in_ok-told.was))

@@ -1,6 +1,5 @@
 -- `maker::draw::position` meets its contract. Assumes nothing.
 use borrow.Author.Tests.{eq-eqb, ne_eqb}
-use borrow.Author.Rules.{rules}
 use Rattle.maker.proofs.draw.position.Goals as goal
 
 pub returns-then-in_flight-eq0 : goal.returns-then-in_flight-eq0

@@ -1,6 +1,5 @@
 -- `maker::draw::take` meets its contract. Assumes nothing.
 use Rattle.maker.proofs.Drawn.{hands, reads, writes}
-use borrow.Author.Rules.{rules}
 use Rattle.maker.proofs.draw.take.Goals as goal
 
 pub returns-then-code-eq1 : goal.returns-then-code-eq1

@@ -1,7 +1,6 @@
 -- `maker::step::step` meets its contract. Assumes nothing.
 use mathlib.Core.Path.{refl}
 use Rattle.maker.proofs.Stepped.{stepped}
-use borrow.Author.Rules.{rules}
 use Rattle.maker.proofs.step.step.Goals as goal
 
 pub returns : goal.returns

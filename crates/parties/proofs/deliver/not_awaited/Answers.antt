@@ -9,4 +9,4 @@ returns-in_default c = sym (ap (λ v. eqb (verdict_number v) 14) c.in_default.is
 pub returns : goal.returns
 returns c =
     ap (λ n. eqb n 14) c.number.ensures
-    ∙ sym (ap (λ v. eqb (verdict_number v) 14) c.in-No.is)
+    ∙ sym (ap (λ v. eqb (verdict_number v) 14) c.in-Err.is)

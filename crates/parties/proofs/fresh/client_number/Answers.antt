@@ -1,20 +1,13 @@
-use mathlib.Core.Path.{sym, ◌∙◌}
-use mathlib.Core.Bool.{true≢false}
-use Rattle.record.proofs.Parties.{no_client, some_client}
+use Rattle.record.proofs.Parties.{some_client}
+use Rattle.parties.proofs.Making.{some_client_made}
 use Rattle.parties.proofs.fresh.client_number.Goals as goal
 
-pub loop-init : goal.loop-init
-loop-init c =
-    let s = c in
-    true≢false (sym s.requires.1 ∙ no_client s.args.cfg s.args.c s.requires.0 _ _ c.new.ensures c.in_default.is)
-
-pub loop-smaller : goal.loop-smaller
-loop-smaller c = absurd c.loop.invariant
-
-pub loop-preserved : goal.loop-preserved
-loop-preserved c = c.loop.invariant
+pub unwrap-requires : goal.unwrap-requires
+unwrap-requires c =
+    let a = c.args in
+    some_client_made a.cfg a.c c.requires.0 _ c.new.ensures c.requires.1
 
 pub returns : goal.returns
 returns c =
     let a = c.args in
-    (some_client a.cfg a.c _ _ c.new.ensures c.in-Made.is).1
+    (some_client a.cfg a.c _ _ c.new.ensures c.unwrap.ensures).1

@@ -1,20 +1,13 @@
-use mathlib.Core.Path.{sym, ◌∙◌}
-use mathlib.Core.Bool.{true≢false}
-use Rattle.record.proofs.Parties.{no-server, some_server}
+use Rattle.record.proofs.Parties.{some_server}
+use Rattle.parties.proofs.Making.{some_server_made}
 use Rattle.parties.proofs.fresh.server_number.Goals as goal
 
-pub loop-init : goal.loop-init
-loop-init c =
-    let s = c in
-    true≢false (sym s.requires.1 ∙ no-server s.args.cfg s.args.s s.requires.0 _ _ c.new.ensures c.in_default.is)
-
-pub loop-smaller : goal.loop-smaller
-loop-smaller c = absurd c.loop.invariant
-
-pub loop-preserved : goal.loop-preserved
-loop-preserved c = c.loop.invariant
+pub unwrap-requires : goal.unwrap-requires
+unwrap-requires c =
+    let a = c.args in
+    some_server_made a.cfg a.s c.requires.0 _ c.new.ensures c.requires.1
 
 pub returns : goal.returns
 returns c =
     let a = c.args in
-    (some_server a.cfg a.s _ _ c.new.ensures c.in-Made.is).1
+    (some_server a.cfg a.s _ _ c.new.ensures c.unwrap.ensures).1

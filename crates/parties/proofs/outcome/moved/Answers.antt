@@ -11,4 +11,4 @@ returns-in_default c =
 pub returns : goal.returns
 returns c =
     let a = c.args in
-    c.refused.ensures ∙ sym (ap (λ v. moved_on v a.pair a.y) c.in-No.is)
+    c.refused.ensures ∙ sym (ap (λ v. moved_on v a.pair a.y) c.in-Err.is)

@@ -20,7 +20,7 @@ pub overflow_mul-long : goal.overflow_mul-long
 overflow_mul-long c = omega (arith, store_small c.args.cfg c.requires.valid)
 
 pub loop-i-init : goal.loop-i-init
-loop-i-init c = record { high = omega arith; fresh = λ j h. absurd (omega (arith, h)); places = omega arith; same = refl }
+loop-i-init c = record { fresh = λ j h. absurd (omega (arith, h)); places = omega arith; same = refl }
 
 pub overflow_mul-at : goal.overflow_mul-at
 overflow_mul-at c =
@@ -34,32 +34,11 @@ overflow_add-end c =
     let l = c.loop-i in
     omega (arith, part_fits l.i s.args.cfg.n (store_length s.args.cfg) c.loop-i-test.true, stores_small s.args.cfg s.requires.valid, s.requires.stores_length, l.invariant.same)
 
-pub overflow_add-i : goal.overflow_add-i
-overflow_add-i c = omega (arith, c.loop-i-test.true, c.requires.valid.n_high)
-
-pub overflow_cast-i : goal.overflow_cast-i
-overflow_cast-i c = omega (arith, c.loop-i-test.true, c.requires.valid.n_high)
-
-pub slice_bounds-server-count : goal.slice_bounds-server-count
-slice_bounds-server-count c = omega arith
-
-pub slice_bounds-server-start : goal.slice_bounds-server-start
-slice_bounds-server-start c = omega arith
-
 pub slice_bounds-server-end : goal.slice_bounds-server-end
 slice_bounds-server-end c =
     let s = c in
     let l = c.loop-i in
     omega (arith, part_fits l.i s.args.cfg.n (store_length s.args.cfg) c.loop-i-test.true, stores_small s.args.cfg s.requires.valid, s.requires.stores_length, l.invariant.same)
-
-pub bounds-nodes-i : goal.bounds-nodes-i
-bounds-nodes-i c = omega (arith, c.loop-i-test.true, c.requires.valid.n_high)
-
-pub overflow_add-i-in-loop-i : goal.overflow_add-i-in-loop-i
-overflow_add-i-in-loop-i c = omega (arith, c.loop-i-test.true, c.requires.valid.n_high)
-
-pub loop-i-smaller : goal.loop-i-smaller
-loop-i-smaller c = omega (arith, c.loop-i-test.true)
 
 pub loop-i-preserved : goal.loop-i-preserved
 loop-i-preserved c =
@@ -75,7 +54,6 @@ loop-i-preserved c =
     (within_true 1 s.args.cfg.n (l.i + 1) (omega arith) (omega (arith, below))) s.requires.start_length
     (lent_length l.stores at wide (omega (arith, fits, s.requires.stores_length, l.invariant.same))) in
     record {
-      high = omega (arith, below);
       fresh =
           servers_more s.args.cfg s.args.start.now l.i l.nodes o.result.node l.stores o.new.store
           (omega (arith, fits, s.requires.stores_length, l.invariant.same)) o.ensures none refl
@@ -92,6 +70,6 @@ returns c =
     let s = c in
     let l = c.loop-i in
     record {
-      fresh = subst (λ n. FreshServers s.args.cfg s.args.start.now n l.nodes l.stores) (omega (arith, l.invariant.high, c.loop-i-test.false)) l.invariant.fresh;
+      fresh = subst (λ n. FreshServers s.args.cfg s.args.start.now n l.nodes l.stores) (omega arith) l.invariant.fresh;
       long = l.invariant.same;
     }

@@ -2,7 +2,7 @@ use mathlib.Core.Option.{some}
 use mathlib.Core.Path.{◌∙◌}
 use native.Mathlib.Omega.{arith}
 use Rattle.parties.specs.Within.{server_in_place}
-use Rattle.parties.proofs.questions.Laws.{place_told}
+use Rattle.parties.proofs.questions.Laws.{place_ok}
 use Rattle.rig.proofs.within.Laws.{is_asked, not_asked}
 use Rattle.rig.proofs.within.server.Goals as goal
 
@@ -14,4 +14,4 @@ returns c =
     let s = c in
     let a = s.args in
     let holds = server_in_place a.cfg a.i (some a.x) in
-    place_told a.cfg s.requires holds _ c.server.ensures ∙ is_asked a.cfg.n a.i holds (omega (arith, c.if-cfg-i.false))
+    c.is_ok.ensures.value ∙ place_ok a.cfg s.requires holds _ c.server.ensures ∙ is_asked a.cfg.n a.i holds (omega (arith, c.if-cfg-i.false))

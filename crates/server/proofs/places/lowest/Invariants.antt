@@ -1,12 +1,8 @@
-use Rattle.std.proofs.Common.{◌≡◌, ◌-◌, ◌≤◌}
+use Rattle.std.proofs.Common.{◌≡◌, drop}
 use Rattle.server.specs.inner.Places.{least_from}
-use Rattle.server.specs.View.{each, tag_at}
 use Rattle.server.proofs.places.lowest.Given as goal
 
 -- the answer from the start is the answer from here
 abbrev pub invariant-loop-i : goal.invariant-loop-i
 invariant-loop-i l =
-    (l.i ≤ l.count) × (least_from l.cfg l.initial.tag l.initial.place 0 (each (tag_at l.tags) 0 l.count) ≡ least_from l.cfg l.tag l.place l.i (each (tag_at l.tags) l.i (l.count - l.i)))
-
-abbrev pub decreases-loop-i : goal.decreases-loop-i
-decreases-loop-i l = l.count - l.i
+    least_from l.cfg l.initial.tag l.initial.place 0 l.x-items ≡ least_from l.cfg l.tag l.place l.i (drop l.i l.x-items)

@@ -7,9 +7,5 @@ use Rattle.server.proofs.serve.respond.Goals as goal
 pub returns : goal.returns
 unfolding with_element reply
 returns c =
-    let s = c in
-    record {
-      number = refl;
-      state = refl;
-      answer = (was_written s.args.cfg _ _ s.requires.valid s.requires.eighty s.requires.of_config s.requires.fits _ _ c.write.ensures).1;
-    }
+    let w = was_written c.args.cfg _ _ c.requires.valid c.requires.eighty c.requires.of_config c.requires.fits _ _ c.write-verdict.ensures in
+    record { number = w.0; state = refl; answer = w.1 }

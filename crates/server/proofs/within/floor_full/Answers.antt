@@ -3,7 +3,7 @@ use borrow.Author.Tests.{not-true, not-false}
 use Rattle.server.proofs.within.floor_full.Goals as goal
 
 pub returns-then-not-allowed : goal.returns-then-not-allowed
-returns-then-not-allowed c = rw (c.in-At.is, sym c.allowed.ensures ∙ not-true _ c.if-not-allowed.true-raw)
+returns-then-not-allowed c = rw (c.in-Some.is, sym c.allowed.ensures ∙ not-true _ c.if-not-allowed.true-raw)
 
 pub returns : goal.returns
-returns c = rw (c.in-At.is, sym c.allowed.ensures ∙ not-false _ c.if-not-allowed.false-raw)
+returns c = rw (c.in-Some.is, sym c.allowed.ensures ∙ not-false _ c.if-not-allowed.false-raw)

@@ -6,6 +6,3 @@ use Rattle.server.proofs.within.once.Given as goal
 -- the answer from the start is the answer from here
 abbrev pub invariant-loop-i : goal.invariant-loop-i
 invariant-loop-i l = (l.i ≤ l.count) × (once (each (tag_at l.tags) 0 l.count) ≡ once (each (tag_at l.tags) l.i (l.count - l.i)))
-
-abbrev pub decreases-loop-i : goal.decreases-loop-i
-decreases-loop-i l = l.count - l.i

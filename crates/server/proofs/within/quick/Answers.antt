@@ -1,4 +1,5 @@
 use Rattle.std.proofs.Common.{◌≡◌, ℕ, ◌+◌, ◌≤◌, Bool, true, false, not, ◌&&◌, eqb, List, length, sym, refl, ◌∙◌, true≢false, arith, ltb-true, le-leb}
+use Rattle.std.specs.Prelude.{None, Some}
 use mathlib.Core.Option.{Option, none, some}
 use borrow.Author.Tests.{not-false}
 use Rattle.config.specs.declared.Config.{Config}
@@ -9,7 +10,6 @@ use Rattle.tag.specs.Tag.{above, allowed}
 use Rattle.tag.proofs.Order.{number_above}
 use Rattle.record.specs.Record.{all}
 use mathlib.Core.Bool.{and-true}
-use Rattle.server.specs.declared.Floor.{Floor}
 use Rattle.server.specs.declared.State.{State}
 use Rattle.server.specs.inner.Spread.{SpreadPost, floor_full, over_floor}
 use Rattle.server.specs.Within.{every, floor_within, tags_within, numbers_within}
@@ -43,12 +43,12 @@ by-full cfg s me me-yes highest highest-yes count floor floor-yes b h e =
     ∙ sym (full cfg (floor_of s.floor) (tags_used s) s.count long (h.over e)) ∙ sym floor ∙ not-false _ floor-yes)
 
 -- the state's tags, where there is a floor
-above_floor : (cfg : Config) (s : State) (f : Tag) (n : ℕ) (b : Bool) → s.floor ≡ Floor.At f → s.count ≡ n
+above_floor : (cfg : Config) (s : State) (f : Tag) (n : ℕ) (b : Bool) → s.floor ≡ Some f → s.count ≡ n
     → SpreadPost cfg.c (some f) (each (tag_at s.tags) 0 n) b → SpreadPost cfg.c (floor_of s.floor) (tags_used s) b
 above_floor cfg s f n b floor count h = rw (floor, count) h
 
 -- the same, where there is none
-no-floor : (cfg : Config) (s : State) (b : Bool) → s.floor ≡ Floor.None → SpreadPost cfg.c none (tags_used s) b → SpreadPost cfg.c (floor_of s.floor) (tags_used s) b
+no-floor : (cfg : Config) (s : State) (b : Bool) → s.floor ≡ None → SpreadPost cfg.c none (tags_used s) b → SpreadPost cfg.c (floor_of s.floor) (tags_used s) b
 no-floor cfg s b floor h = rw floor h
 
 pub returns-then-not-server_within : goal.returns-then-not-server_within
@@ -72,18 +72,6 @@ returns-in_default c e =
     h.floor_full.ensures h.if-not-floor_full.false-raw _
     (no-floor a.cfg a.s _ c.in_default.is c.spread.ensures) e
 
-pub eight-requires : goal.eight-requires
-eight-requires c = c.requires.c_high
-
-pub returns-then-count-eq8 : goal.returns-then-count-eq8
-returns-then-count-eq8 c e =
-    let h = c in
-    let a = h.args in
-    by-full _ _ h.server_within.ensures h.if-not-server_within.false-raw
-    h.allowed.ensures h.if-not-allowed.false-raw h.if-cfg-count.false
-    h.floor_full.ensures h.if-not-floor_full.false-raw _
-    (above_floor a.cfg a.s _ 8 _ c.in-At.is c.if-count-eq8.true (c.eight.ensures _ (omega (arith, c.past.ensures)))) e
-
 pub risen-requires : goal.risen-requires
 risen-requires c =
     let p = c.requires in
@@ -96,4 +84,4 @@ returns c e =
     by-full _ _ h.server_within.ensures h.if-not-server_within.false-raw
     h.allowed.ensures h.if-not-allowed.false-raw h.if-cfg-count.false
     h.floor_full.ensures h.if-not-floor_full.false-raw _
-    (above_floor a.cfg a.s _ a.s.count _ c.in-At.is refl (c.risen.ensures _ (omega (arith, c.past-2.ensures)))) e
+    (above_floor a.cfg a.s _ a.s.count _ c.in-Some.is refl (c.risen.ensures _ (omega (arith, c.past.ensures)))) e

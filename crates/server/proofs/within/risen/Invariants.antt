@@ -1,11 +1,7 @@
-use Rattle.std.proofs.Common.{◌≤◌}
-use Rattle.server.specs.View.{tag_at}
+use Rattle.std.proofs.Common.{take}
 use Rattle.server.proofs.Spots.{SeenOver}
 use Rattle.server.proofs.within.risen.Given as goal
 
--- the tags from here on are seen
-abbrev pub invariant-loop-i : goal.invariant-loop-i
-invariant-loop-i l = (l.i ≤ l.count) × SeenOver l.clients l.low (tag_at l.tags) l.seen l.i l.count
-
-abbrev pub decreases-loop-i : goal.decreases-loop-i
-decreases-loop-i l = l.i
+-- the tags so far are seen
+abbrev pub invariant-loop-t : goal.invariant-loop-t
+invariant-loop-t l = SeenOver l.clients l.low l.seen (take l.t-index l.t-items)

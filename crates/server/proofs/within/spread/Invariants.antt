@@ -1,12 +1,8 @@
-use Rattle.std.proofs.Common.{◌≤◌}
+use Rattle.std.proofs.Common.{take}
 use mathlib.Core.Option.{none}
-use Rattle.server.specs.View.{tag_at}
 use Rattle.server.proofs.Spots.{Seen}
 use Rattle.server.proofs.within.spread.Given as goal
 
--- the tags from here on are seen
-abbrev pub invariant-loop-i : goal.invariant-loop-i
-invariant-loop-i l = (l.i ≤ l.count) × Seen l.clients none (tag_at l.tags) l.seen l.i l.count
-
-abbrev pub decreases-loop-i : goal.decreases-loop-i
-decreases-loop-i l = l.i
+-- the tags so far are seen
+abbrev pub invariant-loop-t : goal.invariant-loop-t
+invariant-loop-t l = Seen l.clients none l.seen (take l.t-index l.t-items)

@@ -7,23 +7,20 @@ use Rattle.states.proofs.clients.told.Invariants.{length_of}
 use Rattle.states.proofs.clients.told.Goals as goal
 
 pub loop-i-init : goal.loop-i-init
-loop-i-init c = (search rules, begun_none _ 16 _ refl)
-
-pub length_at-requires : goal.length_at-requires
-length_at-requires c = let s = c in omega (arith, s.requires.long)
+loop-i-init c = begun_none _ 16 _ refl
 
 pub loop-i-preserved : goal.loop-i-preserved
 loop-i-preserved c =
     let l = c.loop-i in
     let bs = c.args.bytes.now in
-    (search rules, begun_more (length_of bs) 16 l.i l.lengths _ l.invariant.1 (search rules) c.length_at.ensures)
+    begun_more (length_of bs) 16 l.i l.length-items _ l.invariant (search rules) c.length_at.ensures
 
 pub returns : goal.returns
 unfolding state_of
 returns c =
     let l = c.loop-i in
     let s = c in
-    let lengths = begun_all (length_of s.args.bytes.now) 16 l.i l.lengths l.invariant.1 (omega arith) in
+    let lengths = begun_all (length_of s.args.bytes.now) 16 l.i l.length-items l.invariant (omega arith) in
     λ t.
     record {
       me = record { 0 = s.requires.number t };

@@ -5,6 +5,6 @@ pub returns-in-None : goal.returns-in-None
 unfolding floor_row
 returns-in-None c = rw c.in-None.is
 
-pub returns-in-At : goal.returns-in-At
+pub returns-in-Some : goal.returns-in-Some
 unfolding floor_row
-returns-in-At c = rw c.in-At.is c.tag_row.ensures
+returns-in-Some c = rw c.in-Some.is c.tag_row.ensures

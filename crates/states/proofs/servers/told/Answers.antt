@@ -8,21 +8,14 @@ use Rattle.states.proofs.servers.told.Invariants.{length_of, tag_of}
 use Rattle.states.proofs.servers.told.Goals as goal
 
 pub loop-i-init : goal.loop-i-init
-loop-i-init c = (search rules, begun_none _ 8 _ refl, begun_none _ 8 _ refl)
-
-pub tag_at-requires : goal.tag_at-requires
-tag_at-requires c = let s = c in omega (arith, s.requires.long)
-
-pub length_at-requires : goal.length_at-requires
-length_at-requires c = let s = c in omega (arith, s.requires.long)
+loop-i-init c = (begun_none _ 8 _ refl, begun_none _ 8 _ refl)
 
 pub loop-i-preserved : goal.loop-i-preserved
 loop-i-preserved c =
     let l = c.loop-i in
     let bs = c.args.bytes.now in (
-      search rules,
-      begun_more (tag_of bs) 8 l.i l.tags _ l.invariant.1 (search rules) c.tag_at.ensures,
-      begun_more (length_of bs) 8 l.i l.lengths _ l.invariant.2 (search rules) c.length_at.ensures,
+      begun_more (tag_of bs) 8 l.i l.tags _ l.invariant.0 (search rules) c.tag_at.ensures,
+      begun_more (length_of bs) 8 l.i l.lengths _ l.invariant.1 (search rules) c.length_at.ensures,
     )
 
 pub returns : goal.returns
@@ -32,8 +25,8 @@ returns c =
     let s = c in
     let bs = s.args.bytes.now in
     let end : l.i ≡ 8 = omega arith in
-    let tags = begun_all (tag_of bs) 8 l.i l.tags l.invariant.1 end in
-    let lengths = begun_all (length_of bs) 8 l.i l.lengths l.invariant.2 end in
+    let tags = begun_all (tag_of bs) 8 l.i l.tags l.invariant.0 end in
+    let lengths = begun_all (length_of bs) 8 l.i l.lengths l.invariant.1 end in
     λ t.
     record {
       me = record { 0 = s.requires.number t };

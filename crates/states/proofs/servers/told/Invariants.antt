@@ -1,5 +1,5 @@
 use mathlib.Core.List.{List}
-use Prim.Native.Nat.{ℕ, ◌+◌, ◌-◌, ◌≤◌}
+use Prim.Native.Nat.{ℕ, ◌+◌}
 use Rattle.tag.specs.declared.Tag.{Tag}
 use Rattle.states.specs.Bytes.{length_from, tag_from}
 use Rattle.states.specs.Servers.{stored_at}
@@ -14,7 +14,4 @@ abbrev pub length_of : List ℕ → ℕ → ℕ
 length_of bs i = length_from bs (stored_at i + 5)
 
 abbrev pub invariant-loop-i : goal.invariant-loop-i
-invariant-loop-i l = (l.i ≤ 8) × Begun (tag_of l.bytes) 8 l.i l.tags × Begun (length_of l.bytes) 8 l.i l.lengths
-
-abbrev pub decreases-loop-i : goal.decreases-loop-i
-decreases-loop-i l = 8 - l.i
+invariant-loop-i l = Begun (tag_of l.bytes) 8 l.i l.tags × Begun (length_of l.bytes) 8 l.i l.lengths

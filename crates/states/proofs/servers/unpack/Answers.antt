@@ -5,6 +5,7 @@ use Prim.Native.Nat.{ℕ}
 use borrow.Author.Tests.{eq-eqb, ne_eqb, not-false, not-true}
 use lib.ListN.{length, get_or, replicate}
 use Rattle.config.specs.declared.Config.{Config}
+use Rattle.config.specs.declared.Refusal.{Refusal}
 use Rattle.config.specs.Config.{questions}
 use Rattle.config.specs.Questions.{first_no, within}
 use Rattle.config.proofs.Valid.{valid}
@@ -22,7 +23,7 @@ abbrev blank : State
 blank = state_of (1 ∷ replicate 87 0)
 
 -- question 6 is answered no
-six : (cfg : Config) (bs : List ℕ) (r : Unpacked) → first_no (questions cfg) ≡ 0 → RefusedPost 6 r → is_state cfg bs ≡ false → UnpackPost cfg bs r
+six : (cfg : Config) (bs : List ℕ) (r : Unpacked) → first_no (questions cfg) ≡ 0 → RefusedPost Refusal.Shape r → is_state cfg bs ≡ false → UnpackPost cfg bs r
 unfolding unpack_questions
 six cfg bs r passed p h =
     let a = not-state cfg (is_state cfg bs) (state_of bs) blank passed h in record { number = p.number ∙ a.0; state = p.state ∙ a.1 }
@@ -33,46 +34,46 @@ by_bytes : (cfg : Config) (bs : List ℕ) {s : State} {again : List ℕ} → len
 unfolding is_state
 by_bytes cfg bs long there told e = rw (eq-eqb (length bs) packed_length long, there, e, told)
 
-pub returns-then-no-ne0 : goal.returns-then-no-ne0
+pub returns-in-Err : goal.returns-in-Err
 unfolding unpack_questions
-returns-then-no-ne0 c =
+returns-in-Err c =
     let s = c in
     let bs = s.args.bytes.now in
-    let a = not_asked s.args.cfg (is_state s.args.cfg bs) (state_of bs) blank _ _ c.ask-no.ensures c.if-no-ne0.true c.refused.ensures.number in
+    let a = not_asked s.args.cfg (is_state s.args.cfg bs) (state_of bs) blank _ c.in-Err.ensures c.refused.ensures.number in
     record { number = a.0; state = c.refused.ensures.state ∙ a.1 }
 
 pub returns-then-bytes-ne-LENGTH : goal.returns-then-bytes-ne-LENGTH
 unfolding is_state
 returns-then-bytes-ne-LENGTH c =
     let a = c.args in
-    six a.cfg _ _ (sym c.ask-no.ensures ∙ c.if-no-ne0.false) c.refused-then-bytes-ne-LENGTH.ensures (rw (ne_eqb _ packed_length c.if-bytes-ne-LENGTH.true))
+    six a.cfg _ _ (sym c.in_default.ensures) c.refused-then-bytes-ne-LENGTH.ensures (rw (ne_eqb _ packed_length c.if-bytes-ne-LENGTH.true))
 
-pub returns-in_default : goal.returns-in_default
+pub returns-in_default-new : goal.returns-in_default-new
 unfolding is_state
-returns-in_default c =
+returns-in_default-new c =
     let a = c.args in
-    let passed = sym c.ask-no.ensures ∙ c.if-no-ne0.false in
-    let none = no-server a.cfg _ (valid a.cfg passed) _ _ c.new.ensures c.in_default.is in
-    six a.cfg _ _ passed c.refused-in_default.ensures (rw (eq-eqb _ packed_length c.if-bytes-ne-LENGTH.false, none))
+    let passed = sym c.in_default.ensures in
+    let none = no-server a.cfg _ (valid a.cfg passed) _ _ c.new.ensures c.in_default-new.is in
+    six a.cfg _ _ passed c.refused-in_default-new.ensures (rw (eq-eqb _ packed_length c.if-bytes-ne-LENGTH.false, none))
 
 pub told-state-requires : goal.told-state-requires
 told-state-requires c =
     let a = c.args in
-    record { long = c.if-bytes-ne-LENGTH.false; number = (some_server a.cfg _ _ _ c.new.ensures c.in-Made.is).1 }
+    record { long = c.if-bytes-ne-LENGTH.false; number = (some_server a.cfg _ _ _ c.new.ensures c.in-Ok.is).1 }
 
 pub returns-then-not-same : goal.returns-then-not-same
 returns-then-not-same c =
     let a = c.args in
     let d = c in
-    six a.cfg _ _ (sym c.ask-no.ensures ∙ c.if-no-ne0.false) c.refused-then-not-same.ensures
-    (by_bytes a.cfg _ c.if-bytes-ne-LENGTH.false (some_server a.cfg _ _ _ c.new.ensures c.in-Made.is).0 c.told-state.ensures c.pack-again.ensures.bytes ∙ sym c.same.ensures ∙ not-true _ c.if-not-same.true-raw)
+    six a.cfg _ _ (sym c.in_default.ensures) c.refused-then-not-same.ensures
+    (by_bytes a.cfg _ c.if-bytes-ne-LENGTH.false (some_server a.cfg _ _ _ c.new.ensures c.in-Ok.is).0 c.told-state.ensures c.pack-again.ensures.bytes ∙ sym c.same.ensures ∙ not-true _ c.if-not-same.true-raw)
 
 pub returns : goal.returns
 unfolding unpack_questions
 returns c =
     let s = c in
     let bs = s.args.bytes.now in
-    let passed = sym c.ask-no.ensures ∙ c.if-no-ne0.false in
-    let holds = by_bytes s.args.cfg _ c.if-bytes-ne-LENGTH.false (some_server s.args.cfg _ _ _ c.new.ensures c.in-Made.is).0 c.told-state.ensures c.pack-again.ensures.bytes ∙ sym c.same.ensures ∙ not-false _ c.if-not-same.false-raw in
+    let passed = sym c.in_default.ensures in
+    let holds = by_bytes s.args.cfg _ c.if-bytes-ne-LENGTH.false (some_server s.args.cfg _ _ _ c.new.ensures c.in-Ok.is).0 c.told-state.ensures c.pack-again.ensures.bytes ∙ sym c.same.ensures ∙ not-false _ c.if-not-same.false-raw in
     let a = state_told s.args.cfg (is_state s.args.cfg bs) (state_of bs) blank passed holds in
     record { number = a.0; state = c.told-state.ensures ∙ a.1 }

@@ -4,7 +4,7 @@ use Rattle.stream.proofs.input.filled.Given as goal
 
 abbrev pub invariant-loop-end : goal.invariant-loop-end
 invariant-loop-end l =
-    (length l.input ≡ length l.initial.input) × (l.front ≤ l.end) × (l.end ≤ length l.initial.input) × (take l.front l.input ≡ take l.front l.initial.input)
+    (l.front ≤ l.end) × (l.end ≤ length l.input) × (take l.front l.input ≡ take l.front l.initial.input)
 
 abbrev pub decreases-loop-end : goal.decreases-loop-end
-decreases-loop-end l = length l.initial.input - l.end
+decreases-loop-end l = length l.input - l.end

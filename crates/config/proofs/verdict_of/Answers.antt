@@ -1,7 +1,7 @@
--- `config::Verdict::of` meets its contract. Assumes nothing.
+-- `config::verdict_of` meets its contract. Assumes nothing.
 use native.Mathlib.Omega.{arith}
 use Rattle.config.proofs.Refusals.{passing_low}
-use Rattle.config.proofs.Verdict.of.Goals as goal
+use Rattle.config.proofs.verdict_of.Goals as goal
 
 pub returns-then-no-eq0 : goal.returns-then-no-eq0
 returns-then-no-eq0 c = rw c.if-no-eq0.true

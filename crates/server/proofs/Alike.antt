@@ -1,17 +1,13 @@
 -- No answer depends on the store's order, or on places that are not in use: of two states that differ in these alone question 6 is answered
 -- alike, a step gives one number and one answer, and leaves two such states, and a call that lends gives one element. Assumes nothing.
 use Rattle.std.proofs.Common.{◌≡◌, ℕ, ◌+◌, Bool, true, false, cond, not, ◌&&◌, ◌||◌, eqb, leb, List, [], ◌∷◌, length, sym, refl, ap, ◌∙◌, subst, ap₂, subst₂, eqb-true}
-use Rattle.std.specs.Prelude.{Result}
-use Rattle.std.specs.Borrow.{Bor}
 use mathlib.Core.Option.{Option, none, some}
 use native.Mathlib.Decide.{ℕ_discrete}
 use borrow.Author.Tests.{not-true}
 use Rattle.config.specs.declared.Config.{Config}
-use Rattle.config.specs.declared.Refusal.{Refusal}
 use Rattle.config.specs.Config.{Valid, board_length}
 use Rattle.config.specs.Number.{server_number}
 use Rattle.config.specs.Questions.{first_no, within}
-use Rattle.config.specs.Refusal.{verdict_number}
 use Rattle.laws.proofs.Bools.{and_left, and_right}
 use Rattle.tag.specs.declared.Tag.{Tag}
 use Rattle.tag.specs.Tag.{above, allowed, key, same}
@@ -25,7 +21,7 @@ use Rattle.protocol.proofs.Reordered.{answer_same, element_reordered, or_swap, r
 use Rattle.server.specs.declared.State.{State}
 use Rattle.server.specs.declared.Stepped.{Stepped}
 use Rattle.server.specs.Alike.{AlikeStates, AlikeSteps}
-use Rattle.server.specs.Calls.{LendPost, StepPost, answer_bytes, lent_bytes, outcome, part_bytes, state_questions, step_questions}
+use Rattle.server.specs.Calls.{LendPost, StepPost, answer_bytes, lent_bytes, outcome, state_questions, step_questions}
 use Rattle.server.specs.View.{view}
 use Rattle.server.specs.Within.{among, every, floor_within, stored_lengths, lengths_within, once, server_within, state_within, tags_of, tags_within}
 use Rattle.server.proofs.Asked.{state_valid, step_accepted}
@@ -157,7 +153,7 @@ module _ (cfg : Config) (s z : State) (storeS storeZ : List ℕ) (alike : AlikeS
   view_once valid h = server_once cfg valid v (server-within cfg s storeS h)
 
   -- Lending: one number, and one part, the element or none.
-  module _ (t : Tag) (lentS lentZ : Result (Bor (List ℕ)) Refusal) (postS : LendPost cfg s t storeS lentS) (postZ : LendPost cfg z t storeZ lentZ) where
+  module _ (t : Tag) (lentS lentZ : List ℕ) (toldS toldZ : ℕ) (postS : LendPost cfg s t storeS lentS toldS) (postZ : LendPost cfg z t storeZ lentZ toldZ) where
     abbrev asked : ℕ
     asked = first_no (state_questions cfg s (length storeS))
 
@@ -168,7 +164,7 @@ module _ (cfg : Config) (s z : State) (storeS storeZ : List ℕ) (alike : AlikeS
         ap lent_bytes (element_reordered (key cfg) t alike.seen.stored (view_once held.valid held.within))
     part_by false e = refl
 
-    pub lend_alike : (verdict_number lentS ≡ verdict_number lentZ) × (part_bytes lentS ≡ part_bytes lentZ)
+    pub lend_alike : (toldS ≡ toldZ) × (lentS ≡ lentZ)
     lend_alike =
         let e : asked ≡ first_no (state_questions cfg z (length storeZ)) = ap first_no ask_alike in (
           postS.number ∙ e ∙ sym postZ.number,

@@ -1,6 +1,5 @@
 -- The element of a stored tag, as a part of the store. Assumes nothing.
 use Rattle.std.specs.Prelude.{Option as Given, None, Some, Ok, Err}
-use Rattle.std.specs.Borrow.{Bor}
 use Rattle.std.proofs.Common.{◌≡◌, ℕ, ◌+◌, ◌-◌, ◌*◌, ◌<◌, ◌≤◌, List, [], length, take, drop, sym, refl, ap, ◌∙◌, subst, mul-le-mul_right, mul-le-mul, zero-add, arith, length-drop, length-take, le-ltb, lt-ltb, eq-eqb, ne_eqb}
 use mathlib.Core.Option.{Option, none, some}
 use native.Mathlib.Decide.{dec_lt}
@@ -115,14 +114,14 @@ module _ (cfg : Config) (s : State) (t : Tag) (store : List ℕ) where
     found-place : found_place (Ok given) ≡ element_place cfg s t
     found-place = f.place ∙ rw (eq-eqb first-no 0 (sym f.number))
 
-    lent-part : (o : Option Element) (part : Bor (List ℕ)) → element_of (key cfg) t (view cfg s store).stored ≡ o → part.now ≡ lent_bytes o
-        → LendPost cfg s t store (Ok part)
+    lent-part : (o : Option Element) (part : List ℕ) → element_of (key cfg) t (view cfg s store).stored ≡ o → part ≡ lent_bytes o
+        → LendPost cfg s t store part 0
     lent-part o part e h = record { number = f.number; part = h ∙ rw (eq-eqb first-no 0 (sym f.number), e) }
 
-  pub lent_nowhere : FindPost cfg s t (length store) (Ok None) → Small t → (part : Bor (List ℕ)) → part.now ≡ [] → LendPost cfg s t store (Ok part)
-  lent_nowhere f st part e =
-      lent-part f st none part
-      (element_nowhere cfg s t store (found_held f st) (place_in t (tags_used s)) st refl (place_not_found cfg s t (sym (found-place f st)))) e
+  pub lent_nowhere : FindPost cfg s t (length store) (Ok None) → Small t → LendPost cfg s t store [] 0
+  lent_nowhere f st =
+      lent-part f st none []
+      (element_nowhere cfg s t store (found_held f st) (place_in t (tags_used s)) st refl (place_not_found cfg s t (sym (found-place f st)))) refl
 
   module _ (i : ℕ) (f : FindPost cfg s t (length store) (Ok (Some i))) (st : Small t) where
     its_place : (place_in t (tags_used s) < s.count) × (i ≡ place_in t (tags_used s) * cfg.e)
@@ -135,8 +134,8 @@ module _ (cfg : Config) (s : State) (t : Tag) (store : List ℕ) where
     pub lent_low : i + cfg.e ≤ 512
     lent_low = subst (λ (j : ℕ). j + cfg.e ≤ 512) (sym its_place.1) (part_low cfg s t store (found_held f st) (place_in t (tags_used s)) its_place.0)
 
-    pub lent_at : (part : Bor (List ℕ)) → part.now ≡ take ((i + cfg.e) - i) (drop i store) → LendPost cfg s t store (Ok part)
-    lent_at part e =
+    pub lent_at : LendPost cfg s t store (take ((i + cfg.e) - i) (drop i store)) 0
+    lent_at =
         let p = place_in t (tags_used s) in
-        lent-part f st (some _) part (element_there cfg s t store (found_held f st) p st refl its_place.0)
-        (e ∙ ap (λ (j : ℕ). take ((j + cfg.e) - j) (drop j store)) its_place.1 ∙ part_is cfg s t store (found_held f st) p)
+        lent-part f st (some _) _ (element_there cfg s t store (found_held f st) p st refl its_place.0)
+        (ap (λ (j : ℕ). take ((j + cfg.e) - j) (drop j store)) its_place.1 ∙ part_is cfg s t store (found_held f st) p)

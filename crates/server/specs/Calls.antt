@@ -1,7 +1,6 @@
 -- A server's calls: what each asks, and what it answers.
 use Rattle.std.specs.Prelude.{◌≡◌, ℕ, ◌*◌, Bool, cond, ◌&&◌, List, [], ◌∷◌, ◌++◌, length, drop, replicate, ◌==◌, ◌≢◌, nat_lt}
 use Rattle.std.specs.Prelude.{Option as Given, None, Some, Result, Ok, Err}
-use Rattle.std.specs.Borrow.{Bor}
 use Rattle.std.proofs.Math.Option.{Option, none, some}
 use Rattle.config.specs.declared.Config.{Config}
 use Rattle.config.specs.declared.Refusal.{Refusal}
@@ -93,15 +92,10 @@ abbrev pub lent_bytes : Option Element → List ℕ
 lent_bytes none = []
 lent_bytes (some e) = e.bytes
 
--- the bytes of a part that is lent; a refusal lends none
-abbrev pub part_bytes : Result (Bor (List ℕ)) Refusal → List ℕ
-part_bytes (Ok part) = part.now
-part_bytes (Err why) = []
-
--- the part that is lent, or a refusal
-pub record LendPost (cfg : Config) (s : State) (t : Tag) (store : List ℕ) (r : Result (Bor (List ℕ)) Refusal) : Type 0 where
-  pub number : verdict_number r ≡ first_no (state_questions cfg s (length store))
-  pub part : part_bytes r
+-- the part that is lent, and the lent number afterwards
+pub record LendPost (cfg : Config) (s : State) (t : Tag) (store lent : List ℕ) (told : ℕ) : Type 0 where
+  pub number : told ≡ first_no (state_questions cfg s (length store))
+  pub part : lent
       ≡ cond (first_no (state_questions cfg s (length store)) == 0) (lent_bytes (element_of (key cfg) t (view cfg s store).stored)) []
 
 -- where the element of a tag begins in the store, at its place × E, if the tag is stored

@@ -184,13 +184,21 @@ pub fn find(cfg: Config, state: State, tag: Tag, long: usize) -> Result<Option<u
     Ok(Some(place * cfg.e))
 }
 
-// The stored element of a tag, as that part of the store: empty if there is none. Questions 1 to 5, 21 and 6.
-pub fn lend<'a>(cfg: Config, state: State, tag: Tag, store: &'a [u8]) -> Result<&'a [u8], Refusal>
-    ensures { LendPost cfg state tag store.now result }
+// The stored element of a tag, as that part of the store: empty if there is none or the call is refused. The refusal's number, or
+// 0, goes into the lent number. Questions 1 to 5, 21 and 6.
+pub fn lend<'a>(cfg: Config, state: State, tag: Tag, store: &'a [u8], no: &mut u8) -> &'a [u8]
+    ensures { LendPost cfg state tag store.now result.now no.new }
 {
-    let Some(from) = find(cfg, state, tag, store.len())? else {
-        return Ok(&store[0..0]);
-    };
-    let end = from + cfg.e;
-    Ok(&store[from..end])
+    *no = 0;
+    match find(cfg, state, tag, store.len()) {
+        Err(why) => {
+            *no = why.number();
+            &store[..0]
+        }
+        Ok(None) => &store[..0],
+        Ok(Some(from)) => {
+            let end = from + cfg.e;
+            &store[from..end]
+        }
+    }
 }

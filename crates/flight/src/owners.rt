@@ -20,10 +20,14 @@ fn used(count: usize, owners: &[u8]) -> &[u8]
 pub fn count_of(count: usize, board: u8, owners: &[u8]) -> usize
     ensures { result ≡ count_of board (first count owners.now) }
 {
-    used(count, owners)
-        .iter()
-        .filter(|owner| **owner == board)
-        .count()
+    let used = used(count, owners);
+    let mut n = 0;
+    for owner in used {
+        if board == *owner {
+            n += 1;
+        }
+    }
+    n
 }
 
 // The place of the record at a position of a board's, both from 0; behind the last where the board has no such.
